@@ -1,0 +1,4 @@
+pub mod Faults
+pub mod Store
+pub mod Supply
+pub mod Taken

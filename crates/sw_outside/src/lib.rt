@@ -1,0 +1,32 @@
+//! Everything that a storage node takes from outside itself, as traits whose contracts say what may be relied on.
+//!
+//! A [`Source`] is where requests come from and a [`Sink`] where replies go. Each has two meanings that contracts see:
+//! its content, which a source or sink in memory tells and a real one doesn't, and a count of the calls that failed.
+//! Code above is generic over these traits and proved once: what it promises about content holds wherever the content is
+//! told, and "only where the count rose" holds everywhere, since generic code can't raise a count by itself.
+//!
+//! The same crate has the byte string [`Bytes`], the errors [`NoMemory`] and [`Failed`], the ends in memory that tests
+//! use, and the adapters over std's reader and writer. The next layer up is `sw_http`, which reads requests from a source.
+#![tactic(auto)]
+
+mod bytes;
+mod errors;
+mod mem_sink;
+mod mem_source;
+mod reader_source;
+mod sink;
+mod sound_sink;
+mod sound_source;
+mod source;
+mod writer_sink;
+
+pub use bytes::Bytes;
+pub use errors::{Failed, NoMemory};
+pub use mem_sink::{FailingPut, MemSink};
+pub use mem_source::MemSource;
+pub use reader_source::ReaderSource;
+pub use sink::Sink;
+pub use sound_sink::SoundSink;
+pub use sound_source::SoundSource;
+pub use source::Source;
+pub use writer_sink::WriterSink;

@@ -1,0 +1,112 @@
+ghost use Rattle.std.specs.Prelude.{◌≡◌, ℕ, [], Some, IsSome, IsErr, OnOk, OnErr};
+ghost use Rattle.std.specs.Io.KnownBytes.{Appends};
+ghost use Rattle.sw_outside.specs.Faults.{HasCause};
+ghost use Rattle.sw_outside.specs.Taken.{AppendsPart};
+ghost use Rattle.sw_outside.specs.Supply.{raised};
+ghost use Rattle.sw_outside.specs.Store.{breach_at};
+
+use crate::errors::Failed;
+use crate::sink::Sink;
+use std::alloc::Global;
+use std::marker::Model;
+
+/// A put that is to fail: its number, counted from 0, and how many of its bytes the sink takes all the same.
+#[derive(Clone, Copy, Debug, PartialEq, Eq)]
+pub struct FailingPut {
+    pub call: u64,
+    pub taken: usize,
+}
+
+/// A sink in memory, which tells what it has taken. Tests choose which puts fail. One that finds no memory fails as
+/// well, and takes nothing.
+#[derive(Debug, Drop)]
+pub struct MemSink {
+    bytes: Vec<u8>,
+    failing: Vec<FailingPut>,
+    calls: u64,
+    faults: u64,
+}
+
+impl Model for MemSink {
+    ghost use Rattle.sw_outside.specs.Store.{Store};
+
+    ghost Value = { Store };
+
+    ghost view = { λ s. record { bytes = s.bytes.items; failing = s.failing.items; calls = s.calls; faults = s.faults } };
+}
+
+impl MemSink {
+    /// An empty sink whose puts fail as `failing` says.
+    pub fn new(alloc: Global, failing: Vec<FailingPut>) -> MemSink
+        ensures empty { result.bytes ≡ [] }
+        ensures failing { result.failing ≡ failing.items }
+        ensures counts { (result.calls ≡ 0) × (result.faults ≡ 0) }
+    {
+        MemSink {
+            bytes: Vec::new(alloc),
+            failing,
+            calls: 0,
+            faults: 0,
+        }
+    }
+
+    /// All that was taken so far.
+    pub fn bytes(&self) -> &[u8]
+        ensures { result.now ≡ self.now.bytes }
+    {
+        &self.bytes
+    }
+}
+
+impl Sink for MemSink {
+    ghost taken = { λ s. Some s.bytes };
+
+    ghost faults = { λ s. s.faults };
+
+    fn put(&mut self, bytes: &[u8]) -> Result<(), Failed>
+        ensures all { OnOk result (Appends (Some self.old.bytes) (Some self.new.bytes) bytes.now) }
+        ensures part { OnErr result (AppendsPart (Some self.old.bytes) (Some self.new.bytes) bytes.now) }
+        ensures cause { HasCause self.old.faults self.new.faults result }
+        ensures fails { IsSome (breach_at self.old.failing self.old.calls) → IsErr result }
+        ensures calls { self.new.calls ≡ raised self.old.calls }
+        ensures plan { self.new.failing ≡ self.old.failing }
+    {
+        let call = self.calls;
+        self.calls = call.saturating_add(1);
+        let planned = taken_at(&self.failing, call);
+        let wanted = planned.unwrap_or(bytes.len()).min(bytes.len());
+        if self.bytes.extend_from_slice(&bytes[..wanted]).is_ok() && planned.is_none() {
+            return Ok(());
+        }
+        self.faults = self.faults.saturating_add(1);
+        Err(Failed)
+    }
+}
+
+/// How many bytes the put of this number takes, where it is to fail.
+fn taken_at(failing: &[FailingPut], call: u64) -> Option<usize>
+    ensures { result ≡ breach_at failing.now call }
+{
+    failing
+        .iter()
+        .find(|put| put.call == call)
+        .map(|put| put.taken)
+}
+
+#[cfg(test)]
+mod tests {
+    use super::*;
+    use std::test::Fail;
+
+    #[test]
+    fn keeps_what_it_takes_and_fails_where_it_is_told(rt: HostRuntime) -> Result<(), Fail> {
+        let alloc = rt.alloc();
+        let failing = vec![in alloc; FailingPut { call: 1, taken: 2 }]?;
+        let mut sink = MemSink::new(alloc, failing);
+        assert_eq!(rt; sink.put(b"abc"), Ok(()));
+        assert_eq!(rt; sink.put(b"def"), Err(Failed));
+        assert_eq!(rt; sink.put(b"g"), Ok(()));
+        assert_eq!(rt; sink.bytes(), b"abcdeg".as_slice());
+        Ok(())
+    }
+}

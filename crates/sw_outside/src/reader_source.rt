@@ -1,0 +1,36 @@
+ghost use Rattle.std.specs.Prelude.{◌≡◌, ℕ};
+
+use crate::errors::Failed;
+use crate::source::Source;
+use std::io::Read;
+
+/// Any of std's readers as a source. It tells what the reader tells, and counts the reads that failed.
+#[derive(Drop)]
+pub struct ReaderSource<R: Read + Drop> {
+    reader: R,
+    faults: u64,
+}
+
+impl<R: Read + Drop> ReaderSource<R> {
+    pub fn new(reader: R) -> ReaderSource<R>
+        ensures { result ≡ record { reader = reader; faults = 0 } }
+    {
+        ReaderSource { reader, faults: 0 }
+    }
+}
+
+impl<R: Read + Drop> Source for ReaderSource<R> {
+    ghost left = { λ s. R.remaining s.reader };
+
+    ghost faults = { λ s. s.faults };
+
+    fn read(&mut self, into: &mut [u8]) -> Result<usize, Failed> {
+        match self.reader.read(into) {
+            Ok(given) => Ok(given),
+            Err(_) => {
+                self.faults = self.faults.saturating_add(1);
+                Err(Failed)
+            }
+        }
+    }
+}

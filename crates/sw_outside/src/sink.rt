@@ -1,0 +1,21 @@
+ghost use Rattle.std.specs.Prelude.{ℕ, List, Option, OnOk, OnErr};
+ghost use Rattle.std.specs.Io.KnownBytes.{Appends};
+ghost use Rattle.sw_outside.specs.Faults.{HasCause};
+ghost use Rattle.sw_outside.specs.Taken.{AppendsPart};
+
+use crate::errors::Failed;
+
+/// Where replies go.
+pub trait Sink {
+    /// All bytes taken so far, where the sink tells them.
+    ghost taken: { Self → Option (List ℕ) };
+
+    /// How many calls have failed. The count never falls, and stands still at 2^64 - 1.
+    ghost faults: { Self → ℕ };
+
+    /// Takes the bytes. After [`Failed`] some front of them was taken, maybe none or all.
+    fn put(&mut self, bytes: &[u8]) -> Result<(), Failed>
+        ensures all { OnOk result (Appends (taken self.old) (taken self.new) bytes.now) }
+        ensures part { OnErr result (AppendsPart (taken self.old) (taken self.new) bytes.now) }
+        ensures cause { HasCause (faults self.old) (faults self.new) result };
+}

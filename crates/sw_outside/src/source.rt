@@ -1,0 +1,23 @@
+ghost use Rattle.std.specs.Prelude.{◌≡◌, ℕ, ◌<◌, ◌≤◌, List, Option, length, IfOk};
+ghost use Rattle.std.specs.Io.KnownBytes.{ReadConsumes};
+ghost use Rattle.sw_outside.specs.Faults.{HasCause};
+
+use crate::errors::Failed;
+
+/// Where requests come from.
+pub trait Source {
+    /// The bytes to come, where the source tells them.
+    ghost left: { Self → Option (List ℕ) };
+
+    /// How many calls have failed. The count never falls, and stands still at 2^64 - 1.
+    ghost faults: { Self → ℕ };
+
+    /// Reads some of the bytes to come into the front of `into`, and answers how many. It answers 0 only at their end.
+    ///
+    /// After [`Failed`] the bytes to come are what they were.
+    fn read(&mut self, into: &mut [u8]) -> Result<usize, Failed>
+        requires { 0 < length into.old }
+        ensures count { IfOk result (λ n. n ≤ length into.new) }
+        ensures bytes { ReadConsumes (left self.old) (left self.new) result into.new }
+        ensures cause { HasCause (faults self.old) (faults self.new) result };
+}

@@ -1,0 +1,42 @@
+ghost use Rattle.std.specs.Prelude.{◌≡◌, ℕ};
+
+use crate::errors::Failed;
+use crate::sink::Sink;
+use std::io::Write;
+
+/// Any of std's writers as a sink. It tells what the writer tells, and counts the puts that failed.
+#[derive(Drop)]
+pub struct WriterSink<W: Write + Drop> {
+    writer: W,
+    faults: u64,
+}
+
+impl<W: Write + Drop> WriterSink<W> {
+    pub fn new(writer: W) -> WriterSink<W>
+        ensures { result ≡ record { writer = writer; faults = 0 } }
+    {
+        WriterSink { writer, faults: 0 }
+    }
+}
+
+impl<W: Write + Drop> Sink for WriterSink<W> {
+    ghost taken = { λ s. W.contents s.writer };
+
+    ghost faults = { λ s. s.faults };
+
+    // std's `write_all` says nothing of what was written before a failure, so the loop stands here. A writer that takes
+    // nothing of a piece that isn't empty has failed.
+    fn put(&mut self, bytes: &[u8]) -> Result<(), Failed> {
+        let mut done = 0;
+        while done < bytes.len() {
+            match self.writer.write(&bytes[done..]) {
+                Ok(taken) if taken > 0 => done += taken,
+                _ => {
+                    self.faults = self.faults.saturating_add(1);
+                    return Err(Failed);
+                }
+            }
+        }
+        Ok(())
+    }
+}
