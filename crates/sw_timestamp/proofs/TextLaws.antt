@@ -1,9 +1,9 @@
 -- The laws of times and their texts.
-use Rattle.std.proofs.Common.{◌≡◌, ℕ, ◌+◌, ◌*◌, ◌-◌, ◌/◌, ◌%◌, ◌^◌, ◌<◌, ◌≤◌, List, [], ◌∷◌, ◌++◌, length, refl, ap, sym, ◌∙◌, arith, zero, suc, subst}
-use Rattle.std.specs.Str.Parse.{AllDigits, digits_value}
+use Rattle.std.proofs.Common.{◌≡◌, ℕ, ◌+◌, ◌*◌, ◌-◌, ◌/◌, ◌%◌, ◌^◌, ◌<◌, ◌≤◌, List, [], ◌∷◌, length, refl, sym, arith, subst}
+use Rattle.std.specs.Str.Parse.{digits_value}
 use Rattle.std.proofs.lemmas.Grind.{common_steps}
 use Rattle.sw_timestamp.specs.Laws.{NormalTextReadsBack, ReadsAsOneTime, ReadsAsTime, TextsDiffer}
-use Rattle.sw_timestamp.specs.TimeText.{IsTimeText, last_digits, normal_text, units_of_digits, with_point}
+use Rattle.sw_timestamp.specs.TimeText.{IsTimeText, last_digits, normal_text, with_point}
 use Rattle.sw_timestamp.proofs.NormalText.{AllDigits-last_digits, digits_value-last_digits, length-last_digits}
 use Rattle.sw_timestamp.proofs.TimeTextLemmas.{reads_as_one}
 use Rattle.sw_timestamp.proofs.UnitsBound.{units_bound}

@@ -1,4 +1,4 @@
-use Rattle.std.proofs.Common.{◌≡◌, ℕ, ◌+◌, ◌-◌, ◌/◌, ◌%◌, ◌<◌, ◌≤◌, zero, suc, List, [], ◌∷◌, ◌++◌, length, drop, arith, sym, ◌∙◌, refl, append_assoc, set, ap, add-one}
+use Rattle.std.proofs.Common.{◌≡◌, ℕ, ◌+◌, ◌-◌, ◌/◌, ◌%◌, ◌≤◌, zero, suc, List, [], ◌∷◌, ◌++◌, length, drop, arith, sym, ◌∙◌, refl, append_assoc, set}
 use Rattle.std.proofs.lemmas.List.{drop-set}
 use Rattle.sw_timestamp.specs.TimeText.{last_digits}
 use Rattle.sw_timestamp.proofs.NormalText.{last_digits-suc, last_digits-zero}

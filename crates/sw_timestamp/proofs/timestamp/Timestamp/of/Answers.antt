@@ -1,5 +1,4 @@
-use Rattle.std.proofs.Common.{◌≡◌, ◌+◌, ◌*◌, ◌-◌, ◌^◌, ◌<◌, ◌≤◌, length, arith}
-use Rattle.std.specs.Str.Parse.{digits_value}
+use Rattle.std.proofs.Common.{arith}
 use Rattle.sw_timestamp.proofs.UnitsBound.{scaled_decimals, ten_digits, units_bound}
 use Rattle.sw_timestamp.proofs.timestamp.Timestamp.of.Goals as goal
 

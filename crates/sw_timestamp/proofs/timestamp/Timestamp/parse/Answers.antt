@@ -1,5 +1,5 @@
-use Rattle.std.proofs.Common.{◌≡◌, length, refl, Bool, true, false}
-use Rattle.sw_timestamp.proofs.TimeTextLemmas.{reads, refuses_decimals, refuses_rest, refuses_seconds}
+use Rattle.std.proofs.Common.{◌≡◌, refl, true, false}
+use Rattle.sw_timestamp.proofs.TimeTextLemmas.{refuses_decimals, refuses_rest, refuses_seconds}
 use Rattle.sw_timestamp.proofs.timestamp.Timestamp.parse.Goals as goal
 
 pub returns-in_default-clause-refuses : goal.returns-in_default-clause-refuses

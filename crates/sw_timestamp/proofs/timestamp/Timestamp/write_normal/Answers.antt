@@ -1,4 +1,3 @@
-use Rattle.std.proofs.Common.{◌/◌, ◌%◌}
 use Rattle.sw_timestamp.proofs.NormalText.{normal_written}
 use Rattle.sw_timestamp.proofs.timestamp.Timestamp.write_normal.Goals as goal
 
