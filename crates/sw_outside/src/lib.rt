@@ -5,11 +5,13 @@
 //! Code above is generic over these traits and proved once: what it promises about content holds wherever the content is
 //! told, and "only where the count rose" holds everywhere, since generic code can't raise a count by itself.
 //!
-//! The same crate has the byte string [`Bytes`], the errors [`NoMemory`] and [`Failed`], the ends in memory that tests
-//! use, and the adapters over std's reader and writer. The next layer up is `sw_http`, which reads requests from a source.
+//! The same crate has the byte string [`Bytes`] and the list [`BytesList`] of such, the errors [`NoMemory`] and
+//! [`Failed`], the ends in memory that tests use, and the adapters over std's reader and writer. The next layer up is
+//! `sw_http`, which reads requests from a source.
 #![tactic(auto)]
 
 mod bytes;
+mod bytes_list;
 mod errors;
 mod mem_sink;
 mod mem_source;
@@ -21,6 +23,7 @@ mod source;
 mod writer_sink;
 
 pub use bytes::Bytes;
+pub use bytes_list::BytesList;
 pub use errors::{Failed, NoMemory};
 pub use mem_sink::{FailingPut, MemSink};
 pub use mem_source::MemSource;
