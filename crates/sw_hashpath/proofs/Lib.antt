@@ -1,0 +1,3 @@
+mod PathText
+mod Shifts
+mod Utf8

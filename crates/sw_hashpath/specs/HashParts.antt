@@ -1,0 +1,16 @@
+-- The parts of a hash. The partition and the suffix are those of the OpenStack Swift documentation ("The Rings",
+-- "Replication"). The stripe is this project's own.
+use Rattle.std.specs.Prelude.{ℕ, ◌-◌, ◌/◌, ◌%◌, ◌^◌, List, drop, take, slice_index}
+use Rattle.std.specs.Int.{w16, w32, from_be_bytes}
+
+-- the first four bytes as a number, high byte first, without its last 32 - power bits
+abbrev pub partition_of : List ℕ → ℕ → ℕ
+partition_of hash power = from_be_bytes w32 (take 4 hash) / 2 ^ (32 - power)
+
+-- the last three hexadecimal digits as a number
+abbrev pub suffix_of : List ℕ → ℕ
+suffix_of hash = from_be_bytes w16 (drop 14 hash) % 16 ^ 3
+
+-- the first lock_bits bits as a number
+abbrev pub stripe_of : List ℕ → ℕ → ℕ
+stripe_of hash lock_bits = slice_index hash 0 / 2 ^ (8 - lock_bits)

@@ -1,0 +1,4 @@
+pub mod BadFiles
+pub mod BadNames
+pub mod HashParts
+pub mod Paths
