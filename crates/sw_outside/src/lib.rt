@@ -20,6 +20,8 @@ mod sink;
 mod sound_sink;
 mod sound_source;
 mod source;
+#[cfg(test)]
+mod tests;
 mod writer_sink;
 
 pub use bytes::Bytes;
