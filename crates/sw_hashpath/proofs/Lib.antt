@@ -1,3 +1,2 @@
 mod PathText
 mod Shifts
-mod Utf8

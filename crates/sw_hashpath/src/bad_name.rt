@@ -1,10 +1,9 @@
 ghost use Rattle.std.specs.Prelude.{◌≡◌, not};
 ghost use Rattle.std.specs.List.{list_any};
 ghost use Rattle.std.specs.Option.{option_copied};
-ghost use Rattle.std.specs.Str.{is_utf8};
 ghost use Rattle.sw_hashpath.specs.BadNames.{bad_name, has_slash, is_empty, is_text, is_too_long, names, object_limit, place_names};
 
-use std::str;
+use sw_outside::is_utf8;
 use thiserror::Error;
 
 /// What is wrong with a name. The first that holds, in this order and over all given names, is reported.
@@ -103,14 +102,5 @@ fn is_any_no_text(account: &[u8], container: Option<&[u8]>, object: Option<&[u8]
 fn is_name_text(name: &[u8]) -> bool
     ensures { result ≡ is_text name.now }
 {
-    is_valid_utf8(name) && !name.contains(&0)
-}
-
-fn is_valid_utf8(bytes: &[u8]) -> bool
-    ensures { result ≡ is_utf8 bytes.now }
-{
-    match str::from_utf8(bytes) {
-        Ok(_text) => true,
-        Err(_error) => false,
-    }
+    is_utf8(name) && !name.contains(&0)
 }

@@ -20,6 +20,7 @@ mod sink;
 mod sound_sink;
 mod sound_source;
 mod source;
+mod text;
 #[cfg(test)]
 mod tests;
 mod writer_sink;
@@ -34,4 +35,5 @@ pub use sink::Sink;
 pub use sound_sink::SoundSink;
 pub use sound_source::SoundSource;
 pub use source::Source;
+pub use text::is_utf8;
 pub use writer_sink::WriterSink;

@@ -1,8 +1,8 @@
 -- std's test answers by the fact, and the fact decides the test of the specification.
 use Rattle.std.proofs.Common.{sym}
 use Rattle.std.proofs.lemmas.Str.{is_utf8-from_IsUtf8}
-use Rattle.sw_hashpath.proofs.Utf8.{is_utf8-not}
-use Rattle.sw_hashpath.proofs.bad_name.is_valid_utf8.Goals as goal
+use Rattle.sw_outside.proofs.Utf8.{is_utf8-not}
+use Rattle.sw_outside.proofs.text.is_utf8.Goals as goal
 
 pub returns-in-Ok : goal.returns-in-Ok
 returns-in-Ok c = sym (is_utf8-from_IsUtf8 _ c.in-Ok.ensures.cases.1)
