@@ -1,0 +1,4 @@
+pub mod HeadOrder
+pub mod HeadsKept
+pub mod NameOrder
+pub mod PutHead
