@@ -1,1 +1,5 @@
+pub mod Bases
+pub mod DeleteTimes
 pub mod HeadNames
+pub mod Metas
+pub mod Writes
