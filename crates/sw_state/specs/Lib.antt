@@ -2,4 +2,5 @@ pub mod Bases
 pub mod DeleteTimes
 pub mod HeadNames
 pub mod Metas
+pub mod States
 pub mod Writes

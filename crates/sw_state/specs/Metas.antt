@@ -1,6 +1,6 @@
 -- Which metadata stands. OpenStack Swift's documentation of its object server lets the latest meta file count, where it
 -- is later than the data; that the first stays where two have one time is this project's own.
-use Rattle.std.specs.Prelude.{ℕ, Bool, true, false, nat_lt, if◌then◌else◌, Option, None, Some}
+use Rattle.std.specs.Prelude.{◌≡◌, refl, ℕ, Bool, true, false, nat_lt, if◌then◌else◌, Option, None, Some}
 use Rattle.sw_state.specs.Bases.{base_time}
 use Rattle.sw_state.specs.declared.base.Base.{Base}
 use Rattle.sw_state.specs.declared.heads.Heads.{Heads}
@@ -32,3 +32,10 @@ is_later (Some b) (Some m) = nat_lt (base_time b) m.0
 -- the meta where it counts beside the base
 abbrev pub above_base : Option Base → Option Meta → Option Meta
 above_base base m = if is_later base m then m else None
+
+pub is_later-above_base : (base : Option Base) (m : Option Meta) → is_later base (above_base base m) ≡ true
+is_later-above_base base m = by_test (is_later base m) refl
+  where
+    by_test : (b : Bool) → is_later base m ≡ b → is_later base (if b then m else None) ≡ true
+    by_test true is = is
+    by_test false is = refl
