@@ -43,6 +43,14 @@ itself t false = grind (arith, nat_tests)
 pub above-itself : (b : Base) → is_above b b ≡ false
 above-itself b = itself (base_time b) (is_deletion b)
 
+-- of two bases one at most is above the other
+pub above-asym : (a b : Base) → is_above b a ≡ true → is_above a b ≡ false
+above-asym a b is = asym_at a b (is_above a b) refl is
+  where
+    asym_at : (a b : Base) (p : Bool) → is_above a b ≡ p → is_above b a ≡ true → is_above a b ≡ false
+    asym_at a b true ab ba = absurd (let loop : is_above a a ≡ true = above-trans a b a ab ba in let none = above-itself a in cc)
+    asym_at a b false ab ba = ab
+
 -- the higher of three is the same in whichever order they are compared
 assoc_at : (a b c : Base) (p q : Bool) → is_above b a ≡ p → is_above c b ≡ q
     → higher (Some (cond p b a)) (Some c) ≡ higher (Some a) (Some (cond q c b))
@@ -128,3 +136,24 @@ after-higher None (Some b) t = refl
 after-higher (Some a) (Some b) t =
     ap (λ (k : ℕ). nat_lt k t) (base_time-cond (is_above b a) a b)
       ∙ after_chosen (base_time a) (base_time b) t (is_deletion a) (is_deletion b) (is_above b a) refl
+
+-- a base that was compared before makes no difference
+again_at : (a b : Base) (p : Bool) → is_above b a ≡ p → higher (Some (cond p b a)) (Some a) ≡ Some (cond p b a)
+again_at a b true is = rw (above-asym a b is) refl
+again_at a b false is = rw (above-itself a) refl
+
+pub higher-again : (a b : Option Base) → higher (higher a b) a ≡ higher a b
+higher-again None None = refl
+higher-again None (Some b) = refl
+higher-again (Some a) None = higher-itself (Some a)
+higher-again (Some a) (Some b) = again_at a b (is_above b a) refl
+
+later_again_at : (m n : Meta) (p : Bool) → nat_lt m.0 n.0 ≡ p → later (Some (cond p n m)) (Some m) ≡ Some (cond p n m)
+later_again_at m n true is = let earlier : nat_lt n.0 m.0 ≡ false = grind (arith, nat_tests) in rw earlier refl
+later_again_at m n false is = let same : nat_lt m.0 m.0 ≡ false = grind (arith, nat_tests) in rw same refl
+
+pub later-again : (m n : Option Meta) → later (later m n) m ≡ later m n
+later-again None None = refl
+later-again None (Some n) = refl
+later-again (Some m) None = later-itself (Some m)
+later-again (Some m) (Some n) = later_again_at m n (nat_lt m.0 n.0) refl

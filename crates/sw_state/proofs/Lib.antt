@@ -1,7 +1,10 @@
 pub mod BaseOrder
 pub mod HeadOrder
 pub mod HeadsKept
+pub mod JoinLaws
 pub mod MetaCuts
 pub mod NameOrder
+pub mod OneState
 pub mod PutHead
 pub mod StateLaws
+pub mod StateOf

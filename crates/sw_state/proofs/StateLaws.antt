@@ -78,7 +78,7 @@ together-latest : (v u : State) → latest_meta (writes_of v ++ writes_of u) ≡
 together-latest v u =
     latest_meta-append (writes_of v) (writes_of u) ∙ rw (latest_meta-writes_of v, latest_meta-writes_of u) refl
 
-above_base-cong : (b c : Option Base) (m n : Option Meta) → b ≡ c → m ≡ n → above_base b m ≡ above_base c n
+pub above_base-cong : (b c : Option Base) (m n : Option Meta) → b ≡ c → m ≡ n → above_base b m ≡ above_base c n
 above_base-cong b c m n same_base same_meta =
     ap (λ (x : Option Base). above_base x m) same_base ∙ ap (above_base c) same_meta
 

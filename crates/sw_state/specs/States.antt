@@ -1,6 +1,6 @@
 -- The state that writes of one name leave, after the cleanup rule in OpenStack Swift's documentation of its object
 -- server: the latest data or tombstone counts, and the latest meta that is later than it.
-use Rattle.std.specs.Prelude.{◌≡◌, ◌≢◌, ℕ, ◌<◌, Bool, true, false, List, [], ◌∷◌, ◌++◌, Contains, Option, None, Some, refl, ⊤}
+use Rattle.std.specs.Prelude.{◌≡◌, ℕ, ◌<◌, Bool, true, false, List, [], ◌∷◌, ◌++◌, ◌↔◌, Contains, Option, None, Some}
 use Rattle.sw_state.specs.Bases.{base_at, higher, is_above}
 use Rattle.sw_state.specs.Metas.{Meta, above_base, is_later, is_later-above_base, later, meta_at}
 use Rattle.sw_state.specs.Writes.{tag_of}
@@ -55,3 +55,32 @@ together v u = state_of (writes_of v ++ writes_of u)
 -- a state that another adds nothing to
 abbrev pub IsAtLeast : State → State → Type 0
 IsAtLeast v u = together v u ≡ v
+
+-- what the two parts of a state say of the writes, as relations: the base is the base of one of the writes and none is
+-- above it, or there is none
+abbrev pub IsBaseOf : List Write → Option Base → Type 0
+IsBaseOf ws None = (w : Write) → Contains ws w → base_at w.time w.kind ≡ None
+IsBaseOf ws (Some b) =
+    ((w : Write) × Contains ws w × (base_at w.time w.kind ≡ Some b))
+    × ((w : Write) (c : Base) → Contains ws w → base_at w.time w.kind ≡ Some c → is_above c b ≡ false)
+
+-- the top is the meta of one of the writes, is later than the base, and none of the metas is later than it; or no meta
+-- is later than the base
+abbrev pub IsTopOf : List Write → Option Base → Option Meta → Type 0
+IsTopOf ws base None = (w : Write) (n : Meta) → Contains ws w → meta_at w.time w.kind ≡ Some n → is_later base (Some n) ≡ false
+IsTopOf ws base (Some m) =
+    ((w : Write) × Contains ws w × (meta_at w.time w.kind ≡ Some m))
+    × (is_later base (Some m) ≡ true)
+    × ((w : Write) (n : Meta) → Contains ws w → meta_at w.time w.kind ≡ Some n → ¬ (m.0 < n.0))
+
+pub record IsStateOf (ws : List Write) (s : State) : Type 0 where
+  pub is_base : IsBaseOf ws s.base
+  pub is_top : IsTopOf ws s.base s.meta
+
+-- writes of one kind and time are equal
+abbrev pub Agree : List Write → Type 0
+Agree ws = (v w : Write) → Contains ws v → Contains ws w → v.time ≡ w.time → tag_of v.kind ≡ tag_of w.kind → v ≡ w
+
+-- two lists have the same writes, in whatever order and however often
+abbrev pub SameWrites : List Write → List Write → Type 0
+SameWrites ws vs = (w : Write) → Contains ws w ↔ Contains vs w
