@@ -8,3 +8,4 @@ pub mod OneState
 pub mod PutHead
 pub mod StateLaws
 pub mod StateOf
+pub mod StateTests

@@ -52,7 +52,7 @@ skip_right_at h x y true order is =
     hidden h x (after-earlier h y.0 x.0 earlier is) ∙ sym (hidden h y is)
 skip_right_at h x y false order is = refl
 
-skip_right : (h : Option Base) (m : Option Meta) (y : Meta) → after h y.0 ≡ false → above_base h m ≡ above_base h (later m (Some y))
+pub skip_right : (h : Option Base) (m : Option Meta) (y : Meta) → after h y.0 ≡ false → above_base h m ≡ above_base h (later m (Some y))
 skip_right h None y is = above_base-none h ∙ sym (hidden h y is)
 skip_right h (Some x) y is = skip_right_at h x y (nat_lt x.0 y.0) refl is
 

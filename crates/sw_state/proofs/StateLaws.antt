@@ -119,7 +119,7 @@ joins_lists ws vs =
         ∙ sym (above_base-cong (base_of (ws ++ vs)) (higher (base_of ws) (base_of vs)) (latest_meta (ws ++ vs)) (later (latest_meta ws) (latest_meta vs)) (base_of-append ws vs) (latest_meta-append ws vs)))
 
 -- a state is that of its own writes
-above_base-own : (b : Option Base) (m : Option Meta) → is_later b m ≡ true → above_base b m ≡ m
+pub above_base-own : (b : Option Base) (m : Option Meta) → is_later b m ≡ true → above_base b m ≡ m
 above_base-own b m is = rw is refl
 
 pub state_of-writes_of : (s : State) → state_of (writes_of s) ≡ s

@@ -37,3 +37,9 @@ abbrev pub higher : Option Base → Option Base → Option Base
 higher a None = a
 higher None (Some b) = Some b
 higher (Some a) (Some b) = Some (if is_above b a then b else a)
+
+-- whether a put or deletion of this time would be above a base, where there is one
+abbrev pub is_new_base : Option Base → ℕ → Bool → Bool
+is_new_base None time deletion = true
+is_new_base (Some b) time deletion =
+    nat_lt (base_time b) time || ((base_time b == time) && (deletion && not (is_deletion b)))

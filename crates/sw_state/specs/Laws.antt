@@ -1,6 +1,7 @@
 -- What is promised of states and of their join. (This project's own.)
-use Rattle.std.specs.Prelude.{◌≡◌, ◌↔◌, List, [], ◌∷◌, ◌++◌}
-use Rattle.sw_state.specs.States.{Agree, IsAtLeast, IsStateOf, SameWrites, joined, state_of, together, writes_of}
+use Rattle.std.specs.Prelude.{◌≡◌, ◌↔◌, false, List, [], ◌∷◌, ◌++◌}
+use Rattle.sw_state.specs.States.{Agree, IsAtLeast, IsStateOf, SameWrites, is_new, joined, state_of, together, writes_of}
+use Rattle.sw_state.specs.Writes.{tag_of}
 use Rattle.sw_state.specs.declared.state.State.{State}
 use Rattle.sw_state.specs.declared.write.Write.{Write}
 
@@ -61,3 +62,7 @@ JoinIsAtLeast = (v u : State) → IsAtLeast (together v u) v × IsAtLeast (toget
 -- a write changes nothing exactly where the state is at least that of the write alone
 abbrev pub AtLeastOneWrite : Type 0
 AtLeastOneWrite = (s : State) (w : Write) → (joined s w ≡ s) ↔ IsAtLeast s (state_of (w ∷ []))
+
+-- a write changes the state exactly where it is new by its time and tag
+abbrev pub NewChanges : Type 0
+NewChanges = (s : State) (w : Write) → (is_new s w.time (tag_of w.kind) ≡ false) ↔ (joined s w ≡ s)

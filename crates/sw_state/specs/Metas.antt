@@ -39,3 +39,12 @@ is_later-above_base base m = by_test (is_later base m) refl
     by_test : (b : Bool) → is_later base m ≡ b → is_later base (if b then m else None) ≡ true
     by_test true is = is
     by_test false is = refl
+
+-- whether a meta of this time would be later than a base and than a meta, where there are these
+abbrev pub is_after_base : Option Base → ℕ → Bool
+is_after_base None time = true
+is_after_base (Some b) time = nat_lt (base_time b) time
+
+abbrev pub is_after_meta : Option Meta → ℕ → Bool
+is_after_meta None time = true
+is_after_meta (Some m) time = nat_lt m.0 time

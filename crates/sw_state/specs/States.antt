@@ -1,14 +1,17 @@
 -- The state that writes of one name leave, after the cleanup rule in OpenStack Swift's documentation of its object
 -- server: the latest data or tombstone counts, and the latest meta that is later than it.
-use Rattle.std.specs.Prelude.{◌≡◌, ℕ, ◌<◌, Bool, true, false, List, [], ◌∷◌, ◌++◌, ◌↔◌, Contains, Option, None, Some}
-use Rattle.sw_state.specs.Bases.{base_at, higher, is_above}
-use Rattle.sw_state.specs.Metas.{Meta, above_base, is_later, is_later-above_base, later, meta_at}
+use Rattle.std.specs.Prelude.{◌≡◌, ℕ, ◌<◌, Bool, true, false, List, [], ◌∷◌, ◌++◌, ◌↔◌, ◌&&◌, max, Contains, Option, None, Some}
+use Rattle.sw_state.specs.Bases.{base_at, higher, is_above, is_new_base}
+use Rattle.sw_state.specs.Metas.{Meta, above_base, is_after_base, is_after_meta, is_later, is_later-above_base, later, meta_at}
 use Rattle.sw_state.specs.Writes.{tag_of}
 use Rattle.sw_state.specs.declared.base.Base.{Base}
 use Rattle.sw_state.specs.declared.base.Base.TheVariants as bases
+use Rattle.sw_state.specs.declared.heads.Heads.{Heads}
 use Rattle.sw_state.specs.declared.state.State.{State}
 use Rattle.sw_state.specs.declared.write.Kind.TheVariants as kinds
 use Rattle.sw_state.specs.declared.write.Write.{Write}
+use Rattle.sw_timestamp.specs.declared.tag.Tag.{Tag}
+use Rattle.sw_timestamp.specs.declared.tag.Tag.TheVariants as tags
 
 -- the put or deletion of the greatest time, at one time a deletion above a put, and the first of equals
 abbrev pub base_of : List Write → Option Base
@@ -84,3 +87,29 @@ Agree ws = (v w : Write) → Contains ws v → Contains ws w → v.time ≡ w.ti
 -- two lists have the same writes, in whatever order and however often
 abbrev pub SameWrites : List Write → List Write → Type 0
 SameWrites ws vs = (w : Write) → Contains ws w ↔ Contains vs w
+
+-- whether a write of this time and tag would change the state
+abbrev pub is_new : State → ℕ → Tag → Bool
+is_new s time tags.Put = is_new_base s.base time false
+is_new s time tags.Del = is_new_base s.base time true
+is_new s time tags.Meta = is_after_base s.base time && is_after_meta s.meta time
+
+-- the metadata of an object: the meta's, where there is one, and else the content's
+abbrev pub heads_beside : Option Base → Option Meta → Option Heads
+heads_beside None m = None
+heads_beside (Some (bases.Del time)) m = None
+heads_beside (Some (bases.Put time content)) None = Some content.heads
+heads_beside (Some (bases.Put time content)) (Some m) = Some m.1
+
+abbrev pub effective_heads : State → Option Heads
+effective_heads s = heads_beside s.base s.meta
+
+-- the time of an object: the later of its content's and its meta's
+abbrev pub time_beside : Option Base → Option Meta → Option ℕ
+time_beside None m = None
+time_beside (Some (bases.Del time)) m = None
+time_beside (Some (bases.Put time content)) None = Some time
+time_beside (Some (bases.Put time content)) (Some m) = Some (max time m.0)
+
+abbrev pub object_time : State → Option ℕ
+object_time s = time_beside s.base s.meta

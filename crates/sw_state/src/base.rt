@@ -1,5 +1,5 @@
 ghost use Rattle.std.specs.Prelude.{◌≡◌, IfOk};
-ghost use Rattle.sw_state.specs.Bases.{base_tag, base_time};
+ghost use Rattle.sw_state.specs.Bases.{base_tag, base_time, is_deletion};
 
 use crate::content::Content;
 use std::alloc::Global;
@@ -29,6 +29,15 @@ impl Base {
         match self {
             Base::Put(_, _) => Tag::Put,
             Base::Del(_) => Tag::Del,
+        }
+    }
+
+    pub fn is_deletion(&self) -> bool
+        ensures { result ≡ is_deletion self.now }
+    {
+        match self {
+            Base::Put(_, _) => false,
+            Base::Del(_) => true,
         }
     }
 

@@ -6,6 +6,8 @@ mod content;
 mod head;
 mod head_list;
 mod heads;
+mod join;
+pub mod laws;
 mod state;
 mod write;
 

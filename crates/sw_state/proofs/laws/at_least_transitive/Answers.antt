@@ -1,0 +1,5 @@
+use Rattle.sw_state.proofs.JoinLaws.{at_least_transitive}
+use Rattle.sw_state.proofs.laws.at_least_transitive.Goals as goal
+
+pub returns : goal.returns
+returns c = at_least_transitive
