@@ -135,7 +135,7 @@ after-higher a None t = sym (both_true (after a t))
 after-higher None (Some b) t = refl
 after-higher (Some a) (Some b) t =
     ap (λ (k : ℕ). nat_lt k t) (base_time-cond (is_above b a) a b)
-      ∙ after_chosen (base_time a) (base_time b) t (is_deletion a) (is_deletion b) (is_above b a) refl
+    ∙ after_chosen (base_time a) (base_time b) t (is_deletion a) (is_deletion b) (is_above b a) refl
 
 -- a base that was compared before makes no difference
 again_at : (a b : Base) (p : Bool) → is_above b a ≡ p → higher (Some (cond p b a)) (Some a) ≡ Some (cond p b a)

@@ -48,11 +48,11 @@ kept_at : (h x : Head) (xs : List Head) (b : Bool) → below h.name x ≡ b → 
     → are_heads (cond b (x ∷ filter (below h.name) xs) (filter (below h.name) xs) ++ h ∷ cond (above h.name x) (x ∷ filter (above h.name) xs) (filter (above h.name) xs)) ≡ true
 kept_at h x xs true is name own all heads rest =
     let others : list_all (above x.name) (filter (below h.name) xs ++ h ∷ filter (above h.name) xs) ≡ true =
-      list_all-append (above x.name) (filter (below h.name) xs) (h ∷ filter (above h.name) xs)
-        ∙ both_from (list_all (above x.name) (filter (below h.name) xs)) (is_before x.name h.name && list_all (above x.name) (filter (above h.name) xs)) (list_all-filter (above x.name) (below h.name) xs all)
-          (both_from (is_before x.name h.name) (list_all (above x.name) (filter (above h.name) xs)) is (list_all-filter (above x.name) (above h.name) xs all)) in
+    list_all-append (above x.name) (filter (below h.name) xs) (h ∷ filter (above h.name) xs)
+    ∙ both_from (list_all (above x.name) (filter (below h.name) xs)) (is_before x.name h.name && list_all (above x.name) (filter (above h.name) xs)) (list_all-filter (above x.name) (below h.name) xs all)
+    (both_from (is_before x.name h.name) (list_all (above x.name) (filter (above h.name) xs)) is (list_all-filter (above x.name) (above h.name) xs all)) in
     rw (before-asym x.name h.name is) (both_from (is_name x.name) (list_all (above x.name) (filter (below h.name) xs ++ h ∷ filter (above h.name) xs) && are_heads (filter (below h.name) xs ++ h ∷ filter (above h.name) xs)) own
-      (both_from (list_all (above x.name) (filter (below h.name) xs ++ h ∷ filter (above h.name) xs)) (are_heads (filter (below h.name) xs ++ h ∷ filter (above h.name) xs)) others rest))
+    (both_from (list_all (above x.name) (filter (below h.name) xs ++ h ∷ filter (above h.name) xs)) (are_heads (filter (below h.name) xs ++ h ∷ filter (above h.name) xs)) others rest))
 kept_at h x xs false is name own all heads rest =
     rw (none_below h.name x xs is all) (first h (x ∷ xs) name (both_from (is_name x.name) (list_all (above x.name) xs && are_heads xs) own (both_from (list_all (above x.name) xs) (are_heads xs) all heads)))
 

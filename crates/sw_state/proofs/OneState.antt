@@ -85,7 +85,7 @@ pub state_of_set : (ws vs : List Write) → Agree ws → SameWrites ws vs → st
 state_of_set ws vs agree same =
     let there = is_state vs in
     one_state ws (state_of ws) (state_of vs) agree (is_state ws)
-      (record {
-        is_base = moved-base ws vs (state_of vs).base same there.is_base;
-        is_top = moved-top ws vs (state_of vs).base (state_of vs).meta same there.is_top;
-      })
+    (record {
+      is_base = moved-base ws vs (state_of vs).base same there.is_base;
+      is_top = moved-top ws vs (state_of vs).base (state_of vs).meta same there.is_top;
+    })

@@ -32,13 +32,13 @@ pub base_of-append : (xs ys : List Write) → base_of (xs ++ ys) ≡ higher (bas
 base_of-append [] ys = sym (higher-none (base_of ys))
 base_of-append (w ∷ xs) ys =
     ap (higher (base_at w.time w.kind)) (base_of-append xs ys)
-      ∙ sym (higher-assoc (base_at w.time w.kind) (base_of xs) (base_of ys))
+    ∙ sym (higher-assoc (base_at w.time w.kind) (base_of xs) (base_of ys))
 
 pub latest_meta-append : (xs ys : List Write) → latest_meta (xs ++ ys) ≡ later (latest_meta xs) (latest_meta ys)
 latest_meta-append [] ys = sym (later-none (latest_meta ys))
 latest_meta-append (w ∷ xs) ys =
     ap (later (meta_at w.time w.kind)) (latest_meta-append xs ys)
-      ∙ sym (later-assoc (meta_at w.time w.kind) (latest_meta xs) (latest_meta ys))
+    ∙ sym (later-assoc (meta_at w.time w.kind) (latest_meta xs) (latest_meta ys))
 
 -- a state's own writes give it back
 base_of-base_writes : (b : Option Base) → base_of (base_writes b) ≡ b
@@ -62,12 +62,12 @@ latest_meta-meta_writes (Some m) = refl
 pub base_of-writes_of : (s : State) → base_of (writes_of s) ≡ s.base
 base_of-writes_of s =
     base_of-append (base_writes s.base) (meta_writes s.meta)
-      ∙ rw (base_of-base_writes s.base, base_of-meta_writes s.meta) refl
+    ∙ rw (base_of-base_writes s.base, base_of-meta_writes s.meta) refl
 
 pub latest_meta-writes_of : (s : State) → latest_meta (writes_of s) ≡ s.meta
 latest_meta-writes_of s =
     latest_meta-append (base_writes s.base) (meta_writes s.meta)
-      ∙ rw (latest_meta-base_writes s.base, latest_meta-meta_writes s.meta) (later-none s.meta)
+    ∙ rw (latest_meta-base_writes s.base, latest_meta-meta_writes s.meta) (later-none s.meta)
 
 -- what two states together are, and a state with one write more
 pub together-base : (v u : State) → (together v u).base ≡ higher v.base u.base
@@ -105,18 +105,18 @@ joined-meta s w =
 pub joins_one_more : (ws : List Write) (w : Write) → joined (state_of ws) w ≡ state_of (ws ++ w ∷ [])
 joins_one_more ws w =
     same_state (joined (state_of ws) w) (state_of (ws ++ w ∷ []))
-      (joined-base (state_of ws) w ∙ sym (base_of-append ws (w ∷ [])))
-      (joined-meta (state_of ws) w
-        ∙ cut_left (base_of ws) (base_at w.time w.kind) (latest_meta ws) (meta_at w.time w.kind)
-        ∙ sym (above_base-cong (base_of (ws ++ w ∷ [])) (higher (base_of ws) (base_at w.time w.kind)) (latest_meta (ws ++ w ∷ [])) (later (latest_meta ws) (meta_at w.time w.kind)) (base_of-append ws (w ∷ [])) (latest_meta-append ws (w ∷ []))))
+    (joined-base (state_of ws) w ∙ sym (base_of-append ws (w ∷ [])))
+    (joined-meta (state_of ws) w
+    ∙ cut_left (base_of ws) (base_at w.time w.kind) (latest_meta ws) (meta_at w.time w.kind)
+    ∙ sym (above_base-cong (base_of (ws ++ w ∷ [])) (higher (base_of ws) (base_at w.time w.kind)) (latest_meta (ws ++ w ∷ [])) (later (latest_meta ws) (meta_at w.time w.kind)) (base_of-append ws (w ∷ [])) (latest_meta-append ws (w ∷ []))))
 
 pub joins_lists : (ws vs : List Write) → together (state_of ws) (state_of vs) ≡ state_of (ws ++ vs)
 joins_lists ws vs =
     same_state (together (state_of ws) (state_of vs)) (state_of (ws ++ vs))
-      (together-base (state_of ws) (state_of vs) ∙ sym (base_of-append ws vs))
-      (together-meta (state_of ws) (state_of vs)
-        ∙ cut_both (base_of ws) (base_of vs) (latest_meta ws) (latest_meta vs)
-        ∙ sym (above_base-cong (base_of (ws ++ vs)) (higher (base_of ws) (base_of vs)) (latest_meta (ws ++ vs)) (later (latest_meta ws) (latest_meta vs)) (base_of-append ws vs) (latest_meta-append ws vs)))
+    (together-base (state_of ws) (state_of vs) ∙ sym (base_of-append ws vs))
+    (together-meta (state_of ws) (state_of vs)
+    ∙ cut_both (base_of ws) (base_of vs) (latest_meta ws) (latest_meta vs)
+    ∙ sym (above_base-cong (base_of (ws ++ vs)) (higher (base_of ws) (base_of vs)) (latest_meta (ws ++ vs)) (later (latest_meta ws) (latest_meta vs)) (base_of-append ws vs) (latest_meta-append ws vs)))
 
 -- a state is that of its own writes
 pub above_base-own : (b : Option Base) (m : Option Meta) → is_later b m ≡ true → above_base b m ≡ m
@@ -125,19 +125,19 @@ above_base-own b m is = rw is refl
 pub state_of-writes_of : (s : State) → state_of (writes_of s) ≡ s
 state_of-writes_of s =
     same_state (state_of (writes_of s)) s (base_of-writes_of s)
-      (above_base-cong (base_of (writes_of s)) s.base (latest_meta (writes_of s)) s.meta (base_of-writes_of s) (latest_meta-writes_of s)
-        ∙ above_base-own s.base s.meta s.meta_is_later)
+    (above_base-cong (base_of (writes_of s)) s.base (latest_meta (writes_of s)) s.meta (base_of-writes_of s) (latest_meta-writes_of s)
+    ∙ above_base-own s.base s.meta s.meta_is_later)
 
 pub associates : (v u t : State) → together (together v u) t ≡ together v (together u t)
 associates v u t =
     ap (λ (x : State). together (together v u) x) (sym (state_of-writes_of t))
-      ∙ joins_lists (writes_of v ++ writes_of u) (writes_of t)
-      ∙ ap state_of (append_assoc (writes_of v) (writes_of u) (writes_of t))
-      ∙ sym (joins_lists (writes_of v) (writes_of u ++ writes_of t))
-      ∙ ap (λ (x : State). together x (together u t)) (state_of-writes_of v)
+    ∙ joins_lists (writes_of v ++ writes_of u) (writes_of t)
+    ∙ ap state_of (append_assoc (writes_of v) (writes_of u) (writes_of t))
+    ∙ sym (joins_lists (writes_of v) (writes_of u ++ writes_of t))
+    ∙ ap (λ (x : State). together x (together u t)) (state_of-writes_of v)
 
 pub idempotent : (v : State) → together v v ≡ v
 idempotent v =
     same_state (together v v) v (together-base v v ∙ higher-itself v.base)
-      (together-meta v v ∙ above_base-cong (higher v.base v.base) v.base (later v.meta v.meta) v.meta (higher-itself v.base) (later-itself v.meta)
-        ∙ above_base-own v.base v.meta v.meta_is_later)
+    (together-meta v v ∙ above_base-cong (higher v.base v.base) v.base (later v.meta v.meta) v.meta (higher-itself v.base) (later-itself v.meta)
+    ∙ above_base-own v.base v.meta v.meta_is_later)

@@ -45,31 +45,34 @@ same_above : (a d : Base) → let x : Option Base = Some a in let y : Option Bas
 same_above a d same = let e : a ≡ d = cc in rw (← e) (above-itself a)
 
 base-chosen : (w : Write) (ws : List Write) (a b : Base) (p : Bool) → is_above b a ≡ p → base_at w.time w.kind ≡ Some a → IsBaseOf ws (Some b) → IsBaseOf (w ∷ ws) (Some (cond p b a))
-base-chosen w ws a b true above is rest =
-    ((rest.0.0, behind w ws rest.0.0 rest.0.1, rest.0.2),
-    λ x c in_it at. each (λ y. (d : Base) → base_at y.time y.kind ≡ Some d → is_above d b ≡ false) w ws
-      (λ d some. first d (sym is ∙ some)) (λ y later d some. rest.1 y d later some) x in_it c at)
+base-chosen w ws a b true above is rest = (
+  (rest.0.0, behind w ws rest.0.0 rest.0.1, rest.0.2),
+  λ x c in_it at. each (λ y. (d : Base) → base_at y.time y.kind ≡ Some d → is_above d b ≡ false) w ws
+      (λ d some. first d (sym is ∙ some)) (λ y later d some. rest.1 y d later some) x in_it c at,
+)
   where
     first : (d : Base) → let x : Option Base = Some a in let y : Option Base = Some d in x ≡ y → is_above d b ≡ false
     first d same = let e : a ≡ d = cc in rw (← e) (above-asym a b above)
-base-chosen w ws a b false above is rest =
-    ((w, in_front w ws, is),
-    λ x c in_it at. each (λ y. (d : Base) → base_at y.time y.kind ≡ Some d → is_above d a ≡ false) w ws
-      (λ d some. same_above a d (sym is ∙ some)) (λ y later d some. above-not d b a (rest.1 y d later some) above) x in_it c at)
+base-chosen w ws a b false above is rest = (
+  (w, in_front w ws, is),
+  λ x c in_it at. each (λ y. (d : Base) → base_at y.time y.kind ≡ Some d → is_above d a ≡ false) w ws
+      (λ d some. same_above a d (sym is ∙ some)) (λ y later d some. above-not d b a (rest.1 y d later some) above) x in_it c at,
+)
 
 -- the base
 base-cons : (w : Write) (ws : List Write) (a r : Option Base) → base_at w.time w.kind ≡ a → IsBaseOf ws r → IsBaseOf (w ∷ ws) (higher a r)
 base-cons w ws None None is rest = each (λ x. base_at x.time x.kind ≡ None) w ws is rest
-base-cons w ws None (Some b) is rest =
-    ((rest.0.0, behind w ws rest.0.0 rest.0.1, rest.0.2),
-    λ x c in_it at. each (λ y. (d : Base) → base_at y.time y.kind ≡ Some d → is_above d b ≡ false) w ws
-      (λ d some. absurd (not_none (base_at w.time w.kind) d is some)) (λ y later d some. rest.1 y d later some) x in_it c at)
-base-cons w ws (Some a) None is rest =
-    ((w, in_front w ws, is),
-    λ x c in_it at. each (λ y. (d : Base) → base_at y.time y.kind ≡ Some d → is_above d a ≡ false) w ws
-      (λ d some. same_above a d (sym is ∙ some)) (λ y later d some. absurd (not_none (base_at y.time y.kind) d (rest y later) some)) x in_it c at)
+base-cons w ws None (Some b) is rest = (
+  (rest.0.0, behind w ws rest.0.0 rest.0.1, rest.0.2),
+  λ x c in_it at. each (λ y. (d : Base) → base_at y.time y.kind ≡ Some d → is_above d b ≡ false) w ws
+      (λ d some. absurd (not_none (base_at w.time w.kind) d is some)) (λ y later d some. rest.1 y d later some) x in_it c at,
+)
+base-cons w ws (Some a) None is rest = (
+  (w, in_front w ws, is),
+  λ x c in_it at. each (λ y. (d : Base) → base_at y.time y.kind ≡ Some d → is_above d a ≡ false) w ws
+      (λ d some. same_above a d (sym is ∙ some)) (λ y later d some. absurd (not_none (base_at y.time y.kind) d (rest y later) some)) x in_it c at,
+)
 base-cons w ws (Some a) (Some b) is rest = base-chosen w ws a b (is_above b a) refl is rest
-
 
 pub is_base : (ws : List Write) → IsBaseOf ws (base_of ws)
 is_base [] = λ w is. absurd (nothing w is)
@@ -89,31 +92,35 @@ not_later_itself : (a d : Meta) → let x : Option Meta = Some a in let y : Opti
 not_later_itself a d same = let e : a ≡ d = cc in rw (← e) (grind (arith, nat_tests))
 
 latest-chosen : (w : Write) (ws : List Write) (m n : Meta) (p : Bool) → nat_lt m.0 n.0 ≡ p → meta_at w.time w.kind ≡ Some m → IsLatest ws (Some n) → IsLatest (w ∷ ws) (Some (cond p n m))
-latest-chosen w ws m n true order is rest =
-    ((rest.0.0, behind w ws rest.0.0 rest.0.1, rest.0.2),
-    λ x o in_it at. each (λ y. (o : Meta) → meta_at y.time y.kind ≡ Some o → nat_lt n.0 o.0 ≡ false) w ws
-      (λ o some. first o (sym is ∙ some)) (λ y later o some. rest.1 y o later some) x in_it o at)
+latest-chosen w ws m n true order is rest = (
+  (rest.0.0, behind w ws rest.0.0 rest.0.1, rest.0.2),
+  λ x o in_it at. each (λ y. (o : Meta) → meta_at y.time y.kind ≡ Some o → nat_lt n.0 o.0 ≡ false) w ws
+      (λ o some. first o (sym is ∙ some)) (λ y later o some. rest.1 y o later some) x in_it o at,
+)
   where
     first : (o : Meta) → let x : Option Meta = Some m in let y : Option Meta = Some o in x ≡ y → nat_lt n.0 o.0 ≡ false
     first o same = let e : m ≡ o = cc in rw (← e) (grind (arith, nat_tests))
-latest-chosen w ws m n false order is rest =
-    ((w, in_front w ws, is),
-    λ x o in_it at. each (λ y. (o : Meta) → meta_at y.time y.kind ≡ Some o → nat_lt m.0 o.0 ≡ false) w ws
-      (λ o some. not_later_itself m o (sym is ∙ some)) (λ y later o some. not_later o (rest.1 y o later some)) x in_it o at)
+latest-chosen w ws m n false order is rest = (
+  (w, in_front w ws, is),
+  λ x o in_it at. each (λ y. (o : Meta) → meta_at y.time y.kind ≡ Some o → nat_lt m.0 o.0 ≡ false) w ws
+      (λ o some. not_later_itself m o (sym is ∙ some)) (λ y later o some. not_later o (rest.1 y o later some)) x in_it o at,
+)
   where
     not_later : (o : Meta) → nat_lt n.0 o.0 ≡ false → nat_lt m.0 o.0 ≡ false
     not_later o order' = grind (arith, nat_tests)
 
 latest-cons : (w : Write) (ws : List Write) (m r : Option Meta) → meta_at w.time w.kind ≡ m → IsLatest ws r → IsLatest (w ∷ ws) (later m r)
 latest-cons w ws None None is rest = each (λ x. meta_at x.time x.kind ≡ None) w ws is rest
-latest-cons w ws None (Some n) is rest =
-    ((rest.0.0, behind w ws rest.0.0 rest.0.1, rest.0.2),
-    λ x o in_it at. each (λ y. (o : Meta) → meta_at y.time y.kind ≡ Some o → nat_lt n.0 o.0 ≡ false) w ws
-      (λ o some. absurd (not_none (meta_at w.time w.kind) o is some)) (λ y later o some. rest.1 y o later some) x in_it o at)
-latest-cons w ws (Some m) None is rest =
-    ((w, in_front w ws, is),
-    λ x o in_it at. each (λ y. (o : Meta) → meta_at y.time y.kind ≡ Some o → nat_lt m.0 o.0 ≡ false) w ws
-      (λ o some. not_later_itself m o (sym is ∙ some)) (λ y later o some. absurd (not_none (meta_at y.time y.kind) o (rest y later) some)) x in_it o at)
+latest-cons w ws None (Some n) is rest = (
+  (rest.0.0, behind w ws rest.0.0 rest.0.1, rest.0.2),
+  λ x o in_it at. each (λ y. (o : Meta) → meta_at y.time y.kind ≡ Some o → nat_lt n.0 o.0 ≡ false) w ws
+      (λ o some. absurd (not_none (meta_at w.time w.kind) o is some)) (λ y later o some. rest.1 y o later some) x in_it o at,
+)
+latest-cons w ws (Some m) None is rest = (
+  (w, in_front w ws, is),
+  λ x o in_it at. each (λ y. (o : Meta) → meta_at y.time y.kind ≡ Some o → nat_lt m.0 o.0 ≡ false) w ws
+      (λ o some. not_later_itself m o (sym is ∙ some)) (λ y later o some. absurd (not_none (meta_at y.time y.kind) o (rest y later) some)) x in_it o at,
+)
 latest-cons w ws (Some m) (Some n) is rest = latest-chosen w ws m n (nat_lt m.0 n.0) refl is rest
 
 pub is_latest : (ws : List Write) → IsLatest ws (latest_meta ws)

@@ -86,24 +86,26 @@ meta_old b m x false q base_is meta_is stays = refl
 
 pub meta_stays : (b : Option Base) (m n : Option Meta) → is_later b m ≡ true → (wants_meta b m n ≡ false) ↔ (above_base b (later m n) ≡ m)
 meta_stays b m None own = (λ is. above_base-own b m own, λ is. refl)
-meta_stays b m (Some x) own =
-    (λ old. meta_kept b m x (is_after_base b x.0) (is_after_meta m x.0) own refl refl old,
-    λ stays. meta_old b m x (is_after_base b x.0) (is_after_meta m x.0) refl refl stays)
+meta_stays b m (Some x) own = (
+  λ old. meta_kept b m x (is_after_base b x.0) (is_after_meta m x.0) own refl refl old,
+  λ stays. meta_old b m x (is_after_base b x.0) (is_after_meta m x.0) refl refl stays,
+)
 
 -- a state that is together with another, as its parts
 pub at_least_parts : (v u : State) → ((wants_base v.base u.base ≡ false) × (wants_meta v.base v.meta u.meta ≡ false)) ↔ IsAtLeast v u
-at_least_parts v u =
-    (λ old.
+at_least_parts v u = (
+  λ old.
       let base : higher v.base u.base ≡ v.base = (base_stays v.base u.base).0 old.0 in
       same_state (together v u) v (together-base v u ∙ base)
-        (together-meta v u
-          ∙ above_base-cong (higher v.base u.base) v.base (later v.meta u.meta) (later v.meta u.meta) base refl
-          ∙ (meta_stays v.base v.meta u.meta v.meta_is_later).0 old.1),
-    λ same.
+      (together-meta v u
+      ∙ above_base-cong (higher v.base u.base) v.base (later v.meta u.meta) (later v.meta u.meta) base refl
+      ∙ (meta_stays v.base v.meta u.meta v.meta_is_later).0 old.1),
+  λ same.
       let base : higher v.base u.base ≡ v.base = sym (together-base v u) ∙ ap (λ (s : State). s.base) same in
       let meta : above_base v.base (later v.meta u.meta) ≡ v.meta =
-        sym (together-meta v u ∙ above_base-cong (higher v.base u.base) v.base (later v.meta u.meta) (later v.meta u.meta) base refl) ∙ ap (λ (s : State). s.meta) same in
-      ((base_stays v.base u.base).1 base, (meta_stays v.base v.meta u.meta v.meta_is_later).1 meta))
+      sym (together-meta v u ∙ above_base-cong (higher v.base u.base) v.base (later v.meta u.meta) (later v.meta u.meta) base refl) ∙ ap (λ (s : State). s.meta) same in
+      ((base_stays v.base u.base).1 base, (meta_stays v.base v.meta u.meta v.meta_is_later).1 meta),
+)
 
 tests : (p q : Bool) → IsTrue (not p && not q) ↔ ((p ≡ false) × (q ≡ false))
 tests true q = (λ is. cc, λ is. cc)
@@ -111,24 +113,26 @@ tests false true = (λ is. cc, λ is. cc)
 tests false false = (λ is. (refl, refl), λ is. refl)
 
 pub at_least_test : (v u : State) (p q : Bool) → p ≡ wants_base v.base u.base → q ≡ wants_meta v.base v.meta u.meta → IsTrue (not p && not q) ↔ IsAtLeast v u
-at_least_test v u p q base_is meta_is =
-    (λ is. let parts = (tests p q).0 is in (at_least_parts v u).0 (sym base_is ∙ parts.0, sym meta_is ∙ parts.1),
-    λ is. let parts = (at_least_parts v u).1 is in (tests p q).1 (base_is ∙ parts.0, meta_is ∙ parts.1))
+at_least_test v u p q base_is meta_is = (
+  λ is. let parts = (tests p q).0 is in (at_least_parts v u).0 (sym base_is ∙ parts.0, sym meta_is ∙ parts.1),
+  λ is. let parts = (at_least_parts v u).1 is in (tests p q).1 (base_is ∙ parts.0, meta_is ∙ parts.1),
+)
 
 -- a write as its parts
 joined_parts : (s : State) (w : Write) → ((wants_base s.base (base_at w.time w.kind) ≡ false) × (wants_meta s.base s.meta (meta_at w.time w.kind) ≡ false)) ↔ (joined s w ≡ s)
-joined_parts s w =
-    (λ old.
+joined_parts s w = (
+  λ old.
       let base : higher s.base (base_at w.time w.kind) ≡ s.base = (base_stays s.base (base_at w.time w.kind)).0 old.0 in
       same_state (joined s w) s (joined-base s w ∙ base)
-        (joined-meta s w
-          ∙ above_base-cong (higher s.base (base_at w.time w.kind)) s.base (later s.meta (meta_at w.time w.kind)) (later s.meta (meta_at w.time w.kind)) base refl
-          ∙ (meta_stays s.base s.meta (meta_at w.time w.kind) s.meta_is_later).0 old.1),
-    λ same.
+      (joined-meta s w
+      ∙ above_base-cong (higher s.base (base_at w.time w.kind)) s.base (later s.meta (meta_at w.time w.kind)) (later s.meta (meta_at w.time w.kind)) base refl
+      ∙ (meta_stays s.base s.meta (meta_at w.time w.kind) s.meta_is_later).0 old.1),
+  λ same.
       let base : higher s.base (base_at w.time w.kind) ≡ s.base = sym (joined-base s w) ∙ ap (λ (s : State). s.base) same in
       let meta : above_base s.base (later s.meta (meta_at w.time w.kind)) ≡ s.meta =
-        sym (joined-meta s w ∙ above_base-cong (higher s.base (base_at w.time w.kind)) s.base (later s.meta (meta_at w.time w.kind)) (later s.meta (meta_at w.time w.kind)) base refl) ∙ ap (λ (s : State). s.meta) same in
-      ((base_stays s.base (base_at w.time w.kind)).1 base, (meta_stays s.base s.meta (meta_at w.time w.kind) s.meta_is_later).1 meta))
+      sym (joined-meta s w ∙ above_base-cong (higher s.base (base_at w.time w.kind)) s.base (later s.meta (meta_at w.time w.kind)) (later s.meta (meta_at w.time w.kind)) base refl) ∙ ap (λ (s : State). s.meta) same in
+      ((base_stays s.base (base_at w.time w.kind)).1 base, (meta_stays s.base s.meta (meta_at w.time w.kind) s.meta_is_later).1 meta),
+)
 
 new_parts : (s : State) (t : ℕ) (k : Kind) → (is_new s t (tag_of k) ≡ false) ↔ ((wants_base s.base (base_at t k) ≡ false) × (wants_meta s.base s.meta (meta_at t k) ≡ false))
 new_parts s t (kinds.Put content) = (λ is. (is, refl), λ is. is.0)
@@ -145,14 +149,14 @@ rebased s w b base_is meta_is new =
     let base : higher s.base (base_at w.time w.kind) ≡ Some b = ap (higher s.base) base_is ∙ higher-new s.base b new in
     let meta : later s.meta (meta_at w.time w.kind) ≡ s.meta = ap (later s.meta) meta_is in
     sym (same_state (joined s w) (state_with (Some b) s.meta) (joined-base s w ∙ base)
-      (joined-meta s w ∙ above_base-cong (higher s.base (base_at w.time w.kind)) (Some b) (later s.meta (meta_at w.time w.kind)) s.meta base meta))
+    (joined-meta s w ∙ above_base-cong (higher s.base (base_at w.time w.kind)) (Some b) (later s.meta (meta_at w.time w.kind)) s.meta base meta))
 
 pub joined_put : (s new : State) (w : Write) (tag : Tag) (content used : Content) → used ≡ content → w.kind ≡ kinds.Put content → tag ≡ tag_of w.kind → true ≡ is_new s w.time tag
     → new ≡ state_with (Some (bases.Put w.time used)) s.meta → new ≡ joined s w
 joined_put s new w tag content used same kind tagged is_fresh is =
     let put : tag ≡ tags.Put = tagged ∙ ap tag_of kind in
     is ∙ ap (λ (x : Content). state_with (Some (bases.Put w.time x)) s.meta) same
-      ∙ rebased s w (bases.Put w.time content) (ap (base_at w.time) kind) (ap (meta_at w.time) kind) (sym (is_fresh ∙ ap (is_new s w.time) put))
+    ∙ rebased s w (bases.Put w.time content) (ap (base_at w.time) kind) (ap (meta_at w.time) kind) (sym (is_fresh ∙ ap (is_new s w.time) put))
 
 pub joined_del : (s new : State) (w : Write) (tag : Tag) → w.kind ≡ kinds.Del → tag ≡ tag_of w.kind → true ≡ is_new s w.time tag
     → new ≡ state_with (Some (bases.Del w.time)) s.meta → new ≡ joined s w

@@ -1,4 +1,4 @@
-ghost use Rattle.std.specs.Prelude.{◌≡◌, true, IfOk};
+ghost use Rattle.std.specs.Prelude.{◌≡◌, true, Some, IfOk};
 ghost use Rattle.sw_state.specs.DeleteTimes.{is_delete_time};
 
 use crate::head_list::HeadList;
@@ -18,6 +18,13 @@ pub struct Heads {
 }
 
 impl Heads {
+    /// Whether an object can expire at this time, in seconds: at most [`LATEST_DELETE_AT`].
+    pub fn is_delete_time(seconds: u64) -> bool
+        ensures { result ≡ is_delete_time (Some seconds) }
+    {
+        seconds <= LATEST_DELETE_AT
+    }
+
     /// Heads that are equal to these, or [`NoMemory`].
     pub fn copy(&self, alloc: Global) -> Result<Heads, NoMemory>
         ensures { IfOk result (λ copy. copy ≡ self.now) }

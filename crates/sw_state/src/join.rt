@@ -74,7 +74,8 @@ impl State {
         ensures { result ≡ is_new_base self.now.base time deletion }
     {
         match &self.base {
-            Some(base) => base.time() < time || (base.time() == time && (deletion && !base.is_deletion())),
+            Some(base) => base.time() < time
+                || (base.time() == time && (deletion && !base.is_deletion())),
             None => true,
         }
     }
