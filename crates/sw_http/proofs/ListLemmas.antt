@@ -1,0 +1,18 @@
+-- Lists that are read into, and cut.
+use Rattle.std.proofs.Common.{◌≡◌, ℕ, ◌+◌, ◌≤◌, List, ◌++◌, length, take, ap, ◌∙◌, append_assoc}
+use Rattle.std.proofs.Math.Seq.{take-add}
+use Rattle.std.proofs.lemmas.List.{take-take, take_at, drop_at, take-append-le}
+
+-- the first bytes, and some behind them
+pub take_past : (a b : List ℕ) (had given : ℕ) → length a ≡ had → take (had + given) (a ++ b) ≡ a ++ take given b
+take_past a b had given size = rw (take-add, take_at a b had size, drop_at a b had size)
+
+-- what was read into the back of a buffer, which was then cut behind it
+pub read_in : (a into post tail : List ℕ) (had given len : ℕ) → length a ≡ had → given ≤ length into → had + given ≤ len
+    → take (had + given) (take len ((a ++ (into ++ post)) ++ tail)) ≡ a ++ take given into
+read_in a into post tail had given len size bound fits =
+    take-take (had + given) len _ fits
+    ∙ ap (take (had + given)) (append_assoc a (into ++ post) tail)
+    ∙ take_past a ((into ++ post) ++ tail) had given size
+    ∙ ap (λ (l : List ℕ). a ++ take given l) (append_assoc into post tail)
+    ∙ ap (λ (l : List ℕ). a ++ l) (take-append-le given into (post ++ tail) bound)

@@ -1,0 +1,40 @@
+-- What is pushed to make a reply's text.
+use Rattle.std.proofs.Common.{◌≡◌, ℕ, ◌<◌, ◌≤◌, ◌⊎◌, inl, inr, List, ◌++◌, Option, None, Some, refl, ◌∙◌, arith, append_assoc, lit≤}
+use Rattle.std.specs.Prelude.{if◌then◌else◌, ◌==◌}
+use Rattle.std.proofs.lemmas.Bool.{cond-false, ne_eqb}
+use Rattle.http.specs.StatusCode.{reason_phrase}
+
+-- five texts, one behind the other
+pub five_pushed : (old one two three four five a b c d e : List ℕ) → one ≡ old ++ a → two ≡ one ++ b → three ≡ two ++ c → four ≡ three ++ d → five ≡ four ++ e
+    → five ≡ old ++ (a ++ (b ++ (c ++ (d ++ e))))
+five_pushed old one two three four five a b c d e p q r s t = simp (t, s, r, q, p, append_assoc)
+
+skip : (n k : ℕ) (phrase : List ℕ) (rest : Option (List ℕ)) → (n < 100) ⊎ (999 < n) → 100 ≤ k → k ≤ 999 → rest ≡ None → (if n == k then Some phrase else rest) ≡ None
+skip n k phrase rest out low high none =
+    let other : n ≡ k → ⊥ = λ e. elim out [ inl below ↦ omega arith | inr above ↦ omega arith ] in
+    cond-false _ _ _ (ne_eqb n k other) ∙ none
+
+-- only numbers of three digits have a reason
+pub no_reason : (n : ℕ) → (n < 100) ⊎ (999 < n) → reason_phrase n ≡ None
+no_reason n out =
+    (skip n 100 _ _ out (lit≤ tt) (lit≤ tt) (skip n 101 _ _ out (lit≤ tt) (lit≤ tt) (skip n 102 _ _ out (lit≤ tt) (lit≤ tt)
+    (skip n 103 _ _ out (lit≤ tt) (lit≤ tt) (skip n 200 _ _ out (lit≤ tt) (lit≤ tt) (skip n 201 _ _ out (lit≤ tt) (lit≤ tt)
+    (skip n 202 _ _ out (lit≤ tt) (lit≤ tt) (skip n 203 _ _ out (lit≤ tt) (lit≤ tt) (skip n 204 _ _ out (lit≤ tt) (lit≤ tt)
+    (skip n 205 _ _ out (lit≤ tt) (lit≤ tt) (skip n 206 _ _ out (lit≤ tt) (lit≤ tt) (skip n 207 _ _ out (lit≤ tt) (lit≤ tt)
+    (skip n 208 _ _ out (lit≤ tt) (lit≤ tt) (skip n 226 _ _ out (lit≤ tt) (lit≤ tt) (skip n 300 _ _ out (lit≤ tt) (lit≤ tt)
+    (skip n 301 _ _ out (lit≤ tt) (lit≤ tt) (skip n 302 _ _ out (lit≤ tt) (lit≤ tt) (skip n 303 _ _ out (lit≤ tt) (lit≤ tt)
+    (skip n 304 _ _ out (lit≤ tt) (lit≤ tt) (skip n 305 _ _ out (lit≤ tt) (lit≤ tt) (skip n 307 _ _ out (lit≤ tt) (lit≤ tt)
+    (skip n 308 _ _ out (lit≤ tt) (lit≤ tt) (skip n 400 _ _ out (lit≤ tt) (lit≤ tt) (skip n 401 _ _ out (lit≤ tt) (lit≤ tt)
+    (skip n 402 _ _ out (lit≤ tt) (lit≤ tt) (skip n 403 _ _ out (lit≤ tt) (lit≤ tt) (skip n 404 _ _ out (lit≤ tt) (lit≤ tt)
+    (skip n 405 _ _ out (lit≤ tt) (lit≤ tt) (skip n 406 _ _ out (lit≤ tt) (lit≤ tt) (skip n 407 _ _ out (lit≤ tt) (lit≤ tt)
+    (skip n 408 _ _ out (lit≤ tt) (lit≤ tt) (skip n 409 _ _ out (lit≤ tt) (lit≤ tt) (skip n 410 _ _ out (lit≤ tt) (lit≤ tt)
+    (skip n 411 _ _ out (lit≤ tt) (lit≤ tt) (skip n 412 _ _ out (lit≤ tt) (lit≤ tt) (skip n 413 _ _ out (lit≤ tt) (lit≤ tt)
+    (skip n 414 _ _ out (lit≤ tt) (lit≤ tt) (skip n 415 _ _ out (lit≤ tt) (lit≤ tt) (skip n 416 _ _ out (lit≤ tt) (lit≤ tt)
+    (skip n 417 _ _ out (lit≤ tt) (lit≤ tt) (skip n 418 _ _ out (lit≤ tt) (lit≤ tt) (skip n 421 _ _ out (lit≤ tt) (lit≤ tt)
+    (skip n 422 _ _ out (lit≤ tt) (lit≤ tt) (skip n 423 _ _ out (lit≤ tt) (lit≤ tt) (skip n 424 _ _ out (lit≤ tt) (lit≤ tt)
+    (skip n 425 _ _ out (lit≤ tt) (lit≤ tt) (skip n 426 _ _ out (lit≤ tt) (lit≤ tt) (skip n 428 _ _ out (lit≤ tt) (lit≤ tt)
+    (skip n 429 _ _ out (lit≤ tt) (lit≤ tt) (skip n 431 _ _ out (lit≤ tt) (lit≤ tt) (skip n 451 _ _ out (lit≤ tt) (lit≤ tt)
+    (skip n 500 _ _ out (lit≤ tt) (lit≤ tt) (skip n 501 _ _ out (lit≤ tt) (lit≤ tt) (skip n 502 _ _ out (lit≤ tt) (lit≤ tt)
+    (skip n 503 _ _ out (lit≤ tt) (lit≤ tt) (skip n 504 _ _ out (lit≤ tt) (lit≤ tt) (skip n 505 _ _ out (lit≤ tt) (lit≤ tt)
+    (skip n 506 _ _ out (lit≤ tt) (lit≤ tt) (skip n 507 _ _ out (lit≤ tt) (lit≤ tt) (skip n 508 _ _ out (lit≤ tt) (lit≤ tt)
+    (skip n 510 _ _ out (lit≤ tt) (lit≤ tt) (skip n 511 _ _ out (lit≤ tt) (lit≤ tt) refl))))))))))))))))))))))))))))))))))))))))))))))))))))))))))))))

@@ -1,0 +1,23 @@
+use Rattle.std.proofs.Common.{◌≡◌, ℕ, ◌+◌, ◌≤◌, ◌<◌, length, take, ◌++◌, arith, ap, ◌∙◌, List}
+use Rattle.std.proofs.lemmas.Grind.{common_steps}
+use Rattle.std.proofs.lemmas.List.{length-take-le}
+use Rattle.sw_http.proofs.ListLemmas.{read_in}
+use Rattle.sw_http.proofs.input.read_behind.Goals as goal
+
+pub returns-in-Ok-clause-read : goal.returns-in-Ok-clause-read
+returns-in-Ok-clause-read g c =
+    let given = c.in-Ok.given in
+    let front : take c.len-had.result c.deref_mut.result.now ≡ c.args.bytes.now.items =
+    grind (arith, common_steps, c.in_ok-resize.ensures.items, c.deref_mut.ensures.value) in
+    let room : length c.read.new.into ≡ c.args.room = grind (arith, common_steps) in
+    let bound : given ≤ length c.read.new.into = c.in-Ok.ensures.count in
+    let fits : c.len-had.result + given ≤ c.resize.new.self.len = grind (arith, common_steps) in
+    let size : length (take c.len-had.result c.deref_mut.result.now) ≡ c.len-had.result = grind (arith, common_steps) in
+    let some : 0 < length c.read.new.into = omega arith in
+    record {
+      piece = take given c.read.new.into;
+      behind = c.truncate.ensures.items ∙ read_in _ c.read.new.into _ _ _ given _ size bound fits ∙ ap (λ (l : List ℕ). l ++ take given c.read.new.into) front;
+      size = length-take-le given c.read.new.into bound;
+      read = c.in-Ok.ensures.bytes.0;
+      at_end = λ none. c.in-Ok.ensures.bytes.1 none some;
+    }

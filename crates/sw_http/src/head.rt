@@ -1,0 +1,91 @@
+ghost use Rattle.std.specs.Prelude.{◌≡◌, ℕ, ◌≤◌, length, take, None, Ok, Err, IfOk, IfSome};
+ghost use Rattle.std.specs.Io.KnownBytes.{Keeps, prepend_known};
+ghost use Rattle.httparse.specs.Pieces.{Stops, is_newline};
+ghost use Rattle.sw_outside.specs.Faults.{HasRisen};
+ghost use Rattle.sw_http.specs.Head.{IsLook, IsHeadAt, HasNoHead};
+
+use crate::held::Held;
+use crate::input::ReadError;
+use crate::limits::{MAX_FIELDS, MAX_HEAD};
+use httparse::Status;
+use httparse::spans::{HeaderSpan, RequestSpans, parse_request};
+use sw_outside::Source;
+
+/// The minor version of HTTP/1.1.
+const MINOR_VERSION: u8 = 1;
+
+/// What one look at bytes finds in front of them.
+pub(crate) enum Look {
+    /// A head.
+    Whole(RequestSpans),
+    /// No head so far.
+    NotYet,
+    /// No head, whatever follows.
+    Never,
+}
+
+/// Looks for a head in front of bytes that don't begin with a line end.
+pub(crate) fn find_head(bytes: &[u8], headers: &mut [HeaderSpan]) -> Look
+    requires room { length headers.old ≡ MAX_FIELDS }
+    requires begins { Stops is_newline bytes.now }
+    ensures { IsLook bytes.now headers.new result }
+{
+    match parse_request(bytes, headers) {
+        Ok(Status::Complete(spans)) => {
+            if spans.len <= MAX_HEAD && spans.version == MINOR_VERSION {
+                Look::Whole(spans)
+            } else {
+                Look::Never
+            }
+        }
+        Ok(Status::Partial) => Look::NotYet,
+        Err(_) => Look::Never,
+    }
+}
+
+/// The same, where no head stands in front of the first `seen` bytes. A head ends with a line feed, so without a new one there is no
+/// need to look.
+fn find_new_head(bytes: &[u8], seen: usize, headers: &mut [HeaderSpan]) -> Look
+    requires room { length headers.old ≡ MAX_FIELDS }
+    requires begins { Stops is_newline bytes.now }
+    requires within { seen ≤ length bytes.now }
+    requires none_seen { HasNoHead (take seen bytes.now) }
+    ensures { IsLook bytes.now headers.new result }
+{
+    if bytes[seen..].contains(&b'\n') {
+        find_head(bytes, headers)
+    } else {
+        Look::NotYet
+    }
+}
+
+/// Reads until a head stands in front of what is held. It answers `None` where none ever will.
+pub(crate) fn read_head<R: Source>(
+    held: &mut Held,
+    source: &mut R,
+    headers: &mut [HeaderSpan],
+) -> Result<Option<RequestSpans>, ReadError>
+    requires room { length headers.old ≡ MAX_FIELDS }
+    requires begins { Stops is_newline held.old }
+    ensures kept { Keeps (prepend_known held.old (R.left source.old)) (prepend_known held.new (R.left source.new)) }
+    ensures found { IfOk result (λ found. IfSome found (IsHeadAt held.new headers.new)) }
+    ensures none { result ≡ Ok None → IfSome (prepend_known held.old (R.left source.old)) HasNoHead }
+    ensures later { R.faults source.old ≤ R.faults source.new }
+    ensures read_fault { result ≡ Err ReadError.Failed → HasRisen (R.faults source.old) (R.faults source.new) }
+{
+    let mut seen = 0;
+    loop {
+        match find_new_head(held.rest(), seen, headers) {
+            Look::Whole(spans) => return Ok(Some(spans)),
+            Look::Never => return Ok(None),
+            Look::NotYet => {}
+        }
+        seen = held.rest().len();
+        if seen >= MAX_HEAD {
+            return Ok(None);
+        }
+        if held.read_more(source)? == 0 {
+            return Ok(None);
+        }
+    }
+}

@@ -1,0 +1,74 @@
+ghost use Rattle.std.specs.Prelude.{◌≡◌, ℕ, ◌+◌, ◌^◌, ◌<◌, ◌≤◌, [], ◌++◌, length, drop, Err, IfOk, OnOk};
+ghost use Rattle.sw_outside.specs.Faults.{HasRisen};
+ghost use Rattle.sw_http.specs.Input.{ReadsBehind};
+
+use crate::input::{PIECE, ReadError, drop_front, read_behind};
+use std::alloc::{AllocError, Global};
+use std::marker::Model;
+use sw_outside::Source;
+
+/// The bytes that were read and not yet used. Contracts see the list of them.
+///
+/// Bytes are taken off the front by counting them: the others are moved only before a read, so a piece with many small requests in it
+/// is moved once.
+#[derive(Debug, Drop)]
+pub struct Held {
+    bytes: Vec<u8>,
+    at: usize,
+}
+
+impl Model for Held {
+    ghost use Rattle.std.specs.Prelude.{ℕ, ◌≤◌, List, drop, vec_len};
+
+    ghost Value = { List ℕ };
+
+    ghost view = { λ h. drop h.at h.bytes.items };
+
+    ghost invariant = { λ h. h.at ≤ vec_len h.bytes };
+}
+
+impl Held {
+    /// Nothing is held. This takes no memory.
+    pub fn new(alloc: Global) -> Held
+        ensures { result ≡ [] }
+    {
+        Held {
+            bytes: Vec::new(alloc),
+            at: 0,
+        }
+    }
+
+    pub(crate) fn rest(&self) -> &[u8]
+        ensures { result.now ≡ self.now }
+    {
+        &self.bytes[self.at..]
+    }
+
+    /// Takes `n` bytes off the front.
+    pub(crate) fn advance(&mut self, n: usize)
+        requires { n ≤ length self.old }
+        ensures { self.new ≡ drop n self.old }
+    {
+        self.at += n;
+    }
+
+    /// Reads one piece more.
+    pub(crate) fn read_more<R: Source>(&mut self, source: &mut R) -> Result<usize, ReadError>
+        requires { length self.old + PIECE < 2 ^ 64 }
+        ensures read { ReadsBehind self.old self.new (R.left source.old) (R.left source.new) result }
+        ensures bound { IfOk result (λ n. n ≤ PIECE) }
+        ensures later { R.faults source.old ≤ R.faults source.new }
+        ensures read_fault { result ≡ Err ReadError.Failed → HasRisen (R.faults source.old) (R.faults source.new) }
+    {
+        drop_front(&mut self.bytes, self.at);
+        self.at = 0;
+        read_behind(&mut self.bytes, source, PIECE)
+    }
+
+    /// Puts bytes behind those that are held.
+    pub(crate) fn push_all(&mut self, more: &[u8]) -> Result<(), AllocError>
+        ensures { OnOk result (self.new ≡ self.old ++ more.now) }
+    {
+        self.bytes.extend_from_slice(more)
+    }
+}

@@ -1,0 +1,72 @@
+ghost use Rattle.std.specs.Prelude.{◌≡◌, ℕ, ◌+◌, ◌^◌, ◌<◌, ◌≤◌, drop, Err, IfOk, vec_len};
+ghost use Rattle.sw_outside.specs.Faults.{HasRisen};
+ghost use Rattle.sw_http.specs.Input.{ReadsBehind};
+ghost use Rattle.sw_http.specs.declared.input.ReadError.TheVariants as errors;
+
+use std::alloc::AllocError;
+use sw_outside::{Failed, NoMemory, Source};
+
+/// How many bytes one read asks for, at most.
+pub(crate) const PIECE: usize = 8_192;
+
+/// Why a step of the reader gave nothing.
+#[derive(Clone, Copy, Debug, PartialEq, Eq)]
+pub(crate) enum ReadError {
+    Failed,
+    NoMemory,
+}
+
+impl From<AllocError> for ReadError {
+    ghost from_gives = { λ _ e. e ≡ errors.NoMemory };
+
+    fn from(_error: AllocError) -> ReadError {
+        ReadError::NoMemory
+    }
+}
+
+impl From<NoMemory> for ReadError {
+    ghost from_gives = { λ _ e. e ≡ errors.NoMemory };
+
+    fn from(_error: NoMemory) -> ReadError {
+        ReadError::NoMemory
+    }
+}
+
+/// Reads at most `room` bytes, and puts them behind those that are there. It answers 0 only at the source's end.
+///
+/// The room is made before the read, so no byte that was read is lost.
+pub(crate) fn read_behind<R: Source>(
+    bytes: &mut Vec<u8>,
+    source: &mut R,
+    room: usize,
+) -> Result<usize, ReadError>
+    requires some { 0 < room }
+    requires fits { vec_len bytes.old + room < 2 ^ 64 }
+    ensures read { ReadsBehind bytes.old.items bytes.new.items (R.left source.old) (R.left source.new) result }
+    ensures bound { IfOk result (λ n. n ≤ room) }
+    ensures later { R.faults source.old ≤ R.faults source.new }
+    ensures read_fault { result ≡ Err ReadError.Failed → HasRisen (R.faults source.old) (R.faults source.new) }
+{
+    let had = bytes.len();
+    bytes.resize(had + room, 0)?;
+    match source.read(&mut bytes[had..]) {
+        Ok(given) => {
+            bytes.truncate(had + given);
+            Ok(given)
+        }
+        Err(Failed) => {
+            bytes.truncate(had);
+            Err(ReadError::Failed)
+        }
+    }
+}
+
+/// Takes `n` bytes off the front.
+pub(crate) fn drop_front(bytes: &mut Vec<u8>, n: usize)
+    requires { n ≤ vec_len bytes.old }
+    ensures { bytes.new.items ≡ drop n bytes.old.items }
+{
+    let kept = bytes.len() - n;
+    bytes.copy_within(n.., 0);
+    bytes.truncate(kept);
+}
