@@ -20,9 +20,9 @@ mod sink;
 mod sound_sink;
 mod sound_source;
 mod source;
-mod text;
 #[cfg(test)]
 mod tests;
+mod text;
 mod writer_sink;
 
 pub use bytes::Bytes;
