@@ -1,0 +1,4 @@
+pub mod ServerLemmas
+pub mod ReportLemmas
+pub mod SessionLemmas
+pub mod StoreLemmas

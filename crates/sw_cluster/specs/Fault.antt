@@ -1,0 +1,9 @@
+-- How a write that failed ends a session. (This project's own.)
+use Rattle.sw_http.specs.declared.writer.WriteFault.{WriteFault}
+use Rattle.sw_http.specs.declared.writer.WriteFault.TheVariants as writes
+use Rattle.sw_cluster.specs.declared.session.SessionFault.{SessionFault}
+use Rattle.sw_cluster.specs.declared.session.SessionFault.TheVariants as faults
+
+abbrev pub fault_of : WriteFault → SessionFault
+fault_of writes.Failed = faults.WriteFault
+fault_of writes.NoMemory = faults.NoMemory

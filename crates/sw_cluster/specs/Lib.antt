@@ -1,0 +1,10 @@
+pub mod Ending
+pub mod Fault
+pub mod Replies
+pub mod Report
+pub mod Server
+pub mod Session
+pub mod Step
+pub mod Store
+pub mod Target
+pub mod Words

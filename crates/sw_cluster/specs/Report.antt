@@ -1,0 +1,21 @@
+-- What a command says on the error sink. (This project's own.)
+use Rattle.std.specs.Prelude.{ℕ, List, [], Option, codes, ◌==◌, ◌++◌, ◌∷◌, ◌≡◌, if◌then◌else◌}
+use Rattle.std.specs.Io.KnownBytes.{Appends}
+use Rattle.sw_outside.specs.Faults.{HasRisen}
+use Rattle.sw_outside.specs.Taken.{AppendsPart}
+use Rattle.sw_cluster.specs.declared.status.TheConstants.{READ_FAULT, USAGE, WRITE_FAULT, TOO_LONG, BAD_INPUT, NO_MEMORY}
+
+-- the line of a status, with its line feed
+abbrev pub line_of : ℕ → List ℕ
+line_of status =
+    if status == READ_FAULT then codes "sw: read fault\n" else (
+    if status == USAGE then codes "sw: usage\n" else (
+    if status == WRITE_FAULT then codes "sw: write fault\n" else (
+    if status == TOO_LONG then codes "sw: session too long\n" else (
+    if status == BAD_INPUT then codes "sw: bad input\n" else (
+    if status == NO_MEMORY then codes "sw: want of memory\n" else [])))))
+
+-- the line was taken; a front of it where the sink's count of faults rose
+pub record Reports (before now : Option (List ℕ)) (faults faults_now : ℕ) (line : List ℕ) : Type 0 where
+  pub part : AppendsPart before now line
+  pub whole : ¬ (HasRisen faults faults_now) → Appends before now line

@@ -1,0 +1,32 @@
+ghost use Rattle.std.specs.Prelude.{◌≡◌};
+ghost use Rattle.sw_cluster.specs.Report.{line_of as line_of_status};
+
+/// The input was read to its end.
+pub const COMPLETE: u8 = 0;
+/// A read of the input failed.
+pub const READ_FAULT: u8 = 1;
+/// The words are those of no command.
+pub const USAGE: u8 = 2;
+/// A write of the output failed.
+pub const WRITE_FAULT: u8 = 4;
+/// As many requests were answered as one session has at most.
+pub const TOO_LONG: u8 = 7;
+/// The rest of the input is no request.
+pub const BAD_INPUT: u8 = 8;
+/// Memory ran out where the session couldn't go on without it.
+pub const NO_MEMORY: u8 = 9;
+
+/// The line that says on the error sink how a command ended, with its line feed. A complete one says nothing.
+pub fn line_of(status: u8) -> &'static [u8]
+    ensures { result.now ≡ line_of_status status }
+{
+    match status {
+        READ_FAULT => b"sw: read fault\n",
+        USAGE => b"sw: usage\n",
+        WRITE_FAULT => b"sw: write fault\n",
+        TOO_LONG => b"sw: session too long\n",
+        BAD_INPUT => b"sw: bad input\n",
+        NO_MEMORY => b"sw: want of memory\n",
+        _ => b"",
+    }
+}

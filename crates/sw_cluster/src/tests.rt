@@ -1,0 +1,228 @@
+//! Whole runs of the top call, over a source and sinks in memory. Expected bytes are worked out by hand from the formats of the replies.
+
+use crate::cluster::cluster;
+use crate::status::{BAD_INPUT, COMPLETE, READ_FAULT, USAGE, WRITE_FAULT};
+use std::alloc::Global;
+use std::test::Fail;
+use sw_outside::{Bytes, FailingPut, MemSink, MemSource};
+
+/// A PUT of three bytes and a GET of them.
+const PUT_AND_GET: &[u8] =
+    b"PUT /sda/0/a/c/o HTTP/1.1\r\nX-Timestamp: 1401224048.22541\r\nContent-Type: text/plain\r\nContent-Length: 3\r\n\r\nabcGET /sda/0/a/c/o HTTP/1.1\r\n\r\n";
+
+const PUT_LENGTH: usize = 108;
+
+const CREATED_AND_FOUND: &[u8] =
+    b"HTTP/1.1 201 Created\r\nETag: 900150983cd24fb0d6963f7d28e17f72\r\nContent-Length: 0\r\n\r\nHTTP/1.1 200 OK\r\nContent-Type: text/plain\r\nETag: 900150983cd24fb0d6963f7d28e17f72\r\nLast-Modified: Tue, 27 May 2014 20:54:09 GMT\r\nX-Timestamp: 1401224048.22541\r\nX-Backend-Timestamp: 1401224048.22541\r\nContent-Length: 3\r\n\r\nabc";
+
+/// How a run of the program ended: what it wrote, what it said on the error sink, and its status.
+#[derive(Drop)]
+struct Ended {
+    status: u8,
+    out: MemSink,
+    errors: MemSink,
+}
+
+fn run(
+    alloc: Global,
+    words: &[&str],
+    source: &mut MemSource,
+    mut out: MemSink,
+) -> Result<Ended, Fail> {
+    let mut owned = Vec::new(alloc);
+    for word in words {
+        owned.push(word.to_string(alloc)?)?;
+    }
+    let mut errors = MemSink::new(alloc, Vec::new(alloc));
+    let status = cluster(alloc, &owned, source, &mut out, &mut errors);
+    Ok(Ended {
+        status,
+        out,
+        errors,
+    })
+}
+
+/// A source of this input, in pieces of this size (0: as it comes), whose read of this number fails.
+fn source(
+    alloc: Global,
+    input: &[u8],
+    piece: usize,
+    failing: Option<u64>,
+) -> Result<MemSource, Fail> {
+    let mut pieces = Vec::new(alloc);
+    if piece > 0 {
+        for _ in input {
+            pieces.push(piece)?;
+        }
+    }
+    let mut reads = Vec::new(alloc);
+    if let Some(read) = failing {
+        reads.push(read)?;
+    }
+    Ok(MemSource::new(Bytes::copy(alloc, input)?, pieces, reads))
+}
+
+fn sink(alloc: Global) -> MemSink {
+    MemSink::new(alloc, Vec::new(alloc))
+}
+
+#[test]
+fn requests_get_their_replies_and_a_status(rt: HostRuntime) -> Result<(), Fail> {
+    let alloc = rt.alloc();
+    let table: [(&[u8], &[u8], u8); 15] = [
+        (PUT_AND_GET, CREATED_AND_FOUND, COMPLETE),
+        // An empty body.
+        (
+            b"PUT /sda/0/a/c/o HTTP/1.1\r\nX-Timestamp: 5\r\nContent-Type: text/plain\r\nContent-Length: 0\r\n\r\n",
+            b"HTTP/1.1 201 Created\r\nETag: d41d8cd98f00b204e9800998ecf8427e\r\nContent-Length: 0\r\n\r\n",
+            COMPLETE,
+        ),
+        // The least and the greatest time.
+        (
+            b"PUT /sda/0/a/c/p HTTP/1.1\r\nX-Timestamp: 0\r\nContent-Type: text/plain\r\nContent-Length: 3\r\n\r\nabcPUT /sda/0/a/c/q HTTP/1.1\r\nX-Timestamp: 9999999999.99999\r\nContent-Type: text/plain\r\nContent-Length: 3\r\n\r\nabcGET /sda/0/a/c/p HTTP/1.1\r\n\r\nGET /sda/0/a/c/q HTTP/1.1\r\n\r\n",
+            b"HTTP/1.1 201 Created\r\nETag: 900150983cd24fb0d6963f7d28e17f72\r\nContent-Length: 0\r\n\r\nHTTP/1.1 201 Created\r\nETag: 900150983cd24fb0d6963f7d28e17f72\r\nContent-Length: 0\r\n\r\nHTTP/1.1 200 OK\r\nContent-Type: text/plain\r\nETag: 900150983cd24fb0d6963f7d28e17f72\r\nLast-Modified: Thu, 01 Jan 1970 00:00:00 GMT\r\nX-Timestamp: 0000000000.00000\r\nX-Backend-Timestamp: 0000000000.00000\r\nContent-Length: 3\r\n\r\nabcHTTP/1.1 200 OK\r\nContent-Type: text/plain\r\nETag: 900150983cd24fb0d6963f7d28e17f72\r\nLast-Modified: Sat, 20 Nov 2286 17:46:40 GMT\r\nX-Timestamp: 9999999999.99999\r\nX-Backend-Timestamp: 9999999999.99999\r\nContent-Length: 3\r\n\r\nabc",
+            COMPLETE,
+        ),
+        // Eleven digits and six decimals are no times.
+        (
+            b"PUT /sda/0/a/c/o HTTP/1.1\r\nX-Timestamp: 10000000000\r\nContent-Type: text/plain\r\nContent-Length: 3\r\n\r\nabcPUT /sda/0/a/c/o HTTP/1.1\r\nX-Timestamp: 1.123456\r\nContent-Type: text/plain\r\nContent-Length: 3\r\n\r\nabc",
+            b"HTTP/1.1 400 Bad Request\r\nContent-Length: 0\r\n\r\nHTTP/1.1 400 Bad Request\r\nContent-Length: 0\r\n\r\n",
+            COMPLETE,
+        ),
+        // The same PUT twice.
+        (
+            b"PUT /sda/0/a/c/o HTTP/1.1\r\nX-Timestamp: 1401224048.22541\r\nContent-Type: text/plain\r\nContent-Length: 3\r\n\r\nabcPUT /sda/0/a/c/o HTTP/1.1\r\nX-Timestamp: 1401224048.22541\r\nContent-Type: text/plain\r\nContent-Length: 3\r\n\r\nabc",
+            b"HTTP/1.1 201 Created\r\nETag: 900150983cd24fb0d6963f7d28e17f72\r\nContent-Length: 0\r\n\r\nHTTP/1.1 409 Conflict\r\nX-Backend-Timestamp: 1401224048.22541\r\nContent-Length: 0\r\n\r\n",
+            COMPLETE,
+        ),
+        // An earlier PUT of the name is refused, and another name isn't touched.
+        (
+            b"PUT /sda/0/a/c/o HTTP/1.1\r\nX-Timestamp: 5\r\nContent-Type: a/b\r\nContent-Length: 1\r\n\r\nxPUT /sda/0/a/c/o HTTP/1.1\r\nX-Timestamp: 4\r\nContent-Type: a/b\r\nContent-Length: 1\r\n\r\nyGET /sda/0/a/c/p HTTP/1.1\r\n\r\n",
+            b"HTTP/1.1 201 Created\r\nETag: 9dd4e461268c8034f5c8564e155c67a6\r\nContent-Length: 0\r\n\r\nHTTP/1.1 409 Conflict\r\nX-Backend-Timestamp: 0000000005.00000\r\nContent-Length: 0\r\n\r\nHTTP/1.1 404 Not Found\r\nContent-Length: 0\r\n\r\n",
+            COMPLETE,
+        ),
+        // A GET of a name that was never written.
+        (
+            b"GET /sda/0/a/c/o HTTP/1.1\r\n\r\n",
+            b"HTTP/1.1 404 Not Found\r\nContent-Length: 0\r\n\r\n",
+            COMPLETE,
+        ),
+        // Targets that name no object: another device, another partition, two segments, a query.
+        (
+            b"GET /sdb/0/a/c/o HTTP/1.1\r\n\r\nGET /sda/1/a/c/o HTTP/1.1\r\n\r\nGET /sda/0/a/c HTTP/1.1\r\n\r\nGET /sda/0/a/c/o?x HTTP/1.1\r\n\r\n",
+            b"HTTP/1.1 400 Bad Request\r\nContent-Length: 0\r\n\r\nHTTP/1.1 400 Bad Request\r\nContent-Length: 0\r\n\r\nHTTP/1.1 400 Bad Request\r\nContent-Length: 0\r\n\r\nHTTP/1.1 400 Bad Request\r\nContent-Length: 0\r\n\r\n",
+            COMPLETE,
+        ),
+        // No time, no type, an empty type, a time of deletion.
+        (
+            b"PUT /sda/0/a/c/o HTTP/1.1\r\nContent-Type: a/b\r\nContent-Length: 0\r\n\r\nPUT /sda/0/a/c/o HTTP/1.1\r\nX-Timestamp: 5\r\nContent-Length: 0\r\n\r\nPUT /sda/0/a/c/o HTTP/1.1\r\nX-Timestamp: 5\r\nContent-Type:\r\nContent-Length: 0\r\n\r\nPUT /sda/0/a/c/o HTTP/1.1\r\nX-Timestamp: 5\r\nContent-Type: a/b\r\nX-Delete-At: 9\r\nContent-Length: 0\r\n\r\n",
+            b"HTTP/1.1 400 Bad Request\r\nContent-Length: 0\r\n\r\nHTTP/1.1 400 Bad Request\r\nContent-Length: 0\r\n\r\nHTTP/1.1 400 Bad Request\r\nContent-Length: 0\r\n\r\nHTTP/1.1 400 Bad Request\r\nContent-Length: 0\r\n\r\n",
+            COMPLETE,
+        ),
+        // A rest that is no request.
+        (
+            b"PUT /sda/0/a/c/o HT",
+            b"HTTP/1.1 400 Bad Request\r\nContent-Length: 0\r\n\r\n",
+            BAD_INPUT,
+        ),
+        // The replies of earlier requests stand before it.
+        (
+            b"GET /sda/0/a/c/o HTTP/1.1\r\n\r\nPUT /sda/0/a/c/o HT",
+            b"HTTP/1.1 404 Not Found\r\nContent-Length: 0\r\n\r\nHTTP/1.1 400 Bad Request\r\nContent-Length: 0\r\n\r\n",
+            BAD_INPUT,
+        ),
+        // A body that ends early, and a version that isn't taken.
+        (
+            b"PUT /sda/0/a/c/o HTTP/1.1\r\nX-Timestamp: 5\r\nContent-Type: a/b\r\nContent-Length: 3\r\n\r\nab",
+            b"HTTP/1.1 400 Bad Request\r\nContent-Length: 0\r\n\r\n",
+            BAD_INPUT,
+        ),
+        (
+            b"GET /sda/0/a/c/o HTTP/1.0\r\n\r\n",
+            b"HTTP/1.1 400 Bad Request\r\nContent-Length: 0\r\n\r\n",
+            BAD_INPUT,
+        ),
+        // Line ends before, between and after requests.
+        (
+            b"\r\n\nGET /sda/0/a/c/o HTTP/1.1\r\n\r\n\r\n\r\n",
+            b"HTTP/1.1 404 Not Found\r\nContent-Length: 0\r\n\r\n",
+            COMPLETE,
+        ),
+        (b"", b"", COMPLETE),
+    ];
+    for (input, replies, status) in table {
+        let mut source = source(alloc, input, 0, None)?;
+        let ended = run(alloc, &["run", "S"], &mut source, sink(alloc))?;
+        assert_eq!(rt; ended.out.bytes(), replies);
+        assert_eq!(rt; ended.status, status);
+    }
+    Ok(())
+}
+
+#[test]
+fn the_pieces_of_the_input_make_no_difference(rt: HostRuntime) -> Result<(), Fail> {
+    let alloc = rt.alloc();
+    for piece in [1, 2, 3, 7, 50, 1000] {
+        let mut source = source(alloc, PUT_AND_GET, piece, None)?;
+        let ended = run(alloc, &["run", "S"], &mut source, sink(alloc))?;
+        assert_eq!(rt; ended.out.bytes(), CREATED_AND_FOUND);
+        assert_eq!(rt; ended.status, COMPLETE);
+    }
+    Ok(())
+}
+
+#[test]
+fn an_input_is_complete_only_between_requests(rt: HostRuntime) -> Result<(), Fail> {
+    let alloc = rt.alloc();
+    for length in 0..PUT_AND_GET.len() + 1 {
+        let mut source = source(alloc, &PUT_AND_GET[..length], 0, None)?;
+        let ended = run(alloc, &["run", "S"], &mut source, sink(alloc))?;
+        let whole = length == 0 || length == PUT_LENGTH || length == PUT_AND_GET.len();
+        assert_eq!(rt;
+            ended.status,
+            if whole { COMPLETE } else { BAD_INPUT },
+            "cut at {length}"
+        );
+    }
+    Ok(())
+}
+
+#[test]
+fn a_fault_ends_the_run_with_a_front_of_the_replies(rt: HostRuntime) -> Result<(), Fail> {
+    let alloc = rt.alloc();
+    for read in 0..4 {
+        let mut source = source(alloc, PUT_AND_GET, PUT_LENGTH, Some(read))?;
+        let ended = run(alloc, &["run", "S"], &mut source, sink(alloc))?;
+        assert_eq!(rt; ended.status, if read < 3 { READ_FAULT } else { COMPLETE });
+        assert!(rt; CREATED_AND_FOUND.starts_with(ended.out.bytes()));
+    }
+    for call in 0..3 {
+        let mut source = source(alloc, PUT_AND_GET, 0, None)?;
+        let out = MemSink::new(alloc, vec![in alloc; FailingPut { call, taken: 5 }]?);
+        let ended = run(alloc, &["run", "S"], &mut source, out)?;
+        assert_eq!(rt; ended.status, if call < 2 { WRITE_FAULT } else { COMPLETE });
+        assert!(rt; CREATED_AND_FOUND.starts_with(ended.out.bytes()));
+    }
+    Ok(())
+}
+
+#[test]
+fn words_of_no_command_are_refused(rt: HostRuntime) -> Result<(), Fail> {
+    let alloc = rt.alloc();
+    let table: [&[&str]; 6] = [
+        &[],
+        &["run"],
+        &["run", "S", "x"],
+        &["run", "-S"],
+        &["walk", "S"],
+        &["S", "run"],
+    ];
+    for words in table {
+        let mut source = source(alloc, PUT_AND_GET, 0, None)?;
+        let ended = run(alloc, words, &mut source, sink(alloc))?;
+        assert_eq!(rt; ended.status, USAGE);
+        assert_eq!(rt; ended.out.bytes(), b"".as_slice());
+        assert_eq!(rt; ended.errors.bytes(), b"sw: usage\n".as_slice());
+    }
+    Ok(())
+}
