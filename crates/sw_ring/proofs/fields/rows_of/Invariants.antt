@@ -1,0 +1,8 @@
+-- What was read, followed by what is read of the items that are left, is what is read of all.
+use Rattle.std.proofs.Common.{◌≡◌, ◌++◌, drop, option_map}
+use Rattle.serde_json.specs.View.{items_view}
+use Rattle.sw_ring.specs.Shapes.{items_in, row_in}
+use Rattle.sw_ring.proofs.fields.rows_of.Given as goal
+
+abbrev pub invariant-loop-item : goal.invariant-loop-item
+invariant-loop-item l = option_map (λ rest. l.rows.items ++ rest) (items_in row_in (items_view (drop l.item-index l.items))) ≡ items_in row_in (items_view l.items)
