@@ -9,6 +9,9 @@ use sw_outside::{Failed, NoMemory, Source};
 /// How many bytes one read asks for, at most.
 pub(crate) const PIECE: usize = 8_192;
 
+/// Room for one piece.
+static ZEROS: [u8; PIECE] = [0; PIECE];
+
 /// Why a step of the reader gave nothing.
 #[derive(Clone, Copy, Debug, PartialEq, Eq)]
 pub(crate) enum ReadError {
@@ -41,6 +44,7 @@ pub(crate) fn read_behind<R: Source>(
     room: usize,
 ) -> Result<usize, ReadError>
     requires some { 0 < room }
+    requires piece { room ≤ PIECE }
     requires fits { vec_len bytes.old + room < 2 ^ 64 }
     ensures read { ReadsBehind bytes.old.items bytes.new.items (R.left source.old) (R.left source.new) result }
     ensures bound { IfOk result (λ n. n ≤ room) }
@@ -48,7 +52,7 @@ pub(crate) fn read_behind<R: Source>(
     ensures read_fault { result ≡ Err ReadError.Failed → HasRisen (R.faults source.old) (R.faults source.new) }
 {
     let had = bytes.len();
-    bytes.resize(had + room, 0)?;
+    bytes.extend_from_slice(&ZEROS[..room])?;
     match source.read(&mut bytes[had..]) {
         Ok(given) => {
             bytes.truncate(had + given);
@@ -66,7 +70,10 @@ pub(crate) fn drop_front(bytes: &mut Vec<u8>, n: usize)
     requires { n ≤ vec_len bytes.old }
     ensures { bytes.new.items ≡ drop n bytes.old.items }
 {
-    let kept = bytes.len() - n;
-    bytes.copy_within(n.., 0);
-    bytes.truncate(kept);
+    // Nothing is moved where nothing goes: a source that gives a byte a read would pay for all that is held each time.
+    if n > 0 {
+        let kept = bytes.len() - n;
+        bytes.copy_within(n.., 0);
+        bytes.truncate(kept);
+    }
 }

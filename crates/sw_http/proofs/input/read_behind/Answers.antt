@@ -8,10 +8,10 @@ pub returns-in-Ok-clause-read : goal.returns-in-Ok-clause-read
 returns-in-Ok-clause-read g c =
     let given = c.in-Ok.given in
     let front : take c.len-had.result c.deref_mut.result.now ≡ c.args.bytes.now.items =
-    grind (arith, common_steps, c.in_ok-resize.ensures.items, c.deref_mut.ensures.value) in
+    grind (arith, common_steps, c.in_ok-extend_from_slice.ensures.items, c.deref_mut.ensures.value) in
     let room : length c.read.new.into ≡ c.args.room = grind (arith, common_steps) in
     let bound : given ≤ length c.read.new.into = c.in-Ok.ensures.count in
-    let fits : c.len-had.result + given ≤ c.resize.new.self.len = grind (arith, common_steps) in
+    let fits : c.len-had.result + given ≤ c.extend_from_slice.new.self.len = grind (arith, common_steps) in
     let size : length (take c.len-had.result c.deref_mut.result.now) ≡ c.len-had.result = grind (arith, common_steps) in
     let some : 0 < length c.read.new.into = omega arith in
     record {
