@@ -20,6 +20,7 @@ mod sink;
 mod sound_sink;
 mod sound_source;
 mod source;
+mod store_error;
 #[cfg(test)]
 mod tests;
 mod text;
@@ -35,5 +36,6 @@ pub use sink::Sink;
 pub use sound_sink::SoundSink;
 pub use sound_source::SoundSource;
 pub use source::Source;
+pub use store_error::StoreError;
 pub use text::is_utf8;
 pub use writer_sink::WriterSink;
