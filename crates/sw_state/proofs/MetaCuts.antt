@@ -1,7 +1,7 @@
 -- A meta that a base covers makes no difference below a higher base.
-use Rattle.std.proofs.Common.{◌≡◌, ℕ, ◌≤◌, ◌<◌, Bool, true, false, cond, ◌&&◌, refl, sym, ◌∙◌, ap, arith, Option, None, Some, nat_lt}
+use Rattle.std.proofs.Common.{◌≡◌, ℕ, Bool, true, false, cond, ◌&&◌, refl, sym, ◌∙◌, arith, Option, None, Some, nat_lt}
 use Rattle.std.proofs.lemmas.Bool.Decides.{nat_tests}
-use Rattle.sw_state.specs.Bases.{base_time, higher}
+use Rattle.sw_state.specs.Bases.{higher}
 use Rattle.sw_state.specs.Metas.{Meta, above_base, later}
 use Rattle.sw_state.specs.declared.base.Base.{Base}
 use Rattle.sw_state.proofs.BaseOrder.{above_base-none, above_base-some, after, after-higher}

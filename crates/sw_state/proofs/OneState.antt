@@ -1,9 +1,8 @@
 -- Of writes that agree there is one state, whatever their order.
-use Rattle.std.proofs.Common.{◌≡◌, ℕ, ◌≤◌, ◌<◌, Bool, true, false, List, [], ◌∷◌, ◌++◌, refl, sym, ◌∙◌, ap, subst, arith, Option, None, Some, nat_lt}
-use Rattle.std.specs.Prelude.{Contains, ◌↔◌}
+use Rattle.std.proofs.Common.{◌≡◌, ℕ, ◌<◌, false, List, refl, sym, ◌∙◌, ap, subst, arith, Option, None, Some}
 use Rattle.std.proofs.lemmas.Bool.Decides.{nat_tests}
 use Rattle.sw_state.specs.Bases.{base_at, base_tag, base_time, is_above}
-use Rattle.sw_state.specs.Metas.{Meta, is_later, meta_at}
+use Rattle.sw_state.specs.Metas.{Meta, meta_at}
 use Rattle.sw_state.specs.States.{Agree, IsBaseOf, IsStateOf, IsTopOf, SameWrites, state_of}
 use Rattle.sw_state.specs.Writes.{tag_of}
 use Rattle.sw_state.specs.declared.base.Base.{Base}
@@ -12,7 +11,6 @@ use Rattle.sw_state.specs.declared.state.State.{State}
 use Rattle.sw_state.specs.declared.write.Kind.{Kind}
 use Rattle.sw_state.specs.declared.write.Kind.TheVariants as kinds
 use Rattle.sw_state.specs.declared.write.Write.{Write}
-use Rattle.sw_timestamp.specs.declared.tag.Tag.{Tag}
 use Rattle.sw_timestamp.specs.declared.tag.Tag.TheVariants as tags
 use Rattle.sw_state.proofs.StateLaws.{same_state}
 use Rattle.sw_state.proofs.StateOf.{is_state, not_none}

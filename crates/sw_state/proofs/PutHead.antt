@@ -1,14 +1,13 @@
 -- Where an item is put.
-use Rattle.std.proofs.Common.{◌≡◌, ℕ, ◌+◌, ◌<◌, ◌≤◌, zero, suc, Bool, true, false, cond, ◌&&◌, List, [], ◌∷◌, ◌++◌, length, take, drop, set, get_or, refl, sym, ◌∙◌, ap, arith, subst, ◌⊎◌, inl, inr}
+use Rattle.std.proofs.Common.{◌≡◌, ℕ, ◌+◌, ◌<◌, zero, suc, Bool, true, false, cond, ◌&&◌, List, [], ◌∷◌, ◌++◌, length, take, drop, set, refl, ◌∙◌, ap, arith, subst}
 use Rattle.std.specs.List.{list_all, filter, prefix_len}
 use Rattle.std.specs.Str.{bytes_eq}
 use Rattle.std.specs.Prelude.{insert}
-use Rattle.std.proofs.lemmas.List.Folds.{list_all-append}
 use Rattle.std.proofs.lemmas.Slice.Eq.{bytes_eq-Decides}
 use Rattle.sw_state.specs.HeadNames.{are_heads, is_before, is_name, is_name_at, with_head}
 use Rattle.sw_state.specs.declared.head.Head.{Head}
 use Rattle.sw_state.proofs.HeadOrder.{all_after-trans}
-use Rattle.sw_state.proofs.NameOrder.{before-asym, before-itself, before-other, before-trans, both, both_from}
+use Rattle.sw_state.proofs.NameOrder.{before-asym, before-itself, before-other, before-trans, both}
 
 -- what comes before a name, and what comes after it
 abbrev pub below : List ℕ → Head → Bool

@@ -1,16 +1,14 @@
 -- States of lists of writes.
-use Rattle.std.proofs.Common.{◌≡◌, ℕ, ◌≤◌, ◌<◌, Bool, true, false, cond, ◌&&◌, List, [], ◌∷◌, ◌++◌, refl, sym, ◌∙◌, ap, subst, arith, Option, None, Some, nat_lt, append_assoc}
+use Rattle.std.proofs.Common.{◌≡◌, true, List, [], ◌∷◌, ◌++◌, refl, sym, ◌∙◌, ap, subst, Option, None, Some, append_assoc}
 use Rattle.std.proofs.Math.Bool.{Bool-set}
-use Rattle.std.proofs.lemmas.Bool.Decides.{nat_tests}
-use Rattle.std.proofs.lemmas.List.{append-nil}
-use Rattle.sw_state.specs.Bases.{base_at, base_time, higher, is_above}
-use Rattle.sw_state.specs.Metas.{Meta, above_base, is_later, is_later-above_base, later, meta_at}
-use Rattle.sw_state.specs.States.{base_of, base_writes, joined, latest_meta, meta_writes, state_of, state_with, together, top_of, writes_of}
+use Rattle.sw_state.specs.Bases.{base_at, higher}
+use Rattle.sw_state.specs.Metas.{Meta, above_base, is_later, later, meta_at}
+use Rattle.sw_state.specs.States.{base_of, base_writes, joined, latest_meta, meta_writes, state_of, together, writes_of}
 use Rattle.sw_state.specs.declared.base.Base.{Base}
 use Rattle.sw_state.specs.declared.base.Base.TheVariants as bases
 use Rattle.sw_state.specs.declared.state.State.{State}
 use Rattle.sw_state.specs.declared.write.Write.{Write}
-use Rattle.sw_state.proofs.BaseOrder.{above-trans, higher-assoc, higher-itself, higher-none, later-assoc, later-itself, later-none}
+use Rattle.sw_state.proofs.BaseOrder.{higher-assoc, higher-itself, higher-none, later-assoc, later-itself, later-none}
 use Rattle.sw_state.proofs.MetaCuts.{cut_both, cut_left}
 
 -- a base and a meta that is later than it

@@ -1,23 +1,15 @@
 -- The state of writes is the highest base and the latest meta above it, and there is only one.
-use Rattle.std.proofs.Common.{length, get_or, zero, suc, ◌≡◌, ℕ, ◌≤◌, ◌<◌, ◌⊎◌, inl, inr, Bool, true, false, cond, List, [], ◌∷◌, ◌++◌, refl, sym, ◌∙◌, ap, subst, arith, Option, None, Some, nat_lt}
-use Rattle.std.specs.Prelude.{Contains, ◌↔◌}
+use Rattle.std.proofs.Common.{length, get_or, zero, suc, ◌≡◌, ℕ, ◌<◌, ◌⊎◌, inl, inr, Bool, true, false, cond, List, [], ◌∷◌, refl, sym, ◌∙◌, subst, arith, Option, None, Some, nat_lt}
+use Rattle.std.specs.Prelude.{Contains}
 use Rattle.std.proofs.lemmas.Bool.Decides.{nat_tests}
-use Rattle.std.proofs.lemmas.List.Elements.{Contains-append_left, Contains-append_right, Contains-append_cases}
-use Rattle.sw_state.specs.Bases.{base_at, base_time, higher, is_above, is_deletion}
+use Rattle.std.proofs.lemmas.List.Elements.{Contains-append_left, Contains-append_right}
+use Rattle.sw_state.specs.Bases.{base_at, higher, is_above}
 use Rattle.sw_state.specs.Metas.{Meta, above_base, is_later, later, meta_at}
-use Rattle.sw_state.specs.States.{Agree, IsBaseOf, IsStateOf, IsTopOf, SameWrites, base_of, latest_meta, state_of}
-use Rattle.sw_state.specs.Writes.{tag_of}
+use Rattle.sw_state.specs.States.{IsBaseOf, IsStateOf, IsTopOf, base_of, latest_meta, state_of}
 use Rattle.sw_state.specs.declared.base.Base.{Base}
-use Rattle.sw_state.specs.declared.base.Base.TheVariants as bases
-use Rattle.sw_state.specs.declared.state.State.{State}
-use Rattle.sw_state.specs.declared.write.Kind.{Kind}
-use Rattle.sw_state.specs.declared.write.Kind.TheVariants as kinds
 use Rattle.sw_state.specs.declared.write.Write.{Write}
-use Rattle.sw_timestamp.specs.declared.tag.Tag.{Tag}
-use Rattle.sw_timestamp.specs.declared.tag.Tag.TheVariants as tags
-use Rattle.sw_state.proofs.BaseOrder.{above-asym, above-itself, above-not, above-trans, after, is_later-some}
+use Rattle.sw_state.proofs.BaseOrder.{above-asym, above-itself, above-not, is_later-some}
 use Rattle.sw_state.proofs.MetaCuts.{after-earlier}
-use Rattle.sw_state.proofs.StateLaws.{same_state}
 
 -- an element of a list of one more
 pub in_front : (w : Write) (ws : List Write) → Contains (w ∷ ws) w

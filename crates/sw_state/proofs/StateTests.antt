@@ -1,9 +1,9 @@
 -- The tests of a state: which bases and metas would change it.
-use Rattle.std.proofs.Common.{arith, ◌≡◌, ℕ, Bool, true, false, cond, ◌&&◌, not, List, [], ◌∷◌, ◌++◌, refl, sym, ◌∙◌, ap, Option, None, Some, nat_lt}
+use Rattle.std.proofs.Common.{arith, ◌≡◌, ℕ, Bool, true, false, ◌&&◌, not, refl, sym, ◌∙◌, ap, Option, None, Some, nat_lt}
 use Rattle.std.specs.Option.{option_map_or}
 use Rattle.std.specs.Prelude.{◌↔◌, IsTrue}
 use Rattle.std.proofs.lemmas.Bool.Decides.{nat_tests}
-use Rattle.sw_state.specs.Bases.{base_at, base_time, higher, is_above, is_deletion, is_new_base}
+use Rattle.sw_state.specs.Bases.{base_at, base_time, higher, is_deletion, is_new_base}
 use Rattle.sw_state.specs.Laws.{NewChanges}
 use Rattle.sw_state.specs.Metas.{Meta, above_base, is_after_base, is_after_meta, is_later, later, meta_at}
 use Rattle.sw_state.specs.States.{IsAtLeast, is_new, joined, state_with, together}

@@ -3,10 +3,8 @@
 use Rattle.std.specs.Prelude.{ℕ, Bool, true, false, ◌&&◌, ◌||◌, ◌==◌, not, nat_lt, if◌then◌else◌, Option, None, Some}
 use Rattle.sw_state.specs.declared.base.Base.{Base}
 use Rattle.sw_state.specs.declared.base.Base.TheVariants as bases
-use Rattle.sw_state.specs.declared.heads.Heads.{Heads}
 use Rattle.sw_state.specs.declared.write.Kind.{Kind}
 use Rattle.sw_state.specs.declared.write.Kind.TheVariants as kinds
-use Rattle.sw_state.specs.declared.write.Write.{Write}
 use Rattle.sw_timestamp.specs.declared.tag.Tag.{Tag}
 use Rattle.sw_timestamp.specs.declared.tag.Tag.TheVariants as tags
 

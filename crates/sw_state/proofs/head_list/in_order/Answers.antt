@@ -1,4 +1,3 @@
-use Rattle.std.proofs.Common.{◌≡◌, length}
 use Rattle.std.specs.Option.{option_copied}
 use Rattle.sw_state.proofs.HeadOrder.{all_passed, bad_name, bad_order}
 use Rattle.sw_state.proofs.head_list.in_order.Goals as goal

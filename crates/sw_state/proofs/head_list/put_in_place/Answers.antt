@@ -1,4 +1,4 @@
-use Rattle.std.proofs.Common.{◌≡◌, ◌∙◌, length, refl, sym}
+use Rattle.std.proofs.Common.{◌∙◌, refl, sym}
 use Rattle.sw_state.proofs.PutHead.{put_between, put_over}
 use Rattle.sw_state.proofs.head_list.put_in_place.Goals as goal
 

@@ -1,4 +1,3 @@
-use Rattle.std.proofs.Common.{◌≡◌, true}
 use Rattle.sw_state.proofs.HeadsKept.{are_heads-put}
 use Rattle.sw_state.proofs.head_list.HeadList.put.Goals as goal
 
