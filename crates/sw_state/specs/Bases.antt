@@ -26,7 +26,7 @@ base_at time (kinds.Put content) = Some (bases.Put time content)
 base_at time kinds.Del = Some (bases.Del time)
 base_at time (kinds.Meta heads) = None
 
--- whether one base is above another: it is later, or a deletion at the time of a put
+-- whether one base is above another: the later one is, and where both have one time the deletion of a put
 abbrev pub is_above : Base → Base → Bool
 is_above b a = nat_lt (base_time a) (base_time b) || ((base_time a == base_time b) && (is_deletion b && not (is_deletion a)))
 

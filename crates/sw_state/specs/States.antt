@@ -13,7 +13,7 @@ use Rattle.sw_state.specs.declared.write.Write.{Write}
 use Rattle.sw_timestamp.specs.declared.tag.Tag.{Tag}
 use Rattle.sw_timestamp.specs.declared.tag.Tag.TheVariants as tags
 
--- the put or deletion of the greatest time, at one time a deletion above a put, and the first of equals
+-- the highest of the puts and deletions, and the first of equals
 abbrev pub base_of : List Write → Option Base
 base_of [] = None
 base_of (w ∷ ws) = higher (base_at w.time w.kind) (base_of ws)

@@ -1,4 +1,4 @@
-ghost use Rattle.std.specs.Prelude.{◌≡◌, ◌↔◌, IsTrue, IfOk};
+ghost use Rattle.std.specs.Prelude.{◌≡◌, IfOk};
 ghost use Rattle.std.specs.Str.{IsUtf8};
 
 use crate::heads::Heads;
@@ -9,7 +9,7 @@ use sw_outside::{Bytes, NoMemory};
 #[derive(Debug, Drop)]
 pub struct Content {
     pub body: Bytes,
-    /// The media type, which is UTF-8.
+    /// The media type, which is UTF-8: `sw_outside::is_utf8` tells.
     pub content_type: Bytes,
     /// The MD5 that the object was stored with.
     pub etag: [u8; 16],
@@ -18,13 +18,6 @@ pub struct Content {
 }
 
 impl Content {
-    /// Whether the bytes can be a content type: they are UTF-8.
-    pub fn is_content_type(bytes: &[u8]) -> bool
-        ensures { IsTrue result ↔ IsUtf8 bytes.now }
-    {
-        str::from_utf8(bytes).is_ok()
-    }
-
     /// A content that is equal to this one, or [`NoMemory`].
     pub fn copy(&self, alloc: Global) -> Result<Content, NoMemory>
         ensures { IfOk result (λ copy. copy ≡ self.now) }

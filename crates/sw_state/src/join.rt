@@ -22,7 +22,8 @@ impl State {
         }
     }
 
-    /// Makes the state the one with that write, and answers whether it changed. It takes no memory.
+    /// Adds a write: the state becomes that of the writes so far with this one at the end. The answer tells whether
+    /// anything is new. The parts are moved, so no memory is needed.
     pub fn join(&mut self, write: Write) -> bool
         ensures state { self.new ≡ joined self.old write }
         ensures told { result ≡ is_new self.old write.time (tag_of write.kind) }

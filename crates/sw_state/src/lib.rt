@@ -1,7 +1,7 @@
 //! The state of a name: what is left of the writes that reached it.
 //!
 //! A [`Write`] puts an object, deletes it or gives it other metadata, at its time. Of all writes of a name two count, and
-//! they are its [`State`]: the base, which is the put or deletion of the greatest time (at one time a deletion), and the
+//! they are its [`State`]: the base, which is the latest put or deletion (where two have one time, the deletion), and the
 //! latest meta that is later than the base. [`State::join`] adds a write, [`State::adds`] and [`State::at_least`] say
 //! beforehand what would change, and all three decide by times and tags alone.
 //!
