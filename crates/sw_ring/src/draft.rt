@@ -9,7 +9,7 @@ use crate::fields::{has_key_count, names_at, number_at, secrets_of, table_at};
 use crate::narrowing::narrow_table;
 use crate::number_row::NumberRow;
 use crate::ring::Ring;
-use crate::row_tests::{has_equal_names, has_row_with_repeat, has_unknown_device, have_length};
+use crate::row_checks::{has_equal_names, has_row_with_repeat, has_unknown_device, have_length};
 use serde_json::Value;
 use std::alloc::Global;
 use std::marker::Model;

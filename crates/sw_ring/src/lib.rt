@@ -14,8 +14,8 @@ mod narrowing;
 mod number_row;
 mod reading;
 mod ring;
+mod row_checks;
 mod row_table;
-mod row_tests;
 #[cfg(test)]
 mod tests;
 

@@ -12,7 +12,9 @@ use std::alloc::Global;
 
 /// Reads the text of a ring.
 ///
-/// The error is [`RingError::Bad`] with the first thing that is wrong with the text, or [`RingError::NoMemory`].
+/// The error is [`RingError::Bad`] with the first thing that is wrong with the text, or [`RingError::NoMemory`]. Where
+/// the text names very many devices or replicas, which makes it no ring, the time to find the first cause is quadratic in
+/// their number: a ring comes from the operator and not from a client.
 pub fn read(alloc: Global, bytes: &[u8]) -> Result<Ring, RingError>
     ensures ring { IfOk result (λ ring. ring_text bytes.now ≡ Ok (data_of ring)) }
     ensures bad { (bad : BadRing) → result ≡ Err (RingError.Bad bad) → ring_text bytes.now ≡ Err bad }

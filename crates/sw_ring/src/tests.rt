@@ -75,10 +75,13 @@ fn each_table_has_its_own_rows(rt: HostRuntime) -> Result<(), Fail> {
     let alloc = rt.alloc();
     let text = text_of(alloc, GOOD)?;
     let ring = read(alloc, text.as_bytes())?;
-    if ring.power == 1 {
-        assert_eq!(rt; ring.row(Which::Object, 1), [1, 0].as_slice());
-        assert_eq!(rt; ring.row(Which::Container, 1), [0, 1].as_slice());
-    }
+    assert_eq!(rt; ring.power, 1);
+    assert_eq!(rt; ring.row(Which::Object, 1), [1, 0].as_slice());
+    assert_eq!(rt; ring.row(Which::Container, 1), [0, 1].as_slice());
+    let rows: Vec<DeviceList> = ring.object.copy(alloc)?.into();
+    assert_eq!(rt; rows.len(), 2);
+    let first: Vec<u8> = rows[0].copy(alloc)?.into();
+    assert_eq!(rt; first.as_slice(), [0, 1].as_slice());
     Ok(())
 }
 

@@ -6,12 +6,12 @@ use crate::number_row::NumberRow;
 use sw_outside::Bytes;
 
 /// Whether each row of a table has this length.
-pub(crate) fn have_length(table: &[NumberRow], devices: u64) -> bool
-    ensures { result ≡ list_all (λ row. nat_eq (length row) devices) table.now }
+pub(crate) fn have_length(table: &[NumberRow], replicas: u64) -> bool
+    ensures { result ≡ list_all (λ row. nat_eq (length row) replicas) table.now }
 {
     table
         .iter()
-        .all(|row| row.as_slice().len() as u64 == devices)
+        .all(|row| row.as_slice().len() as u64 == replicas)
 }
 
 /// Whether two names are equal.
