@@ -1,4 +1,4 @@
-ghost use Rattle.std.specs.Prelude.{◌≡◌, ℕ, ◌≤◌, length, take, None, Ok, Err, IfOk, IfSome};
+ghost use Rattle.std.specs.Prelude.{◌≡◌, ◌↔◌, ℕ, ◌≤◌, IsTrue, length, take, None, Ok, Err, IfOk, IfSome};
 ghost use Rattle.std.specs.Io.KnownBytes.{Keeps, prepend_known};
 ghost use Rattle.httparse.specs.Pieces.{Stops, is_newline};
 ghost use Rattle.sw_outside.specs.Faults.{HasRisen};
@@ -24,6 +24,13 @@ pub(crate) enum Look {
     Never,
 }
 
+/// Whether a head of this size and this minor version is one that this server takes.
+fn is_taken(len: usize, version: u8) -> bool
+    ensures { IsTrue result ↔ ((len ≤ MAX_HEAD) × (version ≡ MINOR_VERSION)) }
+{
+    len <= MAX_HEAD && version == MINOR_VERSION
+}
+
 /// Looks for a head in front of bytes that don't begin with a line end.
 pub(crate) fn find_head(bytes: &[u8], headers: &mut [HeaderSpan]) -> Look
     requires room { length headers.old ≡ MAX_FIELDS }
@@ -32,7 +39,7 @@ pub(crate) fn find_head(bytes: &[u8], headers: &mut [HeaderSpan]) -> Look
 {
     match parse_request(bytes, headers) {
         Ok(Status::Complete(spans)) => {
-            if spans.len <= MAX_HEAD && spans.version == MINOR_VERSION {
+            if is_taken(spans.len, spans.version) {
                 Look::Whole(spans)
             } else {
                 Look::Never
@@ -60,6 +67,8 @@ fn find_new_head(bytes: &[u8], seen: usize, headers: &mut [HeaderSpan]) -> Look
 }
 
 /// Reads until a head stands in front of what is held. It answers `None` where none ever will.
+///
+/// Whatever the pieces are, the bytes are gone over once for each line that a head may have, and not once for each piece.
 pub(crate) fn read_head<R: Source>(
     held: &mut Held,
     source: &mut R,
