@@ -1,0 +1,78 @@
+ghost use Rattle.std.specs.Prelude.{◌≡◌, true, None};
+ghost use Rattle.sw_volume.specs.Tree.{contents};
+ghost use Rattle.sw_volume.specs.Volume.{IsSame};
+
+use crate::errors::VolumeError;
+use crate::tree::Tree;
+use crate::volume::{Listing, Volume};
+use std::alloc::Global;
+use std::marker::Model;
+use sw_outside::{Bytes, Failed};
+
+/// A volume in memory that never fails, and tells what it holds. Its count of faults is 0.
+#[derive(Debug, Drop)]
+pub struct SoundVolume {
+    tree: Tree,
+    lists: u64,
+}
+
+impl Model for SoundVolume {
+    ghost use Rattle.sw_volume.specs.MemState.{SoundState};
+
+    ghost Value = { SoundState };
+
+    ghost view = { λ v. record { folders = v.tree; lists = v.lists } };
+}
+
+impl SoundVolume {
+    /// An empty volume.
+    pub fn new(alloc: Global) -> SoundVolume
+        ensures empty { IsSame (λ _ _. None) (contents result.folders) }
+        ensures lists { result.lists ≡ 0 }
+    {
+        SoundVolume {
+            tree: Tree::new(alloc),
+            lists: 0,
+        }
+    }
+}
+
+impl Volume for SoundVolume {
+    ghost tells = { λ _. true };
+
+    ghost holds = { λ v. contents v.folders };
+
+    ghost faults = { λ _. 0 };
+
+    ghost lists = { λ v. v.lists };
+
+    fn list(&mut self, alloc: Global, dir: &[u8]) -> Result<Listing, VolumeError> {
+        self.lists = self.lists.saturating_add(1);
+        Ok(self.tree.list(alloc, dir)?)
+    }
+
+    fn read(
+        &mut self,
+        alloc: Global,
+        dir: &[u8],
+        file: &[u8],
+    ) -> Result<Option<Bytes>, VolumeError> {
+        Ok(self.tree.read(alloc, dir, file)?)
+    }
+
+    fn put(
+        &mut self,
+        alloc: Global,
+        dir: &[u8],
+        file: &[u8],
+        bytes: &[u8],
+    ) -> Result<(), VolumeError> {
+        self.tree.put(alloc, dir, file, bytes)?;
+        Ok(())
+    }
+
+    fn unlink(&mut self, dir: &[u8], file: &[u8]) -> Result<(), Failed> {
+        self.tree.unlink(dir, file);
+        Ok(())
+    }
+}
