@@ -1,0 +1,3 @@
+pub mod Greatest
+pub mod Suffixes
+pub mod Names

@@ -1,0 +1,15 @@
+-- What is promised of the definitions on file names. (This project's own.)
+use Rattle.std.specs.Prelude.{◌≡◌, ◌≤◌, List}
+use Rattle.sw_diskfile.specs.FileNames.{name_text}
+use Rattle.sw_diskfile.specs.Picking.{IsPicked}
+use Rattle.sw_diskfile.specs.declared.file_name.FileName.{FileName}
+use Rattle.sw_diskfile.specs.declared.picking.Picked.{Picked}
+use Rattle.sw_timestamp.specs.declared.timestamp.TheConstants.{GREATEST}
+
+-- two files have two names
+abbrev pub NamesDiffer : Type 0
+NamesDiffer = (file other : FileName) → file.time ≤ GREATEST → other.time ≤ GREATEST → name_text file ≡ name_text other → file ≡ other
+
+-- the names of a directory leave no choice of what is picked
+abbrev pub OnePick : Type 0
+OnePick = (names : List FileName) (picked other : Picked) → IsPicked names picked → IsPicked names other → picked ≡ other

@@ -1,0 +1,17 @@
+//! The files of a hash directory: how they are named, and which of them make the object.
+//!
+//! A write's file is named by its time and an ending for its kind. [`read_name`] takes exactly the names that
+//! [`write_name`] writes, and [`pick`] finds the base, which is data or a tombstone, and the metadata that counts beside it.
+//! No call takes memory.
+//!
+//! The next layers up are `sw_cleanup`, which takes away what isn't picked, and `sw_suffix`, which hashes what is.
+#![tactic(auto)]
+
+mod file_name;
+pub mod laws;
+mod picking;
+#[cfg(test)]
+mod tests;
+
+pub use file_name::{FileName, NAME_ROOM, NotOurs, read_name, write_name};
+pub use picking::{Picked, pick};
