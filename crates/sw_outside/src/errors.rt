@@ -18,7 +18,7 @@ impl<T: Drop> From<AllocFailed<T>> for NoMemory {
     }
 }
 
-/// A call on a handed-in object failed in this call. The object's count of faults has risen.
+/// Something that the caller handed in failed while it was called. Its count of faults has risen by then.
 #[derive(Clone, Copy, Debug, PartialEq, Eq, Error)]
 #[error("a call on the outside failed")]
 pub struct Failed;
