@@ -1,5 +1,5 @@
 -- What a put of a status's line leaves on the error sink.
-use Rattle.std.proofs.Common.{◌≡◌, ℕ, List, [], length, take, Option, Result, Ok, Err, OnOk, OnErr, refl, sym, subst}
+use Rattle.std.proofs.Common.{ℕ, List, [], length, Option, Result, Ok, Err, OnOk, OnErr, sym, subst}
 use Rattle.std.proofs.Math.Seq.{take-length}
 use Rattle.std.proofs.KnownBytes.{Appends-nil}
 use Rattle.std.specs.Io.KnownBytes.{Appends}

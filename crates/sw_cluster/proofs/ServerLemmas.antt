@@ -1,5 +1,5 @@
 -- Times that a request doesn't give.
-use Rattle.std.proofs.Common.{◌≡◌, ℕ, List, Some, sym, ◌∙◌, subst}
+use Rattle.std.proofs.Common.{◌≡◌, ℕ, List, Some, subst}
 use Rattle.std.specs.Prelude.{codes}
 use Rattle.sw_timestamp.specs.TimeText.{IsTimeText}
 use Rattle.sw_http.specs.Fields.{field_value_of}

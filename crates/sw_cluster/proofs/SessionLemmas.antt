@@ -1,5 +1,5 @@
 -- How the turns of a session's loop make up a session.
-use Rattle.std.proofs.Common.{◌≡◌, ℕ, ◌+◌, ◌<◌, List, [], ◌∷◌, ◌++◌, length, map, take, All, Option, IfSome, refl, sym, ap, ◌∙◌, subst, append_assoc, append-nil, length-append, arith, inl, inr, ◌⊎◌, Result, Ok, Err}
+use Rattle.std.proofs.Common.{◌≡◌, ℕ, ◌+◌, ◌<◌, List, [], ◌∷◌, ◌++◌, length, Option, IfSome, refl, sym, ap, ◌∙◌, subst, append_assoc, append-nil, length-append, inl, inr, Err}
 use Rattle.std.specs.List.{flat_map}
 use Rattle.std.specs.Io.KnownBytes.{Appends, Consumes, Keeps}
 use Rattle.std.proofs.KnownBytes.{Appends-trans, Appends-kept, Appends-nil, Consumes-nil, Consumes-trans}
@@ -15,39 +15,38 @@ use Rattle.sw_http.specs.declared.request.Request.{Request}
 use Rattle.sw_http.specs.declared.response.Response.{Response}
 use Rattle.sw_cluster.specs.declared.session.TheConstants.{MOST_REQUESTS}
 use Rattle.sw_cluster.specs.declared.store.Stored.{Stored}
-use Rattle.sw_cluster.specs.Server.{MayAnswer}
-use Rattle.sw_cluster.specs.Session.{Replies, Answered, Complete, Refused, Full, Stopped, Broken, IsSession, refusal}
+use Rattle.sw_cluster.specs.Session.{Serves, Replies, Answered, Complete, Refused, Full, Stopped, Broken, IsSession, refusal}
 use Rattle.sw_cluster.specs.Step.{Answers, AnswersPart, RefusesPart, IsStep}
 use Rattle.sw_cluster.specs.declared.session.SessionFault.{SessionFault}
 use Rattle.sw_cluster.specs.declared.session.SessionFault.TheVariants as faults
 
 -- the loop has come so far: this many requests were answered, and rest is what the input still has
-pub record Progress (input rest before now : Option (List ℕ)) (store : List Stored) (count : ℕ) : Type 0 where
+pub record Progress (may : Serves) (input rest before now : Option (List ℕ)) (store : List Stored) (count : ℕ) : Type 0 where
   pub requests : List Request
   pub begins : BeginsWith input requests rest
   pub count_is : length requests ≡ count
   pub text : List ℕ
-  pub replied : Replies [] requests text store
+  pub replied : Replies may [] requests text store
   pub written : Appends before now text
 
 -- ---- replies
 
-pub Replies-append : (store mid after : List Stored) (some more : List Request) (text others : List ℕ)
-    → Replies store some text mid → Replies mid more others after → Replies store (some ++ more) (text ++ others) after
-Replies-append store mid after [] more text others first second =
-    subst (λ (s : List Stored). Replies s more (text ++ others) after) first.1 (subst (λ (t : List ℕ). Replies mid more (t ++ others) after) (sym first.0) second)
-Replies-append store mid after (r ∷ rs) more text others first second = (
+pub Replies-append : (may : Serves) (store mid after : List Stored) (some more : List Request) (text others : List ℕ)
+    → Replies may store some text mid → Replies may mid more others after → Replies may store (some ++ more) (text ++ others) after
+Replies-append may store mid after [] more text others first second =
+    subst (λ (s : List Stored). Replies may s more (text ++ others) after) first.1 (subst (λ (t : List ℕ). Replies may mid more (t ++ others) after) (sym first.0) second)
+Replies-append may store mid after (r ∷ rs) more text others first second = (
   first.0,
   first.1,
   first.2 ++ others,
   first.3,
   ap (λ t. t ++ others) first.4 ∙ append_assoc (reply_text first.0) first.2 others,
-  Replies-append first.1 mid after rs more first.2 others first.5 second,
+  Replies-append may first.1 mid after rs more first.2 others first.5 second,
 )
 
-pub one_reply : (store after : List Stored) (request : Request) (response : Response)
-    → MayAnswer store request response after → Replies store (request ∷ []) (reply_text response) after
-one_reply store after request response answer =
+pub one_reply : (may : Serves) (store after : List Stored) (request : Request) (response : Response)
+    → may store request response after → Replies may store (request ∷ []) (reply_text response) after
+one_reply may store after request response answer =
     (response, after, [], answer, sym (append-nil (reply_text response)), (refl, refl))
 
 -- ---- requests
@@ -81,8 +80,8 @@ nothing_behind a b c text whole kept =
 
 -- ---- turns of the loop
 
-pub begun : (input out : Option (List ℕ)) → Progress input input out out [] 0
-begun input out = record {
+pub begun : (may : Serves) (input out : Option (List ℕ)) → Progress may input input out out [] 0
+begun may input out = record {
   requests = [];
   begins = begins_with_none input;
   count_is = refl;
@@ -91,82 +90,82 @@ begun input out = record {
   written = Appends-nil out;
 }
 
-pub more_answered : (input mid rest before then now : Option (List ℕ)) (store after : List Stored) (count : ℕ)
-    → Progress input mid before then store count → Answers store after mid rest then now → Progress input rest before now after (count + 1)
-more_answered input mid rest before then now store after count so_far turn = record {
+pub more_answered : (may : Serves) (input mid rest before then now : Option (List ℕ)) (store after : List Stored) (count : ℕ)
+    → Progress may input mid before then store count → Answers may store after mid rest then now → Progress may input rest before now after (count + 1)
+more_answered may input mid rest before then now store after count so_far turn = record {
   requests = so_far.requests ++ request_of turn.turn.parts ∷ [];
   begins = begins_with_more input mid rest so_far.requests turn.turn.parts so_far.begins turn.turn.are_parts turn.turn.taken;
   count_is = length-append so_far.requests (request_of turn.turn.parts ∷ []) ∙ ap (λ n. n + 1) so_far.count_is;
   text = so_far.text ++ reply_text turn.response;
-  replied = Replies-append [] store after so_far.requests _ so_far.text _ so_far.replied
-      (one_reply store after (request_of turn.turn.parts) turn.response turn.turn.answer);
+  replied = Replies-append may [] store after so_far.requests _ so_far.text _ so_far.replied
+      (one_reply may store after (request_of turn.turn.parts) turn.response turn.turn.answer);
   written = Appends-trans before then now so_far.text _ so_far.written turn.written;
 }
 
-pub answered : (input rest before now : Option (List ℕ)) (store : List Stored) (count : ℕ) (p : Progress input rest before now store count)
-    → Answered input rest p.requests p.text
-answered input rest before now store count p = record { begins = p.begins; after = store; replied = p.replied }
+pub answered : (may : Serves) (input rest before now : Option (List ℕ)) (store : List Stored) (count : ℕ) (p : Progress may input rest before now store count)
+    → Answered may input rest p.requests p.text
+answered may input rest before now store count p = record { begins = p.begins; after = store; replied = p.replied }
 
 -- ---- the ends of a session
 
-pub completed : (input rest before then now : Option (List ℕ)) (store : List Stored) (count : ℕ)
-    → Progress input rest before then store count → count < MOST_REQUESTS → IfSome rest IsSkipped → Keeps then now → Complete input before now
-completed input rest before then now store count p few skipped kept = record {
+pub completed : (may : Serves) (input rest before then now : Option (List ℕ)) (store : List Stored) (count : ℕ)
+    → Progress may input rest before then store count → count < MOST_REQUESTS → IfSome rest IsSkipped → Keeps then now → Complete may input before now
+completed may input rest before then now store count p few skipped kept = record {
   requests = p.requests;
   rest = rest;
   text = p.text;
-  answered = answered _ _ _ _ _ _ p;
+  answered = answered may _ _ _ _ _ _ p;
   few = subst (λ n. n < MOST_REQUESTS) (sym p.count_is) few;
   nothing_else = skipped;
   written = Appends-kept before then now p.text p.written kept;
 }
 
-pub refused : (input rest before then now : Option (List ℕ)) (store : List Stored) (count : ℕ)
-    → Progress input rest before then store count → count < MOST_REQUESTS → IfSome rest IsNoRequest → Appends then now refusal → Refused input before now
-refused input rest before then now store count p few none written = record {
+pub refused : (may : Serves) (input rest before then now : Option (List ℕ)) (store : List Stored) (count : ℕ)
+    → Progress may input rest before then store count → count < MOST_REQUESTS → IfSome rest IsNoRequest → Appends then now refusal → Refused may input before now
+refused may input rest before then now store count p few none written = record {
   requests = p.requests;
   rest = rest;
   text = p.text;
-  answered = answered _ _ _ _ _ _ p;
+  answered = answered may _ _ _ _ _ _ p;
   few = subst (λ n. n < MOST_REQUESTS) (sym p.count_is) few;
   no_request = none;
   written = Appends-trans before then now p.text refusal p.written written;
 }
 
-pub stopped : (input rest before then now : Option (List ℕ)) (store : List Stored) (count : ℕ)
-    → Progress input rest before then store count → count < MOST_REQUESTS → Keeps then now → Stopped input before now
-stopped input rest before then now store count p few kept = record {
+pub stopped : (may : Serves) (input rest before then now : Option (List ℕ)) (store : List Stored) (count : ℕ)
+    → Progress may input rest before then store count → count < MOST_REQUESTS → Keeps then now → Stopped may input before now
+stopped may input rest before then now store count p few kept = record {
   requests = p.requests;
   rest = rest;
   text = p.text;
-  answered = answered _ _ _ _ _ _ p;
+  answered = answered may _ _ _ _ _ _ p;
   few = subst (λ n. n < MOST_REQUESTS) (sym p.count_is) few;
   written = Appends-kept before then now p.text p.written kept;
 }
 
-pub filled : (input rest before now : Option (List ℕ)) (store : List Stored)
-    → Progress input rest before now store MOST_REQUESTS → Full input before now
-filled input rest before now store p = record {
+pub filled : (may : Serves) (input rest before now : Option (List ℕ)) (store : List Stored)
+    → Progress may input rest before now store MOST_REQUESTS → Full may input before now
+filled may input rest before now store p = record {
   requests = p.requests;
   rest = rest;
   text = p.text;
-  answered = answered _ _ _ _ _ _ p;
+  answered = answered may _ _ _ _ _ _ p;
   most = p.count_is;
   written = p.written;
 }
 
 -- a write failed at the reply to one more request
-pub broken_at_reply : (input mid rest before then now : Option (List ℕ)) (store after : List Stored) (count : ℕ)
-    → Progress input mid before then store count → AnswersPart store after mid rest then now → Broken input before now
-broken_at_reply input mid rest before then now store after count so_far turn = record {
+pub broken_at_reply : (may : Serves) (input mid rest before then now : Option (List ℕ)) (store after : List Stored) (count : ℕ)
+    → Progress may input mid before then store count → AnswersPart may store after mid rest then now → Broken may input before now
+broken_at_reply may input mid rest before then now store after count so_far turn = record {
   requests = so_far.requests ++ request_of turn.turn.parts ∷ [];
   rest = rest;
   text = so_far.text ++ reply_text turn.response;
   answered = record {
     begins = begins_with_more input mid rest so_far.requests turn.turn.parts so_far.begins turn.turn.are_parts turn.turn.taken;
     after = after;
-    replied = Replies-append [] store after so_far.requests _ so_far.text _ so_far.replied
-        (one_reply store after (request_of turn.turn.parts) turn.response turn.turn.answer);
+    replied = Replies-append may [] store after so_far.requests _ so_far.text _ so_far.replied
+        (one_reply may store after (request_of turn.turn.parts) turn.response turn.turn.answer);
   };
   tail = [];
   tail_is = inl refl;
@@ -175,48 +174,48 @@ broken_at_reply input mid rest before then now store after count so_far turn = r
 }
 
 -- a write failed at the refusal
-pub broken_at_refusal : (input rest before then now : Option (List ℕ)) (store : List Stored) (count : ℕ)
-    → Progress input rest before then store count → RefusesPart rest then now → Broken input before now
-broken_at_refusal input rest before then now store count p part = record {
+pub broken_at_refusal : (may : Serves) (input rest before then now : Option (List ℕ)) (store : List Stored) (count : ℕ)
+    → Progress may input rest before then store count → RefusesPart rest then now → Broken may input before now
+broken_at_refusal may input rest before then now store count p part = record {
   requests = p.requests;
   rest = rest;
   text = p.text;
-  answered = answered _ _ _ _ _ _ p;
+  answered = answered may _ _ _ _ _ _ p;
   tail = refusal;
   tail_is = inr (refl, part.no_request);
   written = part_behind before then now p.text refusal p.written part.written;
 }
 
 -- nothing more was written
-pub broken_between : (input rest before then now : Option (List ℕ)) (store : List Stored) (count : ℕ)
-    → Progress input rest before then store count → Keeps then now → Broken input before now
-broken_between input rest before then now store count p kept = record {
+pub broken_between : (may : Serves) (input rest before then now : Option (List ℕ)) (store : List Stored) (count : ℕ)
+    → Progress may input rest before then store count → Keeps then now → Broken may input before now
+broken_between may input rest before then now store count p kept = record {
   requests = p.requests;
   rest = rest;
   text = p.text;
-  answered = answered _ _ _ _ _ _ p;
+  answered = answered may _ _ _ _ _ _ p;
   tail = [];
   tail_is = inl refl;
   written = nothing_behind before then now p.text p.written kept;
 }
 
 -- a turn that ended the session by a fault ended it so
-pub ended_by : (input mid rest before then now : Option (List ℕ)) (store after : List Stored) (count : ℕ) (fault : SessionFault)
-    → Progress input mid before then store count → count < MOST_REQUESTS → IsStep store after mid rest then now (Err fault)
-    → IsSession input before now (Err fault)
-ended_by input mid rest before then now store after count faults.ReadFault p few step = stopped _ _ _ _ _ _ _ p few step
-ended_by input mid rest before then now store after count faults.WriteFault p few step =
+pub ended_by : (may : Serves) (input mid rest before then now : Option (List ℕ)) (store after : List Stored) (count : ℕ) (fault : SessionFault)
+    → Progress may input mid before then store count → count < MOST_REQUESTS → IsStep may store after mid rest then now (Err fault)
+    → IsSession may input before now (Err fault)
+ended_by may input mid rest before then now store after count faults.ReadFault p few step = stopped may _ _ _ _ _ _ _ p few step
+ended_by may input mid rest before then now store after count faults.WriteFault p few step =
     elim step [
-      | inl part ↦ broken_at_reply _ _ _ _ _ _ _ _ _ p part
-      | inr part ↦ broken_at_refusal _ _ _ _ _ _ _ p part
+      | inl part ↦ broken_at_reply may _ _ _ _ _ _ _ _ _ p part
+      | inr part ↦ broken_at_refusal may _ _ _ _ _ _ _ p part
     ]
-ended_by input mid rest before then now store after count faults.TooLong p few step = absurd step
-ended_by input mid rest before then now store after count faults.BadInput p few step = refused _ _ _ _ _ _ _ p few step.0 step.1
-ended_by input mid rest before then now store after count faults.NoMemory p few step =
+ended_by may input mid rest before then now store after count faults.TooLong p few step = absurd step
+ended_by may input mid rest before then now store after count faults.BadInput p few step = refused may _ _ _ _ _ _ _ p few step.0 step.1
+ended_by may input mid rest before then now store after count faults.NoMemory p few step =
     elim step [
-      | inl kept ↦ broken_between _ _ _ _ _ _ _ p kept
+      | inl kept ↦ broken_between may _ _ _ _ _ _ _ p kept
       | inr part ↦ elim part [
-        | inl reply ↦ broken_at_reply _ _ _ _ _ _ _ _ _ p reply
-        | inr refusal ↦ broken_at_refusal _ _ _ _ _ _ _ p refusal
+        | inl reply ↦ broken_at_reply may _ _ _ _ _ _ _ _ _ p reply
+        | inr refusal ↦ broken_at_refusal may _ _ _ _ _ _ _ p refusal
       ]
     ]

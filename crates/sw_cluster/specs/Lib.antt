@@ -1,10 +1,16 @@
 pub mod Ending
 pub mod Fault
+pub mod Locating
+pub mod Opening
+pub mod Places
 pub mod Replies
 pub mod Report
+pub mod Rings
 pub mod Server
 pub mod Session
 pub mod Step
 pub mod Store
 pub mod Target
+pub mod Targets
+pub mod Whereabouts
 pub mod Words

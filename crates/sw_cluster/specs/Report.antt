@@ -1,9 +1,11 @@
 -- What a command says on the error sink. (This project's own.)
-use Rattle.std.specs.Prelude.{ℕ, List, [], Option, codes, ◌==◌, ◌++◌, ◌∷◌, ◌≡◌, if◌then◌else◌}
+use Rattle.std.specs.Prelude.{ℕ, List, [], Option, codes, ◌==◌, ◌+◌, ◌++◌, ◌∷◌, if◌then◌else◌}
 use Rattle.std.specs.Io.KnownBytes.{Appends}
 use Rattle.sw_outside.specs.Faults.{HasRisen}
 use Rattle.sw_outside.specs.Taken.{AppendsPart}
-use Rattle.sw_cluster.specs.declared.status.TheConstants.{READ_FAULT, USAGE, WRITE_FAULT, TOO_LONG, BAD_INPUT, NO_MEMORY}
+use Rattle.sw_ring.specs.BadRings.{bad_ring_number}
+use Rattle.sw_ring.specs.declared.bad_ring.BadRing.{BadRing}
+use Rattle.sw_cluster.specs.declared.status.TheConstants.{READ_FAULT, USAGE, WRITE_FAULT, STORE_FAULT, TOO_LONG, BAD_INPUT, NO_MEMORY}
 
 -- the line of a status, with its line feed
 abbrev pub line_of : ℕ → List ℕ
@@ -11,9 +13,14 @@ line_of status =
     if status == READ_FAULT then codes "sw: read fault\n" else (
     if status == USAGE then codes "sw: usage\n" else (
     if status == WRITE_FAULT then codes "sw: write fault\n" else (
+    if status == STORE_FAULT then codes "sw: store fault\n" else (
     if status == TOO_LONG then codes "sw: session too long\n" else (
     if status == BAD_INPUT then codes "sw: bad input\n" else (
-    if status == NO_MEMORY then codes "sw: want of memory\n" else [])))))
+    if status == NO_MEMORY then codes "sw: want of memory\n" else []))))))
+
+-- the line of what is wrong with a ring: its number is a digit
+abbrev pub ring_line : BadRing → List ℕ
+ring_line bad = codes "sw: bad ring " ++ (48 + bad_ring_number bad) ∷ 10 ∷ []
 
 -- the line was taken; a front of it where the sink's count of faults rose
 pub record Reports (before now : Option (List ℕ)) (faults faults_now : ℕ) (line : List ℕ) : Type 0 where

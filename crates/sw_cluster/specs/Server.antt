@@ -1,7 +1,7 @@
 -- What the object server answers, and what it then holds. (OpenStack Swift's object server, in the profile of this product.)
 --
 -- A reply is a relation, since want of memory may be answered in place of any reply, and then nothing changes.
-use Rattle.std.specs.Prelude.{◌≡◌, ℕ, Bool, true, false, List, [], length, codes, Option, None, Some, MatchOption, MatchBool, ◌⊎◌, ◌&&◌, nat_lt, ◌==◌, if◌then◌else◌}
+use Rattle.std.specs.Prelude.{◌≡◌, ℕ, Bool, List, [], length, codes, Option, None, Some, MatchOption, MatchBool, ◌⊎◌, ◌&&◌, nat_lt, if◌then◌else◌}
 use Rattle.std.specs.Option.{option_and_then, option_map_or}
 use Rattle.std.specs.Str.{bytes_eq, is_utf8}
 use Rattle.md5.specs.Md5.{md5}
@@ -18,16 +18,16 @@ use Rattle.sw_http.specs.declared.request.Request.{Request}
 use Rattle.sw_http.specs.declared.request.Body.{Body}
 use Rattle.sw_http.specs.declared.request.Body.TheVariants.{Whole, TooLarge}
 use Rattle.sw_http.specs.declared.response.Response.{Response}
-use Rattle.sw_cluster.specs.Target.{name_of}
+use Rattle.sw_ring.specs.declared.ring.Ring.{Ring}
+use Rattle.sw_cluster.specs.Places.{IsPlace}
+use Rattle.sw_cluster.specs.Target.{is_target, parts_of}
+use Rattle.sw_cluster.specs.declared.place.Place.{Place}
+use Rattle.sw_cluster.specs.declared.place.Place.TheVariants.{Refused, At}
 use Rattle.sw_cluster.specs.Replies.{bare, created, at_time, IsFound}
 use Rattle.sw_cluster.specs.Store.{state_at, put_at}
 use Rattle.sw_cluster.specs.declared.store.Stored.{Stored}
 
 -- ---- what a request says
-
--- the name that a request asks for: a target with a query names none
-abbrev pub name_asked : Request → Option (List ℕ)
-name_asked r = if length r.query == 0 then name_of r.path else None
 
 -- the fields give a write this time
 abbrev pub IsTimeOf : List Field → ℕ → Type 0
@@ -65,35 +65,35 @@ abbrev pub Refuses : List Stored → Response → Response → List Stored → T
 Refuses store reply response after = (response ≡ reply) × (after ≡ store)
 
 -- the content is written
-abbrev pub Creates : List Stored → List ℕ → ℕ → List ℕ → List ℕ → Response → List Stored → Type 0
-Creates store name time body type response after =
+abbrev pub Creates : List Stored → ℕ → List ℕ → ℕ → List ℕ → List ℕ → Response → List Stored → Type 0
+Creates store device name time body type response after =
     (content : Content) × IsContent content body type × (response ≡ created content.etag)
-    × (after ≡ put_at store name (record { time = time; kind = kinds.Put content }))
+    × (after ≡ put_at store device name (record { time = time; kind = kinds.Put content }))
 
 -- a PUT is a conflict where what stands isn't earlier
-abbrev pub PutsContent : List Stored → List ℕ → ℕ → List ℕ → List ℕ → Response → List Stored → Type 0
-PutsContent store name time body type response after =
-    MatchOption (state_at store name).base (Creates store name time body type response after)
-    (λ base. MatchBool (nat_lt (base_time base) time) (Creates store name time body type response after)
+abbrev pub PutsContent : List Stored → ℕ → List ℕ → ℕ → List ℕ → List ℕ → Response → List Stored → Type 0
+PutsContent store device name time body type response after =
+    MatchOption (state_at store device name).base (Creates store device name time body type response after)
+    (λ base. MatchBool (nat_lt (base_time base) time) (Creates store device name time body type response after)
     (Refuses store (at_time 409 (base_time base)) response after))
 
 -- then its content type is looked at, and that it gives no time of deletion
-abbrev pub PutsBody : List Stored → List ℕ → ℕ → List Field → List ℕ → Response → List Stored → Type 0
-PutsBody store name time fields body response after =
+abbrev pub PutsBody : List Stored → ℕ → List ℕ → ℕ → List Field → List ℕ → Response → List Stored → Type 0
+PutsBody store device name time fields body response after =
     MatchOption (type_of fields) (Refuses store (bare 400) response after)
     (λ type. MatchBool (has_field (codes "x-delete-at") fields) (Refuses store (bare 400) response after)
-    (PutsContent store name time body type response after))
+    (PutsContent store device name time body type response after))
 
 -- before it its body
-abbrev pub PutsAt : List Stored → List ℕ → ℕ → List Field → Body → Response → List Stored → Type 0
-PutsAt store name time fields TooLarge response after = Refuses store (bare 413) response after
-PutsAt store name time fields (Whole body) response after = PutsBody store name time fields body response after
+abbrev pub PutsAt : List Stored → ℕ → List ℕ → ℕ → List Field → Body → Response → List Stored → Type 0
+PutsAt store device name time fields TooLarge response after = Refuses store (bare 413) response after
+PutsAt store device name time fields (Whole body) response after = PutsBody store device name time fields body response after
 
 -- and first of all its time
-abbrev pub Puts : List Stored → List ℕ → List Field → Body → Response → List Stored → Type 0
-Puts store name fields body response after =
+abbrev pub Puts : List Stored → ℕ → List ℕ → List Field → Body → Response → List Stored → Type 0
+Puts store device name fields body response after =
     (((time : ℕ) → ¬ (IsTimeOf fields time)) × Refuses store (bare 400) response after)
-    ⊎ ((time : ℕ) × IsTimeOf fields time × PutsAt store name time fields body response after)
+    ⊎ ((time : ℕ) × IsTimeOf fields time × PutsAt store device name time fields body response after)
 
 -- the base is shown
 abbrev pub ShowsBase : State → Base → Response → Type 0
@@ -104,17 +104,24 @@ ShowsBase state (bases.Del time) response = response ≡ at_time 404 time
 abbrev pub Shows : State → Response → Type 0
 Shows state response = MatchOption state.base (response ≡ bare 404) (λ base. ShowsBase state base response)
 
--- the one right reply to a request of a name, and what is held then
-abbrev pub AnswersName : List Stored → List ℕ → Request → Response → List Stored → Type 0
-AnswersName store name r response after =
-    MatchBool (bytes_eq r.method (codes "PUT")) (Puts store name r.fields r.body response after)
-    (Shows (state_at store name) response × (after ≡ store))
+-- the one right reply to a request of a name at a device, with this method, these fields and this body
+abbrev pub AnswersParts : List Stored → ℕ → List ℕ → List ℕ → List Field → Body → Response → List Stored → Type 0
+AnswersParts store device name method fields body response after =
+    MatchBool (bytes_eq method (codes "PUT")) (Puts store device name fields body response after)
+    (Shows (state_at store device name) response × (after ≡ store))
+
+-- at the device that its target names, where it is in its place
+abbrev pub AnswersAt : List Stored → List ℕ → Place → Request → Response → List Stored → Type 0
+AnswersAt store name (Refused status) r response after = Refuses store (bare status) response after
+AnswersAt store name (At device) r response after = AnswersParts store device name r.method r.fields r.body response after
 
 -- the one right reply to a request, and what is held then
-abbrev pub IsAnswer : List Stored → Request → Response → List Stored → Type 0
-IsAnswer store r response after =
-    MatchOption (name_asked r) (Refuses store (bare 400) response after) (λ name. AnswersName store name r response after)
+abbrev pub IsAnswer : Ring → List Stored → Request → Response → List Stored → Type 0
+IsAnswer ring store r response after =
+    MatchBool (is_target r)
+    ((place : Place) × IsPlace ring (parts_of r.path) place × AnswersAt store (parts_of r.path).name place r response after)
+    (Refuses store (bare 400) response after)
 
 -- a reply that may be given, and what is held then: the right one, or want of memory, which changes nothing
-abbrev pub MayAnswer : List Stored → Request → Response → List Stored → Type 0
-MayAnswer store r response after = IsAnswer store r response after ⊎ Refuses store (bare 500) response after
+abbrev pub MayAnswer : Ring → List Stored → Request → Response → List Stored → Type 0
+MayAnswer ring store r response after = IsAnswer ring store r response after ⊎ Refuses store (bare 500) response after

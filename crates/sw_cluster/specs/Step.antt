@@ -1,5 +1,5 @@
 -- What one turn of a session's loop does: one request is read, answered, and its reply written. (This project's own.)
-use Rattle.std.specs.Prelude.{◌≡◌, ℕ, Bool, true, false, List, ⊤, Option, IfSome, Result, Ok, Err, ◌⊎◌}
+use Rattle.std.specs.Prelude.{ℕ, Bool, true, false, List, Option, IfSome, Result, Ok, Err, ◌⊎◌}
 use Rattle.std.specs.Io.KnownBytes.{Appends, Consumes, Keeps}
 use Rattle.sw_outside.specs.Taken.{AppendsPart}
 use Rattle.sw_http.specs.Request.{Parts, AreParts, request_of, text_of, IsSkipped, IsNoRequest}
@@ -8,26 +8,25 @@ use Rattle.sw_http.specs.declared.response.Response.{Response}
 use Rattle.sw_cluster.specs.declared.session.SessionFault.{SessionFault}
 use Rattle.sw_cluster.specs.declared.session.SessionFault.TheVariants as faults
 use Rattle.sw_cluster.specs.declared.store.Stored.{Stored}
-use Rattle.sw_cluster.specs.Server.{MayAnswer}
-use Rattle.sw_cluster.specs.Session.{refusal}
+use Rattle.sw_cluster.specs.Session.{Serves, refusal}
 
 -- a request was taken off the input and answered
-pub record Turn (store after : List Stored) (input rest : Option (List ℕ)) (response : Response) : Type 0 where
+pub record Turn (may : Serves) (store after : List Stored) (input rest : Option (List ℕ)) (response : Response) : Type 0 where
   pub parts : Parts
   pub are_parts : AreParts parts
   pub taken : Consumes input rest (text_of parts)
-  pub answer : MayAnswer store (request_of parts) response after
+  pub answer : may store (request_of parts) response after
 
 -- the request's reply was written whole
-pub record Answers (store after : List Stored) (input rest before now : Option (List ℕ)) : Type 0 where
+pub record Answers (may : Serves) (store after : List Stored) (input rest before now : Option (List ℕ)) : Type 0 where
   pub response : Response
-  pub turn : Turn store after input rest response
+  pub turn : Turn may store after input rest response
   pub written : Appends before now (reply_text response)
 
 -- a front of it was written
-pub record AnswersPart (store after : List Stored) (input rest before now : Option (List ℕ)) : Type 0 where
+pub record AnswersPart (may : Serves) (store after : List Stored) (input rest before now : Option (List ℕ)) : Type 0 where
   pub response : Response
-  pub turn : Turn store after input rest response
+  pub turn : Turn may store after input rest response
   pub written : AppendsPart before now (reply_text response)
 
 -- the rest of the input is no request, and a front of the refusal was written
@@ -44,14 +43,14 @@ IsRefusal before now faults.ReadFault = ⊥
 IsRefusal before now faults.TooLong = ⊥
 
 -- what one turn of the loop did, by what it answered
-abbrev pub IsStep : List Stored → List Stored → Option (List ℕ) → Option (List ℕ) → Option (List ℕ) → Option (List ℕ)
+abbrev pub IsStep : Serves → List Stored → List Stored → Option (List ℕ) → Option (List ℕ) → Option (List ℕ) → Option (List ℕ)
     → Result Bool SessionFault → Type 0
-IsStep store after input rest before now (Ok true) = Answers store after input rest before now
-IsStep store after input rest before now (Ok false) = IfSome input IsSkipped × Keeps before now
-IsStep store after input rest before now (Err faults.BadInput) = IfSome input IsNoRequest × Appends before now refusal
-IsStep store after input rest before now (Err faults.ReadFault) = Keeps before now
-IsStep store after input rest before now (Err faults.WriteFault) =
-    AnswersPart store after input rest before now ⊎ RefusesPart input before now
-IsStep store after input rest before now (Err faults.NoMemory) =
-    Keeps before now ⊎ (AnswersPart store after input rest before now ⊎ RefusesPart input before now)
-IsStep store after input rest before now (Err faults.TooLong) = ⊥
+IsStep may store after input rest before now (Ok true) = Answers may store after input rest before now
+IsStep may store after input rest before now (Ok false) = IfSome input IsSkipped × Keeps before now
+IsStep may store after input rest before now (Err faults.BadInput) = IfSome input IsNoRequest × Appends before now refusal
+IsStep may store after input rest before now (Err faults.ReadFault) = Keeps before now
+IsStep may store after input rest before now (Err faults.WriteFault) =
+    AnswersPart may store after input rest before now ⊎ RefusesPart input before now
+IsStep may store after input rest before now (Err faults.NoMemory) =
+    Keeps before now ⊎ (AnswersPart may store after input rest before now ⊎ RefusesPart input before now)
+IsStep may store after input rest before now (Err faults.TooLong) = ⊥

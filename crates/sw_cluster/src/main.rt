@@ -1,22 +1,31 @@
 //! `sw`: the storage nodes of all devices of a ring, in one process.
 //!
-//! [`cluster::cluster`] is the top call: it carries the theorem of the whole program, over any source, sinks and words. `main` only makes
-//! the real ones. The modules below it, from the top: `session` reads and answers the requests of an input one after the other, `server`
-//! answers one, `store` keeps the names and their states.
+//! [`cluster::cluster`] is the top call: it carries the theorem of the whole program, over any words, source, sinks and stores. `main` only
+//! makes the real ones. Below it, from the top: `words` and `opening` tell the command and open its ring; `session` reads and answers the
+//! requests of an input one after the other; `server` answers one, at the place that `target` and `place` find; `store` keeps the names and
+//! their states; `locate` and `whereabouts` say where a name is.
 #![tactic(auto)]
 
 mod cluster;
+mod locate;
+mod mem_stores;
+mod opening;
+mod place;
 mod replies;
+mod ring_stores;
 mod server;
 mod session;
 mod status;
 mod store;
+mod stores;
 mod target;
 #[cfg(test)]
 mod tests;
+mod whereabouts;
 mod words;
 
 use cluster::{cluster, report};
+use ring_stores::RingStores;
 use status::NO_MEMORY;
 use std::io::ErrorKind;
 use std::process::ExitCode;
@@ -27,6 +36,7 @@ fn main(rt: HostRuntime) -> ExitCode {
     let mut source = ReaderSource::new(rt.stdin());
     let mut out = WriterSink::new(rt.stdout());
     let mut errors = WriterSink::new(rt.stderr());
+    let mut stores = RingStores::new(&rt);
     let words = match words_given(&rt) {
         Ok(words) => words,
         Err(error) if error.kind() == ErrorKind::OutOfMemory => {
@@ -36,7 +46,15 @@ fn main(rt: HostRuntime) -> ExitCode {
         // A word that isn't UTF-8 is a word of no command.
         Err(_) => Vec::new(rt.alloc()),
     };
-    ExitCode::from(cluster(rt.alloc(), &words, &mut source, &mut out, &mut errors))
+    let status = cluster(
+        rt.alloc(),
+        &words,
+        &mut source,
+        &mut out,
+        &mut errors,
+        &mut stores,
+    );
+    ExitCode::from(status)
 }
 
 /// The words of the command line, without the program's own name.

@@ -1,33 +1,40 @@
-ghost use Rattle.std.specs.Prelude.{◌≡◌, ℕ, true, ◌==◌, length, if◌then◌else◌, IfOk, IfSome, OnErr};
+ghost use Rattle.std.specs.Prelude.{◌≡◌, ℕ, true, IfOk, IfSome, OnErr};
 ghost use Rattle.std.specs.Option.{option_copied, option_map};
 ghost use Rattle.std.specs.Str.{is_utf8 as is_utf8_text};
 ghost use Rattle.sw_state.specs.Bases.{base_time as time_of_base};
-ghost use Rattle.sw_cluster.specs.Server.{Creates, IsAnswer, IsContent, IsTimeOf, MayAnswer, Puts, PutsAt, PutsBody, PutsContent, Shows, ShowsBase, is_type as is_type_text, object_time as object_time_of, type_of as type_of_fields};
+ghost use Rattle.sw_cluster.specs.Server.{AnswersParts, Creates, IsAnswer, IsContent, IsTimeOf, MayAnswer, Puts, PutsAt, PutsBody, PutsContent, Shows, ShowsBase, is_type as is_type_text, object_time as object_time_of, type_of as type_of_fields};
 ghost use Rattle.sw_cluster.specs.Store.{state_at};
-ghost use Rattle.sw_cluster.specs.Target.{name_of as name_of_target};
 
+use crate::place::{Place, place_of};
 use crate::replies::{at_time, bare, created, found};
 use crate::store::Store;
-use crate::target::name_of;
+use crate::target::target_of;
+use http::Method;
 use md5::{Digest, Md5};
 use std::alloc::Global;
 use sw_http::{Body, FieldList, Request, Response};
 use sw_outside::{Bytes, NoMemory, is_utf8};
+use sw_ring::Ring;
 use sw_state::{Base, Content, HeadList, Heads, Kind, State, Write};
 use sw_timestamp::{NotTimestamp, Timestamp};
 
 /// Answers one request: the one right reply, or the 500 of want of memory, which changes nothing.
-pub fn answer(alloc: Global, store: &mut Store, request: Request) -> Response
-    ensures { MayAnswer store.old request result store.new }
+pub fn answer(alloc: Global, ring: &Ring, store: &mut Store, request: Request) -> Response
+    ensures { MayAnswer ring.now store.old request result store.new }
 {
-    match try_answer(alloc, store, request) {
+    match try_answer(alloc, ring, store, request) {
         Ok(response) => response,
         Err(NoMemory) => bare(alloc, 500),
     }
 }
 
-fn try_answer(alloc: Global, store: &mut Store, request: Request) -> Result<Response, NoMemory>
-    ensures ok { IfOk result (λ response. IsAnswer store.old request response store.new) }
+fn try_answer(
+    alloc: Global,
+    ring: &Ring,
+    store: &mut Store,
+    request: Request,
+) -> Result<Response, NoMemory>
+    ensures ok { IfOk result (λ response. IsAnswer ring.now store.old request response store.new) }
     ensures err { OnErr result (store.new ≡ store.old) }
 {
     let Request {
@@ -38,24 +45,32 @@ fn try_answer(alloc: Global, store: &mut Store, request: Request) -> Result<Resp
         framed: _,
         body,
     } = request;
-    let Some(name) = name_asked(&path, &query) else {
+    let Some(target) = target_of(&path, &query) else {
         return Ok(bare(alloc, 400));
     };
-    if method.as_str() == "PUT" {
-        put(alloc, store, name, &fields, body)
-    } else {
-        show(alloc, store, name)
+    match place_of(ring, &target) {
+        Place::Refused(status) => Ok(bare(alloc, status)),
+        Place::At(device) => answer_name(alloc, store, device, target.name, &method, &fields, body),
     }
 }
 
-/// The name that a target with this path and query asks for.
-fn name_asked<'a>(path: &'a Bytes, query: &Bytes) -> Option<&'a [u8]>
-    ensures { option_copied result ≡ (if length query.now == 0 then name_of_target path.now else None) }
+/// A request of this name at this device.
+fn answer_name(
+    alloc: Global,
+    store: &mut Store,
+    device: u8,
+    name: &[u8],
+    method: &Method,
+    fields: &FieldList,
+    body: Body,
+) -> Result<Response, NoMemory>
+    ensures ok { IfOk result (λ response. AnswersParts store.old device name.now method.now fields.now body response store.new) }
+    ensures err { OnErr result (store.new ≡ store.old) }
 {
-    if query.as_slice().is_empty() {
-        name_of(path.as_slice())
+    if method.as_str() == "PUT" {
+        put(alloc, store, device, name, fields, body)
     } else {
-        None
+        show(alloc, store, device, name)
     }
 }
 
@@ -63,15 +78,16 @@ fn name_asked<'a>(path: &'a Bytes, query: &Bytes) -> Option<&'a [u8]>
 fn put(
     alloc: Global,
     store: &mut Store,
+    device: u8,
     name: &[u8],
     fields: &FieldList,
     body: Body,
 ) -> Result<Response, NoMemory>
-    ensures ok { IfOk result (λ response. Puts store.old name.now fields.now body response store.new) }
+    ensures ok { IfOk result (λ response. Puts store.old device name.now fields.now body response store.new) }
     ensures err { OnErr result (store.new ≡ store.old) }
 {
     match time_of(fields) {
-        Some(time) => put_at(alloc, store, name, time, fields, body),
+        Some(time) => put_at(alloc, store, device, name, time, fields, body),
         None => Ok(bare(alloc, 400)),
     }
 }
@@ -80,17 +96,18 @@ fn put(
 fn put_at(
     alloc: Global,
     store: &mut Store,
+    device: u8,
     name: &[u8],
     time: Timestamp,
     fields: &FieldList,
     body: Body,
 ) -> Result<Response, NoMemory>
-    ensures ok { IfOk result (λ response. PutsAt store.old name.now time fields.now body response store.new) }
+    ensures ok { IfOk result (λ response. PutsAt store.old device name.now time fields.now body response store.new) }
     ensures err { OnErr result (store.new ≡ store.old) }
 {
     match body {
         Body::TooLarge => Ok(bare(alloc, 413)),
-        Body::Whole(body) => put_body(alloc, store, name, time, fields, body),
+        Body::Whole(body) => put_body(alloc, store, device, name, time, fields, body),
     }
 }
 
@@ -98,12 +115,13 @@ fn put_at(
 fn put_body(
     alloc: Global,
     store: &mut Store,
+    device: u8,
     name: &[u8],
     time: Timestamp,
     fields: &FieldList,
     body: Bytes,
 ) -> Result<Response, NoMemory>
-    ensures ok { IfOk result (λ response. PutsBody store.old name.now time fields.now body response store.new) }
+    ensures ok { IfOk result (λ response. PutsBody store.old device name.now time fields.now body response store.new) }
     ensures err { OnErr result (store.new ≡ store.old) }
 {
     let Some(content_type) = type_of(fields) else {
@@ -112,47 +130,50 @@ fn put_body(
     if fields.has(b"x-delete-at") {
         return Ok(bare(alloc, 400));
     }
-    put_content(alloc, store, name, time, body, content_type)
+    put_content(alloc, store, device, name, time, body, content_type)
 }
 
 /// A PUT of this body and content type: a conflict where what stands isn't earlier.
 fn put_content(
     alloc: Global,
     store: &mut Store,
+    device: u8,
     name: &[u8],
     time: Timestamp,
     body: Bytes,
     content_type: &[u8],
 ) -> Result<Response, NoMemory>
     requires { is_utf8_text content_type.now ≡ true }
-    ensures ok { IfOk result (λ response. PutsContent store.old name.now time body content_type.now response store.new) }
+    ensures ok { IfOk result (λ response. PutsContent store.old device name.now time body content_type.now response store.new) }
     ensures err { OnErr result (store.new ≡ store.old) }
 {
-    if let Some(base) = base_time(store, name) {
+    if let Some(base) = base_time(store, device, name) {
         if time <= base {
             return at_time(alloc, 409, base);
         }
     }
-    create(alloc, store, name, time, body, content_type)
+    create(alloc, store, device, name, time, body, content_type)
 }
 
 /// Writes the content that this body makes.
 fn create(
     alloc: Global,
     store: &mut Store,
+    device: u8,
     name: &[u8],
     time: Timestamp,
     body: Bytes,
     content_type: &[u8],
 ) -> Result<Response, NoMemory>
     requires { is_utf8_text content_type.now ≡ true }
-    ensures ok { IfOk result (λ response. Creates store.old name.now time body content_type.now response store.new) }
+    ensures ok { IfOk result (λ response. Creates store.old device name.now time body content_type.now response store.new) }
     ensures err { OnErr result (store.new ≡ store.old) }
 {
     let content = content_of(alloc, body, content_type)?;
     let response = created(alloc, &content.etag)?;
     store.put(
         alloc,
+        device,
         name,
         Write {
             time,
@@ -181,10 +202,10 @@ fn content_of(alloc: Global, body: Bytes, content_type: &[u8]) -> Result<Content
 }
 
 /// A GET of this name.
-fn show(alloc: Global, store: &Store, name: &[u8]) -> Result<Response, NoMemory>
-    ensures { IfOk result (λ response. Shows (state_at store.now name.now) response) }
+fn show(alloc: Global, store: &Store, device: u8, name: &[u8]) -> Result<Response, NoMemory>
+    ensures { IfOk result (λ response. Shows (state_at store.now device name.now) response) }
 {
-    match store.get(name) {
+    match store.get(device, name) {
         Some(state) => show_state(alloc, state),
         None => Ok(bare(alloc, 404)),
     }
@@ -221,10 +242,14 @@ fn object_time(state: &State, time: Timestamp) -> Timestamp
 }
 
 /// The time of what stands under a name.
-fn base_time(store: &Store, name: &[u8]) -> Option<Timestamp>
-    ensures { result ≡ option_map time_of_base (state_at store.now name.now).base }
+fn base_time(store: &Store, device: u8, name: &[u8]) -> Option<Timestamp>
+    ensures { result ≡ option_map time_of_base (state_at store.now device name.now).base }
 {
-    store.get(name)?.base.as_ref().map(|base| base.time())
+    store
+        .get(device, name)?
+        .base
+        .as_ref()
+        .map(|base| base.time())
 }
 
 /// The time that the fields give a write.

@@ -2,6 +2,7 @@ ghost use Rattle.std.specs.Prelude.{◌≡◌, ◌≤◌, false, OnOk};
 ghost use Rattle.std.specs.Io.KnownBytes.{IsAtEnd, prepend_known};
 ghost use Rattle.sw_outside.specs.Faults.{HasRisen};
 ghost use Rattle.sw_cluster.specs.Ending.{Ends};
+ghost use Rattle.sw_cluster.specs.Server.{MayAnswer};
 ghost use Rattle.sw_cluster.specs.Step.{IsRefusal, IsStep};
 ghost use Rattle.sw_cluster.specs.Session.{IsSession};
 
@@ -12,6 +13,7 @@ use crate::store::Store;
 use std::alloc::Global;
 use sw_http::{Held, HttpFault, Response, WriteFault, next_request, write_response};
 use sw_outside::{Sink, Source};
+use sw_ring::Ring;
 
 /// The greatest number of requests of one session.
 pub const MOST_REQUESTS: u64 = 1_048_576;
@@ -59,12 +61,13 @@ fn refuse<W: Sink>(alloc: Global, out: &mut W) -> SessionFault
 /// Reads one request, answers it and writes the reply. Answers false where the input ended in place of a request.
 fn step<R: Source, W: Sink>(
     alloc: Global,
+    ring: &Ring,
     store: &mut Store,
     held: &mut Held,
     source: &mut R,
     out: &mut W,
 ) -> Result<bool, SessionFault>
-    ensures step { IsStep store.old store.new (prepend_known held.old (R.left source.old)) (prepend_known held.new (R.left source.new)) (W.taken out.old) (W.taken out.new) result }
+    ensures step { IsStep (MayAnswer ring.now) store.old store.new (prepend_known held.old (R.left source.old)) (prepend_known held.new (R.left source.new)) (W.taken out.old) (W.taken out.new) result }
     ensures at_end { result ≡ Ok false → IsAtEnd (R.left source.new) }
     ensures reads_later { R.faults source.old ≤ R.faults source.new }
     ensures writes_later { W.faults out.old ≤ W.faults out.new }
@@ -78,14 +81,19 @@ fn step<R: Source, W: Sink>(
         Err(HttpFault::ReadFault) => return Err(SessionFault::ReadFault),
         Err(HttpFault::NoMemory) => return Err(SessionFault::NoMemory),
     };
-    let response = answer(alloc, store, request);
+    let response = answer(alloc, ring, store, request);
     write_response(alloc, out, &response)?;
     Ok(true)
 }
 
 /// Answers the requests that come from the source, one after the other, to the end of the input.
-fn serve<R: Source, W: Sink>(alloc: Global, source: &mut R, out: &mut W) -> Result<(), SessionFault>
-    ensures session { IsSession (R.left source.old) (W.taken out.old) (W.taken out.new) result }
+fn serve<R: Source, W: Sink>(
+    alloc: Global,
+    ring: &Ring,
+    source: &mut R,
+    out: &mut W,
+) -> Result<(), SessionFault>
+    ensures session { IsSession (MayAnswer ring.now) (R.left source.old) (W.taken out.old) (W.taken out.new) result }
     ensures at_end { OnOk result (IsAtEnd (R.left source.new)) }
     ensures reads_later { R.faults source.old ≤ R.faults source.new }
     ensures writes_later { W.faults out.old ≤ W.faults out.new }
@@ -95,19 +103,24 @@ fn serve<R: Source, W: Sink>(alloc: Global, source: &mut R, out: &mut W) -> Resu
     let mut store = Store::new(alloc);
     let mut held = Held::new(alloc);
     for _ in 0..MOST_REQUESTS {
-        if !step(alloc, &mut store, &mut held, source, out)? {
+        if !step(alloc, ring, &mut store, &mut held, source, out)? {
             return Ok(());
         }
     }
     Err(SessionFault::TooLong)
 }
 
-/// Answers the pipelined requests that come from `source` to the end of its input, in order, and writes each reply to
-/// `out`. Answers the status.
-pub fn run_session<R: Source, W: Sink>(alloc: Global, source: &mut R, out: &mut W) -> u8
-    ensures { Ends (R.left source.old) (R.left source.new) (W.taken out.old) (W.taken out.new) (R.faults source.old) (R.faults source.new) (W.faults out.old) (W.faults out.new) result }
+/// Answers the pipelined requests that come from `source` to the end of its input, in order, for the devices of a ring, and
+/// writes each reply to `out`. Answers the status.
+pub fn run_session<R: Source, W: Sink>(
+    alloc: Global,
+    ring: &Ring,
+    source: &mut R,
+    out: &mut W,
+) -> u8
+    ensures { Ends (MayAnswer ring.now) (R.left source.old) (R.left source.new) (W.taken out.old) (W.taken out.new) (R.faults source.old) (R.faults source.new) (W.faults out.old) (W.faults out.new) result }
 {
-    match serve(alloc, source, out) {
+    match serve(alloc, ring, source, out) {
         Ok(()) => COMPLETE,
         Err(SessionFault::ReadFault) => READ_FAULT,
         Err(SessionFault::WriteFault) => WRITE_FAULT,

@@ -1,35 +1,75 @@
-ghost use Rattle.std.specs.Prelude.{◌≡◌, ◌≤◌, length};
-ghost use Rattle.std.specs.Option.{option_copied};
-ghost use Rattle.std.specs.List.{after_first, before_first, list_all, position_or_len};
-ghost use Rattle.sw_cluster.specs.Target.{is_name as is_name_text, is_plain_byte, is_segment as is_segment_text, is_slash, name_of as name_of_target};
+ghost use Rattle.std.specs.Prelude.{◌≡◌, ◌≤◌, length, ◌==◌, ◌&&◌, nat_eq, codes, MatchOption, false, true};
+ghost use Rattle.std.specs.List.{after_first, before_first, list_all, position_or_len, starts_with};
+ghost use Rattle.sw_cluster.specs.Target.{account_of, behind_segment, container_of, first_segment, is_name as is_name_text, is_plain_byte, is_segment as is_segment_text, is_slash, object_of, parts_of};
+ghost use Rattle.sw_cluster.specs.Targets.{IsAsked, IsNamed};
 
-/// Where every target that names an object begins: the one device, and the one partition.
-const DEVICE_PATH: &[u8] = b"/sda/0/";
+use sw_outside::Bytes;
 
-/// The greatest length of a segment, in bytes.
+/// The greatest length of a plain segment, in bytes.
 const MAX_SEGMENT: usize = 256;
 
-/// The name of an object, `account/container/object`, where the target has one.
-pub fn name_of(target: &[u8]) -> Option<&[u8]>
-    ensures { option_copied result ≡ name_of_target target.now }
+/// What a target asks for, as it stands there.
+#[derive(Clone, Copy)]
+pub struct Target<'a> {
+    pub device: &'a [u8],
+    pub partition: &'a [u8],
+    /// `account/container/object`.
+    pub name: &'a [u8],
+}
+
+/// What a target with this path and query asks for, where it names an object.
+pub fn target_of<'a>(path: &'a Bytes, query: &Bytes) -> Option<Target<'a>>
+    ensures { IsAsked path.now query.now result }
 {
-    let name = target.strip_prefix(DEVICE_PATH)?;
-    if is_name(name) { Some(name) } else { None }
+    if !query.as_slice().is_empty() {
+        return None;
+    }
+    let rest = path.as_slice().strip_prefix(b"/")?;
+    let (device, rest) = at_slash(rest);
+    let (partition, name) = at_slash(rest);
+    if !is_name(name) {
+        return None;
+    }
+    Some(Target {
+        device,
+        partition,
+        name,
+    })
+}
+
+/// The account, the container and the object of a name.
+#[derive(Clone, Copy)]
+pub struct Named<'a> {
+    pub account: &'a [u8],
+    pub container: &'a [u8],
+    pub object: &'a [u8],
+}
+
+/// The parts of a name, `account/container/object`.
+pub fn names_in(name: &[u8]) -> Named<'_>
+    ensures { IsNamed name.now result }
+{
+    let (account, rest) = at_slash(name);
+    let (container, object) = at_slash(rest);
+    Named {
+        account,
+        container,
+        object,
+    }
 }
 
 /// Whether the text is three plain segments with a slash between them.
 fn is_name(text: &[u8]) -> bool
     ensures { result ≡ is_name_text text.now }
 {
-    let (account, rest) = at_slash(text);
-    let (container, object) = at_slash(rest);
-    is_segment(account) && is_segment(container) && is_segment(object)
+    let parts = names_in(text);
+    is_segment(parts.account) && is_segment(parts.container) && is_segment(parts.object)
 }
 
 /// The text before its first slash, all of it where there is none, and the text behind.
 fn at_slash(text: &[u8]) -> (&[u8], &[u8])
-    ensures before { result.0.now ≡ before_first is_slash text.now }
-    ensures behind { result.1.now ≡ after_first is_slash text.now }
+    ensures before { result.0.now ≡ first_segment text.now }
+    ensures behind { result.1.now ≡ behind_segment text.now }
 {
     let slash = slash_at(text);
     (&text[..slash], &text[text.len().min(slash + 1)..])

@@ -1,10 +1,15 @@
 //! Whole runs of the top call, over a source and sinks in memory. Expected bytes are worked out by hand from the formats of the replies.
 
 use crate::cluster::cluster;
-use crate::status::{BAD_INPUT, COMPLETE, READ_FAULT, USAGE, WRITE_FAULT};
+use crate::mem_stores::{MemStores, RingText};
+use crate::status::{BAD_INPUT, BAD_RING, COMPLETE, READ_FAULT, STORE_FAULT, USAGE, WRITE_FAULT};
 use std::alloc::Global;
 use std::test::Fail;
 use sw_outside::{Bytes, FailingPut, MemSink, MemSource};
+
+/// A ring of two devices and four partitions.
+const RING: &[u8] =
+    br#"{"devices":["sda","sdb"],"part_power":2,"lock_bits":2,"replicas":2,"hash_prefix":"","hash_suffix":"endcap","object":[[0,1],[1,0],[0,1],[1,0]],"container":[[0,1],[1,0],[0,1],[1,0]]}"#;
 
 /// A PUT of three bytes and a GET of them.
 const PUT_AND_GET: &[u8] =
@@ -34,12 +39,26 @@ fn run(
         owned.push(word.to_string(alloc)?)?;
     }
     let mut errors = MemSink::new(alloc, Vec::new(alloc));
-    let status = cluster(alloc, &owned, source, &mut out, &mut errors);
+    let mut stores = MemStores::new(rings(alloc)?, Vec::new(alloc));
+    let status = cluster(alloc, &owned, source, &mut out, &mut errors, &mut stores);
     Ok(Ended {
         status,
         out,
         errors,
     })
+}
+
+/// The ring of two devices, under the name `S`, and a text that is no ring.
+fn rings(alloc: Global) -> Result<Vec<RingText>, Fail> {
+    let ring = RingText {
+        name: Bytes::copy(alloc, b"S")?,
+        text: Bytes::copy(alloc, RING)?,
+    };
+    let bad = RingText {
+        name: Bytes::copy(alloc, b"bad")?,
+        text: Bytes::copy(alloc, b"{")?,
+    };
+    Ok(vec![in alloc; ring, bad]?)
 }
 
 /// A source of this input, in pieces of this size (0: as it comes), whose read of this number fails.
@@ -69,7 +88,7 @@ fn sink(alloc: Global) -> MemSink {
 #[test]
 fn requests_get_their_replies_and_a_status(rt: HostRuntime) -> Result<(), Fail> {
     let alloc = rt.alloc();
-    let table: [(&[u8], &[u8], u8); 15] = [
+    let table: [(&[u8], &[u8], u8); 16] = [
         (PUT_AND_GET, CREATED_AND_FOUND, COMPLETE),
         // An empty body.
         (
@@ -79,7 +98,7 @@ fn requests_get_their_replies_and_a_status(rt: HostRuntime) -> Result<(), Fail> 
         ),
         // The least and the greatest time.
         (
-            b"PUT /sda/0/a/c/p HTTP/1.1\r\nX-Timestamp: 0\r\nContent-Type: text/plain\r\nContent-Length: 3\r\n\r\nabcPUT /sda/0/a/c/q HTTP/1.1\r\nX-Timestamp: 9999999999.99999\r\nContent-Type: text/plain\r\nContent-Length: 3\r\n\r\nabcGET /sda/0/a/c/p HTTP/1.1\r\n\r\nGET /sda/0/a/c/q HTTP/1.1\r\n\r\n",
+            b"PUT /sda/1/a/c/p HTTP/1.1\r\nX-Timestamp: 0\r\nContent-Type: text/plain\r\nContent-Length: 3\r\n\r\nabcPUT /sda/2/a/c/q HTTP/1.1\r\nX-Timestamp: 9999999999.99999\r\nContent-Type: text/plain\r\nContent-Length: 3\r\n\r\nabcGET /sda/1/a/c/p HTTP/1.1\r\n\r\nGET /sda/2/a/c/q HTTP/1.1\r\n\r\n",
             b"HTTP/1.1 201 Created\r\nETag: 900150983cd24fb0d6963f7d28e17f72\r\nContent-Length: 0\r\n\r\nHTTP/1.1 201 Created\r\nETag: 900150983cd24fb0d6963f7d28e17f72\r\nContent-Length: 0\r\n\r\nHTTP/1.1 200 OK\r\nContent-Type: text/plain\r\nETag: 900150983cd24fb0d6963f7d28e17f72\r\nLast-Modified: Thu, 01 Jan 1970 00:00:00 GMT\r\nX-Timestamp: 0000000000.00000\r\nX-Backend-Timestamp: 0000000000.00000\r\nContent-Length: 3\r\n\r\nabcHTTP/1.1 200 OK\r\nContent-Type: text/plain\r\nETag: 900150983cd24fb0d6963f7d28e17f72\r\nLast-Modified: Sat, 20 Nov 2286 17:46:40 GMT\r\nX-Timestamp: 9999999999.99999\r\nX-Backend-Timestamp: 9999999999.99999\r\nContent-Length: 3\r\n\r\nabc",
             COMPLETE,
         ),
@@ -97,7 +116,7 @@ fn requests_get_their_replies_and_a_status(rt: HostRuntime) -> Result<(), Fail> 
         ),
         // An earlier PUT of the name is refused, and another name isn't touched.
         (
-            b"PUT /sda/0/a/c/o HTTP/1.1\r\nX-Timestamp: 5\r\nContent-Type: a/b\r\nContent-Length: 1\r\n\r\nxPUT /sda/0/a/c/o HTTP/1.1\r\nX-Timestamp: 4\r\nContent-Type: a/b\r\nContent-Length: 1\r\n\r\nyGET /sda/0/a/c/p HTTP/1.1\r\n\r\n",
+            b"PUT /sda/0/a/c/o HTTP/1.1\r\nX-Timestamp: 5\r\nContent-Type: a/b\r\nContent-Length: 1\r\n\r\nxPUT /sda/0/a/c/o HTTP/1.1\r\nX-Timestamp: 4\r\nContent-Type: a/b\r\nContent-Length: 1\r\n\r\nyGET /sda/1/a/c/p HTTP/1.1\r\n\r\n",
             b"HTTP/1.1 201 Created\r\nETag: 9dd4e461268c8034f5c8564e155c67a6\r\nContent-Length: 0\r\n\r\nHTTP/1.1 409 Conflict\r\nX-Backend-Timestamp: 0000000005.00000\r\nContent-Length: 0\r\n\r\nHTTP/1.1 404 Not Found\r\nContent-Length: 0\r\n\r\n",
             COMPLETE,
         ),
@@ -107,10 +126,16 @@ fn requests_get_their_replies_and_a_status(rt: HostRuntime) -> Result<(), Fail> 
             b"HTTP/1.1 404 Not Found\r\nContent-Length: 0\r\n\r\n",
             COMPLETE,
         ),
-        // Targets that name no object: another device, another partition, two segments, a query.
+        // Another device has nothing of it.
         (
-            b"GET /sdb/0/a/c/o HTTP/1.1\r\n\r\nGET /sda/1/a/c/o HTTP/1.1\r\n\r\nGET /sda/0/a/c HTTP/1.1\r\n\r\nGET /sda/0/a/c/o?x HTTP/1.1\r\n\r\n",
-            b"HTTP/1.1 400 Bad Request\r\nContent-Length: 0\r\n\r\nHTTP/1.1 400 Bad Request\r\nContent-Length: 0\r\n\r\nHTTP/1.1 400 Bad Request\r\nContent-Length: 0\r\n\r\nHTTP/1.1 400 Bad Request\r\nContent-Length: 0\r\n\r\n",
+            b"PUT /sda/0/a/c/o HTTP/1.1\r\nX-Timestamp: 5\r\nContent-Type: a/b\r\nContent-Length: 1\r\n\r\nxGET /sdb/0/a/c/o HTTP/1.1\r\n\r\n",
+            b"HTTP/1.1 201 Created\r\nETag: 9dd4e461268c8034f5c8564e155c67a6\r\nContent-Length: 0\r\n\r\nHTTP/1.1 404 Not Found\r\nContent-Length: 0\r\n\r\n",
+            COMPLETE,
+        ),
+        // An unknown device, also in another partition; another partition, one with a zero before it, two segments, a query.
+        (
+            b"GET /sdz/1/a/c/o HTTP/1.1\r\n\r\nGET /sda/1/a/c/o HTTP/1.1\r\n\r\nGET /sda/00/a/c/o HTTP/1.1\r\n\r\nGET /sda/0/a/c HTTP/1.1\r\n\r\nGET /sda/0/a/c/o?x HTTP/1.1\r\n\r\n",
+            b"HTTP/1.1 404 Not Found\r\nContent-Length: 0\r\n\r\nHTTP/1.1 400 Bad Request\r\nContent-Length: 0\r\n\r\nHTTP/1.1 400 Bad Request\r\nContent-Length: 0\r\n\r\nHTTP/1.1 400 Bad Request\r\nContent-Length: 0\r\n\r\nHTTP/1.1 400 Bad Request\r\nContent-Length: 0\r\n\r\n",
             COMPLETE,
         ),
         // No time, no type, an empty type, a time of deletion.
@@ -207,22 +232,51 @@ fn a_fault_ends_the_run_with_a_front_of_the_replies(rt: HostRuntime) -> Result<(
 }
 
 #[test]
-fn words_of_no_command_are_refused(rt: HostRuntime) -> Result<(), Fail> {
+fn words_and_rings_are_tested_before_all_else(rt: HostRuntime) -> Result<(), Fail> {
     let alloc = rt.alloc();
-    let table: [&[&str]; 6] = [
-        &[],
-        &["run"],
-        &["run", "S", "x"],
-        &["run", "-S"],
-        &["walk", "S"],
-        &["S", "run"],
+    let table: [(&[&str], &[u8], u8, &[u8]); 14] = [
+        (&[], b"", USAGE, b"sw: usage\n"),
+        (&["run"], b"", USAGE, b"sw: usage\n"),
+        (&["run", "S", "x"], b"", USAGE, b"sw: usage\n"),
+        (&["run", "-S"], b"", USAGE, b"sw: usage\n"),
+        (&["walk", "S"], b"", USAGE, b"sw: usage\n"),
+        (&["where", "S"], b"", USAGE, b"sw: usage\n"),
+        (
+            &["where", "S", "a", "c", "o", "x"],
+            b"",
+            USAGE,
+            b"sw: usage\n",
+        ),
+        (&["where", "S", "a/b"], b"", USAGE, b"sw: usage\n"),
+        (&["run", "none"], b"", STORE_FAULT, b"sw: store fault\n"),
+        (&["run", "bad"], b"", BAD_RING, b"sw: bad ring 1\n"),
+        // A ring that is no ring is told before a bad name.
+        (&["where", "bad", "a/b"], b"", BAD_RING, b"sw: bad ring 1\n"),
+        (
+            &["where", "S", "a", "c", "o"],
+            b"hash 06fbf0b514e5199dfc4e00f42eb5ea83\npartition 0\nsuffix a83\ndevices sda sdb\n",
+            COMPLETE,
+            b"",
+        ),
+        (
+            &["where", "S", "a", "c"],
+            b"hash 33379ecb053aa5c9e356c68997cbb59e\npartition 0\nsuffix 59e\ndevices sda sdb\n",
+            COMPLETE,
+            b"",
+        ),
+        (
+            &["where", "S", "a"],
+            b"hash 1c84525acb02107ea475dcd3d09c2c58\npartition 0\nsuffix c58\ndevices -\n",
+            COMPLETE,
+            b"",
+        ),
     ];
-    for words in table {
+    for (words, text, status, line) in table {
         let mut source = source(alloc, PUT_AND_GET, 0, None)?;
         let ended = run(alloc, words, &mut source, sink(alloc))?;
-        assert_eq!(rt; ended.status, USAGE);
-        assert_eq!(rt; ended.out.bytes(), b"".as_slice());
-        assert_eq!(rt; ended.errors.bytes(), b"sw: usage\n".as_slice());
+        assert_eq!(rt; ended.status, status);
+        assert_eq!(rt; ended.out.bytes(), text);
+        assert_eq!(rt; ended.errors.bytes(), line);
     }
     Ok(())
 }

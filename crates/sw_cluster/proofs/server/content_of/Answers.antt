@@ -1,6 +1,4 @@
-use Rattle.std.proofs.Common.{◌≡◌, true, subst, sym}
 use Rattle.std.proofs.lemmas.Str.{IsUtf8-from_is_utf8}
-use Rattle.std.specs.Str.{is_utf8}
 use Rattle.sw_cluster.proofs.server.content_of.Goals as goal
 
 -- the copy of the type is UTF-8, as the type is

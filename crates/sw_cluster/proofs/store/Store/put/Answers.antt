@@ -4,11 +4,11 @@ use Rattle.sw_cluster.proofs.store.Store.put.Goals as goal
 
 pub returns-in-Some-clause-ok : goal.returns-in-Some-clause-ok
 returns-in-Some-clause-ok c =
-    put_in_place _ _ _ _ _ c.index_mut.result.now _ c.self.view_is
+    put_in_place _ _ _ _ _ _ c.index_mut.result.now _ c.self.view_is
     (sym (rw c.deref.ensures.value at c.place_of.ensures) ∙ c.in-Some.is) c.index_mut.ensures.value c.join.ensures.state
 
 pub returns-in_ok-push-in-None-clause-ok : goal.returns-in_ok-push-in-None-clause-ok
 returns-in_ok-push-in-None-clause-ok c =
     c.in_ok-push-in-None.ensures.items
-    ∙ put_at_end _ _ _ _ _ _ _ c.self.view_is (sym (rw c.deref.ensures.value at c.place_of.ensures) ∙ c.in-None.is)
+    ∙ put_at_end _ _ _ _ _ _ _ _ c.self.view_is (sym (rw c.deref.ensures.value at c.place_of.ensures) ∙ c.in-None.is)
     c.in_ok-name-in-None.ensures c.empty-state.ensures c.join-in-None.ensures.state

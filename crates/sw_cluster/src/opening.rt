@@ -1,0 +1,34 @@
+ghost use Rattle.std.specs.Prelude.{◌≡◌, ◌≤◌};
+ghost use Rattle.sw_cluster.specs.Opening.{IsOpening};
+
+use crate::stores::Stores;
+use std::alloc::Global;
+use sw_outside::StoreError;
+use sw_ring::{BadRing, Ring, RingError, read};
+
+/// Why a ring wasn't opened.
+#[derive(Clone, Copy, Debug, PartialEq, Eq)]
+pub enum OpenFault {
+    /// The stores failed.
+    Failed,
+    /// Something is wrong with its text.
+    Bad(BadRing),
+    NoMemory,
+}
+
+/// Opens the ring of a name.
+pub fn open_ring<S: Stores>(alloc: Global, stores: &mut S, name: &str) -> Result<Ring, OpenFault>
+    ensures opening { IsOpening (S.text stores.old name.now) (S.faults stores.old) (S.faults stores.new) result }
+    ensures later { S.faults stores.old ≤ S.faults stores.new }
+{
+    let text = match stores.ring(alloc, name) {
+        Ok(text) => text,
+        Err(StoreError::Failed) => return Err(OpenFault::Failed),
+        Err(StoreError::NoMemory) => return Err(OpenFault::NoMemory),
+    };
+    match read(alloc, text.as_slice()) {
+        Ok(ring) => Ok(ring),
+        Err(RingError::Bad(bad)) => Err(OpenFault::Bad(bad)),
+        Err(RingError::NoMemory) => Err(OpenFault::NoMemory),
+    }
+}
