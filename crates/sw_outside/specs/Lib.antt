@@ -1,4 +1,5 @@
 pub mod Faults
+pub mod Readings
 pub mod Store
 pub mod Supply
 pub mod Taken

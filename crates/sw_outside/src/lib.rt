@@ -3,16 +3,20 @@
 //! A [`Source`] is where requests come from and a [`Sink`] where replies go. Each has two meanings that contracts see:
 //! its content, which a source or sink in memory tells and a real one doesn't, and a count of the calls that failed.
 //! Code above is generic over these traits and proved once: what it promises about content holds wherever the content is
-//! told, and "only where the count rose" holds everywhere, since generic code can't raise a count by itself.
+//! told, and "only where the count rose" holds everywhere, since generic code can't raise a count by itself. A [`Clock`] is
+//! where the present moment comes from: its meaning is the list of its readings to come, and it can't fail.
 //!
 //! The same crate has the byte string [`Bytes`] and the list [`BytesList`] of such, the errors [`NoMemory`] and
-//! [`Failed`], the ends in memory that tests use, and the adapters over std's reader and writer. The next layer up is
+//! [`Failed`], the ends in memory that tests use, and the adapters over std's reader, writer and clock. The next layer up is
 //! `sw_http`, which reads requests from a source.
 #![tactic(auto)]
 
 mod bytes;
 mod bytes_list;
+mod clock;
 mod errors;
+mod host_clock;
+mod mem_clock;
 mod mem_sink;
 mod mem_source;
 mod reader_source;
@@ -28,7 +32,10 @@ mod writer_sink;
 
 pub use bytes::Bytes;
 pub use bytes_list::BytesList;
+pub use clock::Clock;
 pub use errors::{Failed, NoMemory};
+pub use host_clock::HostClock;
+pub use mem_clock::MemClock;
 pub use mem_sink::{FailingPut, MemSink};
 pub use mem_source::MemSource;
 pub use reader_source::ReaderSource;
