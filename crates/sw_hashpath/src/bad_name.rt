@@ -36,7 +36,7 @@ const HIDDEN_OBJECT_LIMIT: usize = 2048;
 
 /// The first thing that is wrong with these names. It takes no memory.
 #[tactic(auto, unfolding(crate::specs::BadNames::bad_name))]
-pub(crate) fn first_fault(
+pub fn first_fault(
     account: &[u8],
     container: Option<&[u8]>,
     object: Option<&[u8]>,

@@ -2,8 +2,8 @@
 //! choose a partition, a suffix directory and a lock.
 //!
 //! [`hash_path`] gives the MD5 of a path under a cluster's [`Secrets`], or the first thing that is wrong with its names,
-//! and takes no memory. [`Name`] and [`Place`] keep names together with their hash. [`partition`], [`suffix`] and
-//! [`stripe`] read a hash.
+//! and takes no memory; [`first_fault`] tells what is wrong without a hash. [`Name`] and [`Place`] keep names together with
+//! their hash. [`partition`], [`suffix`] and [`stripe`] read a hash.
 //!
 //! The errors [`BadFile`] and [`DecodeError`] stand here for the crates that decode files. The next layer up is
 //! `sw_ring`, which says which devices have a partition.
@@ -20,7 +20,7 @@ mod secrets;
 #[cfg(test)]
 mod tests;
 
-pub use bad_name::BadName;
+pub use bad_name::{BadName, first_fault};
 pub use decode_error::{BadFile, DecodeError};
 pub use hash_parts::{partition, stripe, suffix};
 pub use name::Name;
