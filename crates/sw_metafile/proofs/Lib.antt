@@ -1,0 +1,12 @@
+pub mod Escaping
+pub mod Exact
+pub mod FileText
+pub mod HeadLines
+pub mod HeadReading
+pub mod ItemLines
+pub mod Lines
+pub mod Numbers
+pub mod Paths
+pub mod SameFiles
+pub mod Steps
+pub mod Times
