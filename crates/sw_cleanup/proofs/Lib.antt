@@ -1,0 +1,10 @@
+pub mod Spared
+pub mod Unpicked
+pub mod Writes
+pub mod Picks
+pub mod Directory
+pub mod Keeping
+pub mod Unlinking
+pub mod Listed
+pub mod Cleaned
+pub mod Left

@@ -1,0 +1,12 @@
+use Rattle.std.proofs.Common.{◌≡◌, ◌≤◌, true, take}
+use Rattle.sw_cleanup.specs.Cleaning.{Unlinks}
+use Rattle.sw_cleanup.proofs.cleaning.unlink_each.Given as goal
+
+-- the files so far were unlinked
+abbrev pub invariant-loop-file : goal.invariant-loop-file
+invariant-loop-file g l = record {
+  unlinks : g.V.Volume.tells l.initial.volume ≡ true → Unlinks (g.V.Volume.holds l.initial.volume) (g.V.Volume.holds l.volume) l.dir (take l.file-index l.files) (g.V.Volume.faults l.initial.volume) (g.V.Volume.faults l.volume);
+  told : g.V.Volume.tells l.volume ≡ g.V.Volume.tells l.initial.volume;
+  later : g.V.Volume.faults l.initial.volume ≤ g.V.Volume.faults l.volume;
+  lists : g.V.Volume.lists l.volume ≡ g.V.Volume.lists l.initial.volume;
+}

@@ -1,0 +1,18 @@
+//! Taking away what a hash directory no longer needs.
+//!
+//! Each write of an object leaves a file, and most of them are superseded sooner or later. [`obsolete`] names those that
+//! are, which are exactly those that `sw_diskfile` doesn't pick, and [`cleanup`] unlinks them. An obsolete file adds nothing to
+//! the state that its directory stands for, so an unlink that fails, or that is never reached, changes no answer.
+//!
+//! What a directory stands for is said for every way in which the bytes of a file are read as a write; `sw_metafile` gives
+//! the real one. The next layer up is `sw_objdir`, which cleans up after each write.
+#![tactic(auto)]
+
+mod cleaning;
+pub mod laws;
+mod obsolete_files;
+#[cfg(test)]
+mod tests;
+
+pub use cleaning::cleanup;
+pub use obsolete_files::obsolete;
