@@ -1,0 +1,26 @@
+//! Doors: how servers and daemons reach the object nodes.
+//!
+//! An [`ObjectDoor`] is all object nodes of a ring. Each call is one step at one device, said to that device itself ([`Link::Local`]) or
+//! in a message ([`Link::Sent`]), which may be [`Lost`]. The [`Answer`] of a step that changes something, and what a read [`Got`], are
+//! those of a storage node; `specs/Steps.antt` says which answer a state of the name gives, and what is then written.
+//!
+//! What is promised holds over every door, whoever else uses the nodes: a step is answered from what the history of its lock says at
+//! one point of the call, its write is entered there exactly where the answer says so, and what is known of the nodes only grows. Where
+//! the door is alone at the nodes, what each device holds is known as well. `specs/Sights.antt` has the words.
+//!
+//! The next layers up are `sw_object_server`, which answers requests over any door, and `sw_core`, whose world is a door.
+#![tactic(auto)]
+
+mod answer;
+mod door;
+mod entry;
+mod got;
+mod link;
+#[cfg(test)]
+mod tests;
+
+pub use answer::Answer;
+pub use door::{Door, ObjectDoor};
+pub use entry::ObjEntry;
+pub use got::Got;
+pub use link::{Link, Lost};
