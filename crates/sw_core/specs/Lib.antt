@@ -1,0 +1,9 @@
+pub mod Asked
+pub mod Laws
+pub mod Machine
+pub mod Named
+pub mod Recording
+pub mod Runs
+pub mod Stored
+pub mod Trails
+pub mod World
