@@ -1,4 +1,4 @@
--- What reading and skipping do to the input.
+-- What reading and passing over do to the input.
 use Rattle.std.proofs.Common.{◌≡◌, ℕ, ◌+◌, ◌<◌, ◌≤◌, Bool, true, List, [], ◌∷◌, ◌++◌, length, take, drop, Option, None, Some, IfSome, refl, sym, ap, ◌∙◌, subst, arith, append_assoc, length-append, length-take, length-drop, get_or-take, take-append-drop, append-nil}
 use Rattle.std.specs.Prelude.{IsTrue}
 use Rattle.std.specs.Io.KnownBytes.{Consumes, Keeps, IsAtEnd, prepend_known}
@@ -7,13 +7,10 @@ use Rattle.std.proofs.lemmas.List.Elements.{All-head, All-tail, All-append, All-
 use Rattle.std.proofs.lemmas.List.Sums.{prefix_len_passes, prefix_len_stops, prefix_len-le-length}
 use Rattle.std.proofs.lemmas.List.{length-take-le}
 use Rattle.std.specs.List.{prefix_len}
-use Rattle.httparse.proofs.RunLemmas.{Stops-drop}
-use Rattle.httparse.specs.Grammar.{AllPass, print_request}
-use Rattle.httparse.specs.Pieces.{Stops, is_newline}
-use Rattle.std.proofs.Math.Seq.{take-add}
-use Rattle.sw_http.specs.Input.{Grows, HasRead, Skips, SkipsCount}
-use Rattle.sw_http.specs.Request.{IsSkipped, IsNoRequest}
-use Rattle.sw_http.proofs.HeadLemmas.{head_stops}
+use Rattle.httparse.proofs.RunLemmas.{Stops-drop, run_unstopped}
+use Rattle.httparse.specs.Grammar.{AllPass}
+use Rattle.httparse.specs.Pieces.{Stops}
+use Rattle.sw_http.specs.Input.{HasRead, TakesRun, TakesFew, IsAllRun, IsLongRun, HasNoRun}
 
 -- ---- what is held, and then what the source has left
 
@@ -39,11 +36,40 @@ front_taken bytes None n = tt
 front_taken bytes (Some xs) n =
     ap (λ (l : List ℕ). l ++ xs) (sym (take-append-drop n bytes)) ∙ append_assoc (take n bytes) (drop n bytes) xs
 
+-- a text that stands in front of what is held was taken off
+pub text_taken : (held after text : List ℕ) (left : Option (List ℕ)) → held ≡ text ++ after → Consumes (prepend_known held left) (prepend_known after left) text
+text_taken held after text None stands = tt
+text_taken held after text (Some xs) stands = ap (λ (l : List ℕ). l ++ xs) stands ∙ append_assoc text after xs
+
+pub kept_consumes : (a b c : Option (List ℕ)) (bytes : List ℕ) → Keeps a b → Consumes b c bytes → Consumes a c bytes
+kept_consumes None b c bytes kept taken = tt
+kept_consumes (Some xs) None c bytes kept taken = absurd kept
+kept_consumes (Some xs) (Some ys) None bytes kept taken = taken
+kept_consumes (Some xs) (Some ys) (Some zs) bytes kept taken = sym kept ∙ taken
+
 -- a fact on the input holds of what it was before it was read
 pub if_kept : (a b : Option (List ℕ)) (P : List ℕ → Type 0) → Keeps a b → IfSome b P → IfSome a P
 if_kept None b P kept holds = tt
 if_kept (Some xs) None P kept holds = absurd kept
 if_kept (Some xs) (Some ys) P kept holds = subst P kept holds
+
+-- from a fact on the input to a weaker one
+pub if_some_map : (a : Option (List ℕ)) (P Q : List ℕ → Type 0) → ((bytes : List ℕ) → P bytes → Q bytes) → IfSome a P → IfSome a Q
+if_some_map None P Q step holds = tt
+if_some_map (Some xs) P Q step holds = step xs holds
+
+-- from a fact on what follows a text that was taken off
+pub if_behind : (a b : Option (List ℕ)) (front : List ℕ) (P Q : List ℕ → Type 0) → Consumes a b front → ((rest : List ℕ) → Q rest → P (front ++ rest))
+    → IfSome b Q → IfSome a P
+if_behind None b front P Q taken step holds = tt
+if_behind (Some xs) None front P Q taken step holds = absurd taken
+if_behind (Some xs) (Some ys) front P Q taken step holds = subst P (sym taken) (step ys holds)
+
+-- from the text alone that was taken off
+pub if_taken : (a b : Option (List ℕ)) (front : List ℕ) (P : List ℕ → Type 0) → Consumes a b front → ((rest : List ℕ) → P (front ++ rest)) → IfSome a P
+if_taken None b front P taken step = tt
+if_taken (Some xs) None front P taken step = absurd taken
+if_taken (Some xs) (Some ys) front P taken step = subst P (sym taken) (step ys)
 
 -- no length, no bytes
 pub no_bytes : (bytes : List ℕ) → length bytes ≡ 0 → bytes ≡ []
@@ -70,69 +96,41 @@ pub all_at_end : (bytes : List ℕ) (left : Option (List ℕ)) → bytes ≡ [] 
 all_at_end bytes None none end = tt
 all_at_end bytes (Some xs) none end = λ i. none i ++ end i
 
--- ---- line ends that are skipped
+-- ---- runs
 
-pub skips_none : (a : Option (List ℕ)) → SkipsCount a a 0
-skips_none a = record { skipped = []; newlines = All-nil _; size = refl; taken = Consumes-nil a }
+pub run_none : (test : ℕ → Bool) (a : Option (List ℕ)) → TakesRun test a a 0
+run_none test a = record { run = []; passes = All-nil _; size = refl; taken = Consumes-nil a }
 
-pub skips_more : (a b c : Option (List ℕ)) (count : ℕ) (run : List ℕ) → SkipsCount a b count → AllPass is_newline run → Consumes b c run
-    → SkipsCount a c (count + length run)
-skips_more a b c count run before newlines taken = record {
-  skipped = before.skipped ++ run;
-  newlines = All-append (λ b. IsTrue (is_newline b)) before.skipped run before.newlines newlines;
-  size = omega (arith, length-append before.skipped run, before.size);
-  taken = Consumes-trans a b c before.skipped run before.taken taken;
+run_more : (test : ℕ → Bool) (a b c : Option (List ℕ)) (count : ℕ) (run : List ℕ) → TakesRun test a b count → AllPass test run → Consumes b c run
+    → TakesRun test a c (count + length run)
+run_more test a b c count run before passes taken = record {
+  run = before.run ++ run;
+  passes = All-append (λ b. IsTrue (test b)) before.run run before.passes passes;
+  size = omega (arith, length-append before.run run, before.size);
+  taken = Consumes-trans a b c before.run run before.taken taken;
 }
 
-pub skips_kept : (a b c : Option (List ℕ)) (count : ℕ) → SkipsCount a b count → Keeps b c → SkipsCount a c count
-skips_kept a b c count before kept = record {
-  skipped = before.skipped;
-  newlines = before.newlines;
+pub run_kept : (test : ℕ → Bool) (a b c : Option (List ℕ)) (count : ℕ) → TakesRun test a b count → Keeps b c → TakesRun test a c count
+run_kept test a b c count before kept = record {
+  run = before.run;
+  passes = before.passes;
   size = before.size;
-  taken = Consumes-kept a b c before.skipped before.taken kept;
+  taken = Consumes-kept a b c before.run before.taken kept;
 }
 
-pub skips_few : (a b : Option (List ℕ)) (count : ℕ) → SkipsCount a b count → count ≤ 65536 → Skips a b
-skips_few a b count all few = record {
-  skipped = all.skipped;
-  are_skipped = record { newlines = all.newlines; few = omega (arith, all.size) };
-  taken = all.taken;
-}
+pub run_few : (test : ℕ → Bool) (limit : ℕ) (a b : Option (List ℕ)) (count : ℕ) → TakesRun test a b count → count ≤ limit → TakesFew test limit a b
+run_few test limit a b count all few = record { count = count; few = few; takes = all }
 
-pub skipped_all : (a b : Option (List ℕ)) (count : ℕ) → SkipsCount a b count → count ≤ 65536 → IsAtEnd b → IfSome a IsSkipped
-skipped_all a b count all few end =
-    Consumes-whole a b all.skipped IsSkipped all.taken end (record { newlines = all.newlines; few = omega (arith, all.size) })
+pub run_is_all : (test : ℕ → Bool) (limit : ℕ) (a b : Option (List ℕ)) (count : ℕ) → TakesRun test a b count → count ≤ limit → IsAtEnd b → IfSome a (IsAllRun test limit)
+run_is_all test limit a b count all few end =
+    Consumes-whole a b all.run (IsAllRun test limit) all.taken end (record { passes = all.passes; few = omega (arith, all.size) })
 
--- a run of bytes that pass is no longer than what stands before the first that doesn't
-longer_run : (test : ℕ → Bool) (run front after rest : List ℕ) → AllPass test run → Stops test after → run ++ rest ≡ front ++ after → length front < length run → ⊥
-longer_run test [] front after rest all stops e longer = omega arith
-longer_run test (x ∷ run) [] [] rest all stops e longer = stops
-longer_run test (x ∷ run) [] (y ∷ after) rest all stops e longer = let passes = All-head (λ v. test v ≡ true) x run all in cc
-longer_run test (x ∷ run) (y ∷ front) after rest all stops e longer =
-    longer_run test run front after rest (All-tail (λ v. test v ≡ true) x run all) stops (cc) (omega arith)
+pub run_too_long : (test : ℕ → Bool) (limit : ℕ) (a b : Option (List ℕ)) (count : ℕ) → TakesRun test a b count → limit < count → IfSome a (IsLongRun test limit)
+run_too_long test limit a b count all many =
+    if_taken a b all.run (IsLongRun test limit) all.taken λ rest.
+    record { run = all.run; rest = rest; passes = all.passes; many = omega (arith, all.size); whole = refl }
 
--- bytes that begin with more line ends than are skipped
-no_request_behind : (run rest : List ℕ) → AllPass is_newline run → 65536 < length run → IsNoRequest (run ++ rest)
-no_request_behind run rest newlines many = record {
-  none = λ p after reads.
-      let whole = reads.whole ∙ append_assoc p.skipped _ after ∙ ap (λ (l : List ℕ). p.skipped ++ l) (append_assoc (print_request p.head) p.body after) in
-      let few = reads.parts.skipped.few in
-      longer_run is_newline run p.skipped _ rest newlines (head_stops p.head (p.body ++ after) reads.parts.head) whole (omega arith);
-  not_skipped = λ is. omega (arith, is.few, length-append run rest);
-}
-
-pub skips_too_many : (a b : Option (List ℕ)) (count : ℕ) → SkipsCount a b count → 65536 < count → IfSome a IsNoRequest
-skips_too_many a b count all many = go a b all.taken
-  where
-    many_bytes : 65536 < length all.skipped
-    many_bytes = omega (arith, all.size)
-
-    go : (a b : Option (List ℕ)) → Consumes a b all.skipped → IfSome a IsNoRequest
-    go None b taken = tt
-    go (Some xs) None taken = absurd taken
-    go (Some xs) (Some ys) taken = subst IsNoRequest (sym taken) (no_request_behind all.skipped ys all.newlines many_bytes)
-
--- the line ends in front of what is held, by `prefix_len`
+-- the run in front of what is held, by `prefix_len`
 pub run_passes : (test : ℕ → Bool) (bytes : List ℕ) → AllPass test (take (prefix_len test bytes) bytes)
 run_passes test bytes =
     All-from_get_or (λ b. IsTrue (test b)) _ 0 λ i below.
@@ -145,46 +143,38 @@ run_stops test bytes rest e some =
     subst (Stops test) (sym e) (Stops-drop test bytes (prefix_len test bytes) inside (prefix_len_stops test bytes 0 inside))
 
 -- so many are held
-pub run_within : (held : List ℕ) (run : ℕ) → run ≡ prefix_len is_newline held → run ≤ length held
-run_within held run is = omega (arith, prefix_len-le-length is_newline held)
+pub run_within : (test : ℕ → Bool) (held : List ℕ) (run : ℕ) → run ≡ prefix_len test held → run ≤ length held
+run_within test held run is = omega (arith, prefix_len-le-length test held)
 
--- the line ends in front of what is held were taken off it
-pub skip_step : (a : Option (List ℕ)) (held after : List ℕ) (left : Option (List ℕ)) (count run : ℕ) → SkipsCount a (prepend_known held left) count
-    → run ≡ prefix_len is_newline held → after ≡ drop run held → SkipsCount a (prepend_known after left) (count + run)
-skip_step a held after left count run before is dropped =
-    let passes = subst (λ (n : ℕ). AllPass is_newline (take n held)) (sym is) (run_passes is_newline held) in
-    let size = length-take-le run held (run_within held run is) in
+-- the run in front of what is held was taken off it
+pub run_step : (test : ℕ → Bool) (a : Option (List ℕ)) (held after : List ℕ) (left : Option (List ℕ)) (count run : ℕ) → TakesRun test a (prepend_known held left) count
+    → run ≡ prefix_len test held → after ≡ drop run held → TakesRun test a (prepend_known after left) (count + run)
+run_step test a held after left count run before is dropped =
+    let passes = subst (λ (n : ℕ). AllPass test (take n held)) (sym is) (run_passes test held) in
+    let size = length-take-le run held (run_within test held run is) in
     let taken = subst (λ (l : List ℕ). Consumes (prepend_known held left) (prepend_known l left) (take run held)) (sym dropped) (front_taken held left run) in
-    subst (λ (n : ℕ). SkipsCount a (prepend_known after left) (count + n)) size (skips_more a _ _ count (take run held) before passes taken)
+    subst (λ (n : ℕ). TakesRun test a (prepend_known after left) (count + n)) size (run_more test a _ _ count (take run held) before passes taken)
 
--- what then stands in front is no line end
-pub skip_stops : (held after : List ℕ) (run : ℕ) → run ≡ prefix_len is_newline held → after ≡ drop run held → 0 < length after → Stops is_newline after
-skip_stops held after run is dropped some =
-    run_stops is_newline held after (dropped ∙ ap (λ (n : ℕ). drop n held) is) some
+-- what then stands in front ends it
+pub run_step_stops : (test : ℕ → Bool) (held after : List ℕ) (run : ℕ) → run ≡ prefix_len test held → after ≡ drop run held → 0 < length after → Stops test after
+run_step_stops test held after run is dropped some =
+    run_stops test held after (dropped ∙ ap (λ (n : ℕ). drop n held) is) some
 
--- ---- a head and a body
+-- a run of bytes that pass is no longer than what stands before the first that doesn't
+pub longer_run : (test : ℕ → Bool) (run front after rest : List ℕ) → AllPass test run → Stops test after → run ++ rest ≡ front ++ after → length front < length run → ⊥
+longer_run test [] front after rest all stops e longer = omega arith
+longer_run test (x ∷ run) [] [] rest all stops e longer = stops
+longer_run test (x ∷ run) [] (y ∷ after) rest all stops e longer = let passes = All-head (λ v. test v ≡ true) x run all in cc
+longer_run test (x ∷ run) (y ∷ front) after rest all stops e longer =
+    longer_run test run front after rest (All-tail (λ v. test v ≡ true) x run all) stops (cc) (omega arith)
 
--- both were held
-pub body_held : (held after body : List ℕ) (left : Option (List ℕ)) (at len : ℕ) → after ≡ drop (at + len) held → body ≡ take len (drop at held)
-    → Consumes (prepend_known held left) (prepend_known after left) (take at held ++ body)
-body_held held after body left at len after_is body_is =
-    let text = take-add at len held ∙ ap (λ (l : List ℕ). take at held ++ l) (sym body_is) in
-    let taken = subst (λ (l : List ℕ). Consumes (prepend_known held left) (prepend_known l left) (take (at + len) held)) (sym after_is) (front_taken held left (at + len)) in
-    subst (Consumes (prepend_known held left) (prepend_known after left)) text taken
+-- where the run is too long, or the input ends in it, no run that may be is followed by a byte
+pub no_run_long : (test : ℕ → Bool) (limit : ℕ) (bytes : List ℕ) → IsLongRun test limit bytes → HasNoRun test limit bytes
+no_run_long test limit bytes long = record {
+  none = λ run rest passes few stops e. longer_run test long.run run rest long.rest long.passes stops (sym long.whole ∙ e) (omega (arith, long.many));
+}
 
--- all that was held was used, and more was read
-pub body_read : (held after start body : List ℕ) (left now : Option (List ℕ)) (at : ℕ) → after ≡ [] → start ≡ drop at held → Grows start body left now
-    → Consumes (prepend_known held left) (prepend_known after now) (take at held ++ body)
-body_read held after start body left now at after_is start_is grows = go left now grows.read
-  where
-    text : take at held ++ body ≡ held ++ grows.piece
-    text =
-        ap (λ (l : List ℕ). take at held ++ l) (grows.behind ∙ ap (λ (l : List ℕ). l ++ grows.piece) start_is)
-        ∙ sym (append_assoc (take at held) (drop at held) grows.piece) ∙ ap (λ (l : List ℕ). l ++ grows.piece) (take-append-drop at held)
-
-    go : (a b : Option (List ℕ)) → Consumes a b grows.piece → Consumes (prepend_known held a) (prepend_known after b) (take at held ++ body)
-    go None b taken = tt
-    go (Some xs) None taken = taken
-    go (Some xs) (Some ys) taken =
-        ap (λ (l : List ℕ). held ++ l) taken ∙ sym (append_assoc held grows.piece ys)
-        ∙ (λ i. sym text i ++ (sym after_is i ++ ys))
+pub no_run_all : (test : ℕ → Bool) (limit : ℕ) (bytes : List ℕ) → IsAllRun test limit bytes → HasNoRun test limit bytes
+no_run_all test limit bytes all = record {
+  none = λ run rest passes few stops e. run_unstopped test run rest (subst (AllPass test) e all.passes) stops;
+}

@@ -1,172 +1,131 @@
 -- From a head and a body that were taken off the input to a request, and why there is none.
-use Rattle.std.proofs.Common.{◌≡◌, ℕ, ◌+◌, ◌<◌, List, [], ◌∷◌, ◌++◌, length, take, drop, map, Option, None, Some, IfSome, refl, sym, ap, ◌∙◌, subst, arith, length-append, append_assoc}
+use Rattle.std.proofs.Common.{◌≡◌, ℕ, ◌+◌, ◌≤◌, true, List, ◌++◌, length, Option, None, IfSome, inl, inr, sym, ap, ◌∙◌, subst, arith, length-append, append_assoc}
+use Rattle.std.specs.Io.KnownBytes.{Consumes, Appends}
+use Rattle.std.proofs.KnownBytes.{Consumes-trans, Appends-nil}
+use Rattle.httparse.specs.Grammar.{RequestHead, print_request}
+use Rattle.httparse.specs.Pieces.{is_newline}
+use Rattle.httparse.proofs.RunLemmas.{run_unstopped}
+use Rattle.sw_outside.specs.Taken.{AppendsPart}
+use Rattle.sw_http.specs.Body.{IsFramedBody, print_body}
+use Rattle.sw_http.specs.ChunkSteps.{TakesBody, HasNoBody}
+use Rattle.sw_http.specs.Continue.{Takes, HasHead, BeginsNone, Refuses, IsToldPart, asks_continue, continue_text, continue_of}
 use Rattle.std.specs.Prelude.{codes}
-use Rattle.std.specs.List.{before_first, after_first}
-use Rattle.std.specs.Io.KnownBytes.{Consumes, Keeps, prepend_known}
-use Rattle.std.proofs.KnownBytes.{Consumes-trans, Consumes-kept}
-use Rattle.std.proofs.lemmas.List.{take_at}
-use Rattle.std.proofs.lemmas.List.Elements.{All-nil}
-use Rattle.httparse.specs.Grammar.{RequestHead, print_request, AllPass}
-use Rattle.httparse.specs.Grammar as grammar
-use Rattle.httparse.specs.Spans.{AreFieldsAt, span_bytes, header_bytes, name_and_value}
-use Rattle.httparse.specs.declared.spans.HeaderSpan.{HeaderSpan}
-use Rattle.httparse.specs.declared.spans.RequestSpans.{RequestSpans}
-use Rattle.httparse.proofs.GrammarLemmas.{request_prefix_free}
-use Rattle.httparse.proofs.RunLemmas.{run_unique, run_unstopped, Stops-append}
-use Rattle.httparse.specs.Pieces.{Stops, is_newline}
-use Rattle.sw_http.proofs.HeadLemmas.{head_stops}
-use Rattle.sw_http.specs.Fields.{has_field}
-use Rattle.sw_http.specs.Framing.{body_length}
-use Rattle.sw_http.specs.Head.{HasNoHead, IsHeadAt, field_at, TakesAtOnce, HasNoRequestAtOnce}
-use Rattle.sw_http.specs.Input.{Skips}
-use Rattle.sw_http.specs.Request.{Parts, AreParts, Takes, IsNoRequest, field_of, fields_of, is_question_mark}
+use Rattle.std.proofs.lemmas.Bool.{cond-true}
+use Rattle.httparse.specs.Ascii.{crlf_bytes}
+use Rattle.sw_http.specs.Framing.{framing_of, is_framed}
+use Rattle.sw_http.specs.Head.{Opens, IsHeadless}
+use Rattle.sw_http.specs.Request.{Parts, AreParts, IsNoRequest, IsSkipped, fields_of, text_of}
 use Rattle.sw_http.specs.declared.fields.Field.{Field}
+use Rattle.sw_http.specs.declared.framing.Framing.{Framing}
+use Rattle.sw_http.specs.declared.open_request.OpenRequest.{OpenRequest}
+use Rattle.sw_http.specs.declared.request.Body.{Body}
 use Rattle.sw_http.specs.declared.request.Request.{Request}
-use Rattle.sw_http.specs.declared.request.Body.TheVariants.{Whole}
+use Rattle.sw_http.proofs.HeadLemmas.{head_stops}
+use Rattle.sw_http.proofs.InputLemmas.{if_behind, if_some_map}
+use Rattle.sw_http.proofs.ListLemmas.{take_every}
+use Rattle.sw_http.proofs.ReadingLemmas.{text_split, start_same}
 
-pub kept_consumes : (a b c : Option (List ℕ)) (bytes : List ℕ) → Keeps a b → Consumes b c bytes → Consumes a c bytes
-kept_consumes None b c bytes kept taken = tt
-kept_consumes (Some xs) None c bytes kept taken = absurd kept
-kept_consumes (Some xs) (Some ys) None bytes kept taken = taken
-kept_consumes (Some xs) (Some ys) (Some zs) bytes kept taken = sym kept ∙ taken
+-- ---- the head
 
-if_some_map : (a : Option (List ℕ)) (P Q : List ℕ → Type 0) → ((bytes : List ℕ) → P bytes → Q bytes) → IfSome a P → IfSome a Q
-if_some_map None P Q step holds = tt
-if_some_map (Some xs) P Q step holds = step xs holds
+pub has_head : (a b : Option (List ℕ)) (open_ : OpenRequest) (room : ℕ) (opens : Opens a b open_ room) → HasHead a opens.head
+has_head a b open_ room opens = record { skipped = opens.skipped; are_skipped = opens.are_skipped; is_head = opens.is_head; rest = b; stands = opens.taken }
 
--- ---- the head that was found
+-- what is written for the fields that were copied is what the head asks for
+pub told : (a b t now : Option (List ℕ)) (open_ : OpenRequest) (room : ℕ) (opens : Opens a b open_ room) → Appends t now (continue_text open_.fields)
+    → Appends t now (continue_of opens.head)
+told a b t now open_ room opens written = subst (λ (l : List Field). Appends t now (continue_text l)) opens.is_open.fields written
 
-abbrev field_from : List ℕ × List ℕ → Field
-field_from pair = record { name = pair.0; value = pair.1 }
+pub told_part : (a b t now : Option (List ℕ)) (open_ : OpenRequest) (room : ℕ) (opens : Opens a b open_ room) → AppendsPart t now (continue_text open_.fields)
+    → IsToldPart a t now
+told_part a b t now open_ room opens written =
+    (opens.head, has_head a b open_ room opens, subst (λ (l : List Field). AppendsPart t now (continue_text l)) opens.is_open.fields written)
 
-map_twice : {A : Type 0} (f : A → List ℕ × List ℕ) (xs : List A) → map field_from (map f xs) ≡ map (λ x. field_from (f x)) xs
-map_twice f [] = refl
-map_twice f (x ∷ xs) = ap (λ (l : List Field). field_from (f x) ∷ l) (map_twice f xs)
+-- all of it is a front of it
+pub part_of_all : (t now : Option (List ℕ)) (text : List ℕ) → Appends t now text → AppendsPart t now text
+part_of_all t now text written = (length text, subst (Appends t now) (sym (take_every text)) written)
 
-fields_read : (bytes : List ℕ) (headers : List HeaderSpan) (count : ℕ) (fields : List grammar.Field) → AreFieldsAt bytes headers count fields
-    → map (field_at bytes) (take count headers) ≡ map field_of fields
-fields_read bytes headers count fields at =
-    sym (map_twice (header_bytes bytes) (take count headers)) ∙ ap (map field_from) at ∙ map_twice name_and_value fields
+pub told_whole : (a b t now : Option (List ℕ)) (open_ : OpenRequest) (room : ℕ) (opens : Opens a b open_ room) → Appends t now (continue_text open_.fields) → IsToldPart a t now
+told_whole a b t now open_ room opens written = told_part a b t now open_ room opens (part_of_all t now (continue_text open_.fields) written)
 
-head_text : (bytes : List ℕ) (headers : List HeaderSpan) (spans : RequestSpans) (found : IsHeadAt bytes headers spans) → take spans.len bytes ≡ print_request found.head
-head_text bytes headers spans found =
-    ap (take spans.len) found.at.reads.1 ∙ take_at (print_request found.head) (drop spans.len bytes) spans.len (sym found.at.len)
-
-head_same : (bytes more : List ℕ) (headers : List HeaderSpan) (spans : RequestSpans) (found : IsHeadAt bytes headers spans) (p : Parts) (rest : List ℕ) → AreParts p
-    → bytes ++ more ≡ print_request p.head ++ rest → found.head ≡ p.head
-head_same bytes more headers spans found p rest parts e =
-    (request_prefix_free bytes more found.head p.head (drop spans.len bytes) rest found.at.reads (parts.head.valid, e)).0
+pub continue_asked : (fields : List Field) → asks_continue fields ≡ true → continue_text fields ≡ codes "HTTP/1.1 100 Continue" ++ (crlf_bytes ++ crlf_bytes)
+unfolding continue_text
+continue_asked fields asks = cond-true _ _ _ asks
 
 -- ---- the request
 
--- the parts of a head, as they were copied
-pub record AreCopied (bytes : List ℕ) (headers : List HeaderSpan) (spans : RequestSpans) (request : Request) : Type 0 where
-  pub method : request.method ≡ span_bytes bytes spans.method
-  pub path : request.path ≡ before_first is_question_mark (span_bytes bytes spans.path)
-  pub query : request.query ≡ after_first is_question_mark (span_bytes bytes spans.path)
-  pub fields : request.fields ≡ map (field_at bytes) (take spans.headers headers)
+size_of_text : (skipped head body : List ℕ) (room most : ℕ) → length (skipped ++ head) + room ≡ most → length body ≤ room → length (skipped ++ (head ++ body)) ≤ most
+size_of_text skipped head body room most sum fits =
+    omega (arith, sum, fits, length-append skipped head, length-append skipped (head ++ body), length-append head body)
 
-length_same : (bytes : List ℕ) (headers : List HeaderSpan) (spans : RequestSpans) (found : IsHeadAt bytes headers spans) (method : List ℕ) (fields : List Field)
-    → method ≡ span_bytes bytes spans.method → fields ≡ map (field_at bytes) (take spans.headers headers)
-    → body_length method fields ≡ body_length found.head.method (fields_of found.head)
-length_same bytes headers spans found method fields method_is fields_are =
-    let same_method = method_is ∙ found.at.method in
-    let same_fields = fields_are ∙ fields_read bytes headers spans.headers found.head.fields found.at.fields in
-    λ i. body_length (same_method i) (same_fields i)
-
-pub request_taken : (input before after : Option (List ℕ)) (bytes : List ℕ) (headers : List HeaderSpan) (spans : RequestSpans) (request : Request) (body : List ℕ) (len : ℕ)
-    → IsHeadAt bytes headers spans → Keeps input before → Consumes before after (take spans.len bytes ++ body) → length body ≡ len
-    → Some len ≡ body_length request.method request.fields → AreCopied bytes headers spans request
-    → request.framed ≡ has_field (codes "content-length") request.fields → request.body ≡ Whole body → TakesAtOnce input after request
-request_taken input before after bytes headers spans request body len found kept taken size len_is copied framed whole =
-    let fields = copied.fields ∙ fields_read bytes headers spans.headers found.head.fields found.at.fields in
-    let target = found.at.path in
-    record {
-      parts = record { skipped = []; head = found.head; body = body };
-      are_parts = record {
-        skipped = record { newlines = All-nil _; few = omega arith };
-        head = found.is_head;
-        body = sym (length_same bytes headers spans found request.method request.fields copied.method copied.fields) ∙ sym len_is ∙ ap Some (sym size);
-      };
-      request_is = λ i. record {
-        method = (copied.method ∙ found.at.method) i;
-        path = (copied.path ∙ ap (before_first is_question_mark) target) i;
-        query = (copied.query ∙ ap (after_first is_question_mark) target) i;
-        fields = fields i;
-        framed = (framed ∙ ap (has_field (codes "content-length")) fields) i;
-        body = whole i;
-      };
-      taken = kept_consumes input before after _ kept
-          (subst (λ (l : List ℕ). Consumes before after (l ++ body)) (head_text bytes headers spans found) taken);
-    }
+pub request_taken : (a b c t now : Option (List ℕ)) (open_ : OpenRequest) (room : ℕ) (body : Body) (request : Request) → Opens a b open_ room
+    → Appends t now (continue_text open_.fields) → TakesBody b c (framing_of open_.fields) room body
+    → request ≡ record { method = open_.method; path = open_.path; query = open_.query; fields = open_.fields; framed = is_framed open_.fields; body = body }
+    → Takes a c t now request
+request_taken a b c t now open_ room body request opens written takes request_is = record {
+  parts = record { skipped = opens.skipped; head = opens.head; body = takes.text };
+  are_parts = record {
+    skipped = opens.are_skipped;
+    head = opens.is_head;
+    body = subst (λ (l : List Field). IsFramedBody (framing_of l) takes.text) opens.is_open.fields takes.is_body;
+    size = size_of_text opens.skipped (print_request opens.head) (print_body takes.text) room 1073741824 opens.room_is takes.fits;
+  };
+  request_is = request_is ∙ (λ i. record {
+    method = opens.is_open.method i;
+    path = opens.is_open.path i;
+    query = opens.is_open.query i;
+    fields = opens.is_open.fields i;
+    framed = is_framed (opens.is_open.fields i);
+    body = takes.body_is i;
+  });
+  consumed = subst (Consumes a c) (append_assoc opens.skipped (print_request opens.head) (print_body takes.text)) (Consumes-trans a b c _ _ opens.taken takes.taken);
+  continued = told a b t now open_ room opens written;
+}
 
 -- ---- no request
 
-pub none_without_head : (input : Option (List ℕ)) → IfSome input HasNoHead → IfSome input HasNoRequestAtOnce
-none_without_head input = if_some_map input HasNoHead HasNoRequestAtOnce λ bytes none.
-    record { none = λ p rest parts e. none.none p.head (p.body ++ rest) parts.head e }
-
-pub none_without_length : (bytes : List ℕ) (left : Option (List ℕ)) (headers : List HeaderSpan) (spans : RequestSpans) (method : List ℕ) (fields : List Field)
-    → IsHeadAt bytes headers spans → method ≡ span_bytes bytes spans.method → fields ≡ map (field_at bytes) (take spans.headers headers)
-    → None ≡ body_length method fields → IfSome (prepend_known bytes left) HasNoRequestAtOnce
-none_without_length bytes None headers spans method fields found method_is fields_are none = tt
-none_without_length bytes (Some xs) headers spans method fields found method_is fields_are none = record {
-  none = λ p rest parts e.
-      let same = head_same bytes xs headers spans found p (p.body ++ rest) parts e in
-      let some = subst (λ (h : RequestHead). body_length h.method (fields_of h) ≡ Some (length p.body)) (sym same) parts.body in
-      let both = none ∙ length_same bytes headers spans found method fields method_is fields_are ∙ some in
-      cc;
+no_request_headless : (bytes : List ℕ) → IsHeadless bytes → IsNoRequest bytes
+no_request_headless bytes headless = record {
+  none = λ p rest reads. headless.none.none p.skipped _ p.head reads.parts.skipped reads.parts.head (reads.whole ∙ text_split p rest);
+  not_skipped = headless.not_skipped;
 }
 
-pub none_short : (bytes : List ℕ) (left : Option (List ℕ)) (headers : List HeaderSpan) (spans : RequestSpans) (method : List ℕ) (fields : List Field) (len : ℕ)
-    → IsHeadAt bytes headers spans → method ≡ span_bytes bytes spans.method → fields ≡ map (field_at bytes) (take spans.headers headers)
-    → Some len ≡ body_length method fields → IfSome (prepend_known bytes left) (λ input. length input < spans.len + len)
-    → IfSome (prepend_known bytes left) HasNoRequestAtOnce
-none_short bytes None headers spans method fields len found method_is fields_are len_is short = tt
-none_short bytes (Some xs) headers spans method fields len found method_is fields_are len_is short = record {
-  none = λ p rest parts e.
-      let same = head_same bytes xs headers spans found p (p.body ++ rest) parts e in
-      let some = subst (λ (h : RequestHead). body_length h.method (fields_of h) ≡ Some (length p.body)) (sym same) parts.body in
-      let both = len_is ∙ length_same bytes headers spans found method fields method_is fields_are ∙ some in
-      let size : len ≡ length p.body = cc in
-      let head_size = found.at.len ∙ ap (λ (h : RequestHead). length (print_request h)) same in
-      omega (arith, short, size, head_size, ap length e, length-append (print_request p.head) (p.body ++ rest), length-append p.body rest);
+pub refuses_headless : (a t : Option (List ℕ)) → IfSome a IsHeadless → Refuses a t t
+refuses_headless a t headless = record {
+  no_request = if_some_map a IsHeadless IsNoRequest no_request_headless headless;
+  continued = inr (if_some_map a IsHeadless BeginsNone (λ bytes h. h.none) headless, Appends-nil t);
 }
 
--- ---- what was skipped before it
+-- line ends, a head, and then what isn't its body
+no_request_body : (skipped rest : List ℕ) (h : RequestHead) (room : ℕ) → IsSkipped skipped → (is : (after : List ℕ) → ¬ (IsSkipped (skipped ++ (print_request h ++ after))))
+    → ((p : Parts) (after : List ℕ) → AreParts p → ¬ (skipped ++ (print_request h ++ rest) ≡ text_of p ++ after))
+    → IsNoRequest ((skipped ++ print_request h) ++ rest)
+no_request_body skipped rest h room are not none_there =
+    subst IsNoRequest (sym (append_assoc skipped (print_request h) rest)) (record { none = λ p after reads. none_there p after reads.parts reads.whole; not_skipped = not rest })
 
-pub takes : (input mid after : Option (List ℕ)) (request : Request) → Skips input mid → TakesAtOnce mid after request → Takes input after request
-takes input mid after request skips taken = record {
-  parts = record { skipped = skips.skipped; head = taken.parts.head; body = taken.parts.body };
-  are_parts = record { skipped = skips.are_skipped; head = taken.are_parts.head; body = taken.are_parts.body };
-  request_is = taken.request_is;
-  taken = Consumes-trans input mid after skips.skipped _ skips.taken taken.taken;
-}
+refused_behind : (a b : Option (List ℕ)) (open_ : OpenRequest) (room : ℕ) (opens : Opens a b open_ room) (Q : List ℕ → Type 0)
+    → ((rest : List ℕ) → Q rest → (p : Parts) (after : List ℕ) → AreParts p → opens.head ≡ p.head → opens.skipped ≡ p.skipped → ¬ (rest ≡ print_body p.body ++ after))
+    → IfSome b Q → IfSome a IsNoRequest
+refused_behind a b open_ room opens Q step = if_behind a b _ IsNoRequest Q opens.taken λ rest holds.
+    no_request_body opens.skipped rest opens.head room opens.are_skipped
+    (λ after are. run_unstopped is_newline opens.skipped _ are.newlines (head_stops opens.head after opens.is_head))
+    (λ p after parts e.
+    let same = start_same opens.skipped p.skipped opens.head p.head rest _ opens.are_skipped parts.skipped opens.is_head parts.head (e ∙ text_split p after) in
+    step rest holds p after parts same.1 same.0 same.2)
 
--- what follows the line ends is no request
-pub no_request_after : (skipped after : List ℕ) → AllPass is_newline skipped → Stops is_newline after → HasNoRequestAtOnce after → IsNoRequest (skipped ++ after)
-no_request_after skipped after newlines stops none = record {
-  none = λ p rest reads.
-      let whole = reads.whole ∙ append_assoc p.skipped _ rest ∙ ap (λ (l : List ℕ). p.skipped ++ l) (append_assoc (print_request p.head) p.body rest) in
-      let same = run_unique is_newline skipped p.skipped after _ newlines reads.parts.skipped.newlines stops (head_stops p.head (p.body ++ rest) reads.parts.head) whole in
-      none.none p rest reads.parts same.1;
-  not_skipped = λ is. run_unstopped is_newline skipped after is.newlines stops;
-}
+pub nothing_told : (fields : List Field) → None ≡ framing_of fields → (x : Option (List ℕ)) → Appends x x (continue_text fields)
+unfolding continue_text
+nothing_told fields bad x = rw (← bad) (Appends-nil x)
 
-pub bad_input : (input : Option (List ℕ)) (held : List ℕ) (left : Option (List ℕ)) → Skips input (prepend_known held left) → Stops is_newline held
-    → IfSome (prepend_known held left) HasNoRequestAtOnce → IfSome input IsNoRequest
-bad_input input held left skips stops none = go input left skips.taken none
-  where
-    go : (a b : Option (List ℕ)) → Consumes a (prepend_known held b) skips.skipped → IfSome (prepend_known held b) HasNoRequestAtOnce → IfSome a IsNoRequest
-    go None b taken holds = tt
-    go (Some xs) None taken holds = absurd taken
-    go (Some xs) (Some ys) taken holds =
-        subst IsNoRequest (sym taken) (no_request_after skips.skipped (held ++ ys) skips.are_skipped.newlines (Stops-append is_newline held ys stops) holds)
-
--- a request was skipped to, and reading it changed nothing else
-pub skips_kept_after : (a b c : Option (List ℕ)) → Skips a b → Keeps b c → Skips a c
-skips_kept_after a b c skips kept = record {
-  skipped = skips.skipped;
-  are_skipped = skips.are_skipped;
-  taken = Consumes-kept a b c skips.skipped skips.taken kept;
+-- its body isn't there
+pub refuses_body : (a b t now : Option (List ℕ)) (open_ : OpenRequest) (room : ℕ) → Opens a b open_ room → Appends t now (continue_text open_.fields)
+    → IfSome b (HasNoBody (framing_of open_.fields) room) → Refuses a t now
+refuses_body a b t now open_ room opens written none_there = record {
+  no_request = refused_behind a b open_ room opens (HasNoBody (framing_of open_.fields) room)
+      (λ rest holds p after parts same skipped_same e.
+      let framing = ap framing_of opens.is_open.fields ∙ ap (λ (h : RequestHead). framing_of (fields_of h)) same in
+      let fits : length (print_body p.body) ≤ room =
+      omega (arith, parts.size, opens.room_is, length-append opens.skipped (print_request opens.head), length-append p.skipped (print_request p.head ++ print_body p.body), length-append (print_request p.head) (print_body p.body), ap length skipped_same, ap (λ (h : RequestHead). length (print_request h)) same) in
+      holds.none p.body after (subst (λ (f : Option Framing). IsFramedBody f p.body) (sym framing) parts.body) fits e)
+      none_there;
+  continued = inl (opens.head, has_head a b open_ room opens, told a b t now open_ room opens written);
 }

@@ -1,15 +1,19 @@
 -- What the reader's own steps do to the input. (This project's own.)
-use Rattle.std.specs.Prelude.{◌≡◌, ℕ, List, ◌++◌, length, Option, IfSome, Result, MatchResult}
+use Rattle.std.specs.Prelude.{◌≡◌, ℕ, ◌<◌, ◌≤◌, Bool, List, ◌++◌, length, Option, IfSome, Result, MatchResult}
 use Rattle.std.specs.Io.KnownBytes.{Consumes, Keeps, IsAtEnd}
-use Rattle.httparse.specs.Grammar.{AllPass}
+use Rattle.httparse.specs.Ascii.{crlf_bytes}
+use Rattle.httparse.specs.Grammar.{AllPass, is_ows, is_extension_byte}
 use Rattle.httparse.specs.Pieces.{Stops, is_newline}
-use Rattle.sw_http.specs.Request.{IsSkipped, IsNoRequest}
 use Rattle.sw_http.specs.declared.input.ReadError.{ReadError}
 use Rattle.sw_http.specs.declared.input.ReadError.TheVariants.{Failed, NoMemory}
+use Rattle.sw_http.specs.declared.look.Look.{Look}
+use Rattle.sw_http.specs.declared.look.Look.TheVariants as looks
 use Rattle.sw_http.specs.declared.reader.HttpFault.{HttpFault}
 use Rattle.sw_http.specs.declared.reader.HttpFault.TheVariants as faults
-use Rattle.sw_http.specs.declared.skip.Start.{Start}
-use Rattle.sw_http.specs.declared.skip.Start.TheVariants.{Begun, Ended, TooMany}
+use Rattle.sw_http.specs.declared.run.Class.{Class}
+use Rattle.sw_http.specs.declared.run.Class.TheVariants.{LineEnds, Blanks, Extension}
+use Rattle.sw_http.specs.declared.run.Run.{Run}
+use Rattle.sw_http.specs.declared.run.Run.TheVariants.{Begun, Ended, TooMany}
 
 -- a read put n bytes of the source behind those that were there, none only at the source's end
 pub record HasRead (before after : List ℕ) (left left_now : Option (List ℕ)) (n : ℕ) : Type 0 where
@@ -24,30 +28,61 @@ abbrev pub ReadsBehind : {E : Type 0} → List ℕ → List ℕ → Option (List
 ReadsBehind before after left left_now result =
     MatchResult result (HasRead before after left left_now) (λ _. (after ≡ before) × Keeps left left_now)
 
--- bytes of the source were put behind those that were there
-pub record Grows (before after : List ℕ) (left left_now : Option (List ℕ)) : Type 0 where
-  pub piece : List ℕ
-  pub behind : after ≡ before ++ piece
-  pub read : Consumes left left_now piece
+-- ---- runs of bytes that are passed over
 
--- line ends to be skipped, and nothing else, were taken off the input
-pub record Skips (before after : Option (List ℕ)) : Type 0 where
-  pub skipped : List ℕ
-  pub are_skipped : IsSkipped skipped
-  pub taken : Consumes before after skipped
+-- the test of a byte of this class
+abbrev pub test_of : Class → ℕ → Bool
+test_of LineEnds = is_newline
+test_of Blanks = is_ows
+test_of Extension = is_extension_byte
 
--- so many CR and LF were taken off the input
-pub record SkipsCount (before after : Option (List ℕ)) (count : ℕ) : Type 0 where
-  pub skipped : List ℕ
-  pub newlines : AllPass is_newline skipped
-  pub size : length skipped ≡ count
-  pub taken : Consumes before after skipped
+-- so many bytes that pass the test were taken off the input
+pub record TakesRun (test : ℕ → Bool) (before after : Option (List ℕ)) (count : ℕ) : Type 0 where
+  pub run : List ℕ
+  pub passes : AllPass test run
+  pub size : length run ≡ count
+  pub taken : Consumes before after run
 
--- what stands in front of the input once line ends were skipped
-abbrev pub IsStart : Option (List ℕ) → Option (List ℕ) → List ℕ → Option (List ℕ) → Start → Type 0
-IsStart before after held left Begun = Skips before after × Stops is_newline held
-IsStart before after held left Ended = IfSome before IsSkipped × IsAtEnd left × IsAtEnd after
-IsStart before after held left TooMany = IfSome before IsNoRequest
+-- no more than limit bytes that pass the test, and nothing else, were taken off the input
+pub record TakesFew (test : ℕ → Bool) (limit : ℕ) (before after : Option (List ℕ)) : Type 0 where
+  pub count : ℕ
+  pub few : count ≤ limit
+  pub takes : TakesRun test before after count
+
+-- all bytes pass the test, and they are no more than limit
+pub record IsAllRun (test : ℕ → Bool) (limit : ℕ) (bytes : List ℕ) : Type 0 where
+  pub passes : AllPass test bytes
+  pub few : length bytes ≤ limit
+
+-- in front of bytes stand more than limit bytes that pass the test
+pub record IsLongRun (test : ℕ → Bool) (limit : ℕ) (bytes : List ℕ) : Type 0 where
+  pub run : List ℕ
+  pub rest : List ℕ
+  pub passes : AllPass test run
+  pub many : limit < length run
+  pub whole : bytes ≡ run ++ rest
+
+-- what stands in front of the input once a run was passed over
+abbrev pub IsRun : (ℕ → Bool) → ℕ → Option (List ℕ) → Option (List ℕ) → List ℕ → Option (List ℕ) → Run → Type 0
+IsRun test limit before after held left (Begun count) = TakesRun test before after count × (count ≤ limit) × Stops test held
+IsRun test limit before after held left Ended = IfSome before (IsAllRun test limit) × IsAtEnd left × IsAtEnd after
+IsRun test limit before after held left TooMany = IfSome before (IsLongRun test limit)
+
+-- no run of at most limit bytes and then a byte that ends it stands in front of bytes
+pub record HasNoRun (test : ℕ → Bool) (limit : ℕ) (bytes : List ℕ) : Type 0 where
+  pub none : (run rest : List ℕ) → AllPass test run → length run ≤ limit → Stops test rest → ¬ (bytes ≡ run ++ rest)
+
+-- no line end stands in front of bytes
+pub record HasNoLineEnd (bytes : List ℕ) : Type 0 where
+  pub none : (rest : List ℕ) → ¬ (bytes ≡ crlf_bytes ++ rest)
+
+-- ---- looks and errors
+
+-- what one look at bytes says: what was found there, that nothing is there so far, or that nothing will be
+abbrev pub IsLook : {A : Type 0} → (A → Type 0) → (List ℕ → Type 0) → List ℕ → Look A → Type 0
+IsLook found none bytes (looks.Whole a) = found a
+IsLook found none bytes looks.NotYet = none bytes
+IsLook found none bytes looks.Never = (more : List ℕ) → none (bytes ++ more)
 
 -- how an error of a read is told
 abbrev pub fault_of : ReadError → HttpFault

@@ -1,3 +1,7 @@
+pub mod Body
+pub mod ChunkSteps
+pub mod Chunked
+pub mod Continue
 pub mod Fields
 pub mod Framing
 pub mod Head

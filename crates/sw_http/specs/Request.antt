@@ -2,18 +2,21 @@
 --
 -- A request's text is the printed form of its parts: line ends that are skipped, a head, a body. The definitions speak of texts and
 -- say nothing of reading, so no way of cutting the input into pieces occurs in them.
-use Rattle.std.specs.Prelude.{◌≡◌, ℕ, ◌≤◌, List, [], ◌++◌, length, map, Option, Some, ◌==◌, Bool, codes}
+use Rattle.std.specs.Prelude.{◌≡◌, ℕ, ◌≤◌, List, [], ◌∷◌, ◌++◌, length, map, ◌==◌, Bool}
 use Rattle.std.specs.List.{before_first, after_first}
-use Rattle.std.specs.Io.KnownBytes.{Consumes}
 use Rattle.httparse.specs.Grammar.{RequestHead, IsRequestHead, print_request, field_value, AllPass}
 use Rattle.httparse.specs.Grammar as grammar
 use Rattle.httparse.specs.Pieces.{is_newline}
-use Rattle.sw_http.specs.Fields.{has_field}
-use Rattle.sw_http.specs.Framing.{body_length}
+use Rattle.sw_http.specs.Body.{BodyText, IsFramedBody, print_body, content_of, body_of}
+use Rattle.sw_http.specs.Framing.{framing_of, is_framed}
 use Rattle.sw_http.specs.declared.fields.Field.{Field}
 use Rattle.sw_http.specs.declared.request.Request.{Request}
-use Rattle.sw_http.specs.declared.request.Body.TheVariants.{Whole}
-use Rattle.sw_http.specs.declared.limits.TheConstants.{MAX_HEAD, MAX_FIELDS, MAX_SKIPPED}
+use Rattle.sw_http.specs.declared.limits.TheConstants.{MAX_HEAD, MAX_FIELDS, MAX_SKIPPED, MAX_REQUEST}
+
+-- the target is a path: it begins with a slash
+abbrev pub IsPath : List ℕ → Type 0
+IsPath [] = ⊥
+IsPath (b ∷ target) = b ≡ 47
 
 -- a head that this server takes
 pub record IsHead (h : RequestHead) : Type 0 where
@@ -22,6 +25,7 @@ pub record IsHead (h : RequestHead) : Type 0 where
   pub size : length (print_request h) ≤ MAX_HEAD
   pub few_fields : length h.fields ≤ MAX_FIELDS
   pub version : h.minor ≡ 1
+  pub path : IsPath h.target
 
 -- CR and LF bytes that are skipped before a head
 pub record IsSkipped (bytes : List ℕ) : Type 0 where
@@ -32,11 +36,11 @@ pub record IsSkipped (bytes : List ℕ) : Type 0 where
 pub record Parts : Type 0 where
   pub skipped : List ℕ
   pub head : RequestHead
-  pub body : List ℕ
+  pub body : BodyText
 
 -- the text of a request
 abbrev pub text_of : Parts → List ℕ
-text_of p = p.skipped ++ (print_request p.head ++ p.body)
+text_of p = p.skipped ++ (print_request p.head ++ print_body p.body)
 
 -- a field as the parser reads it: the value without the white space around it
 abbrev pub field_of : grammar.Field → Field
@@ -50,7 +54,8 @@ fields_of h = map field_of h.fields
 pub record AreParts (p : Parts) : Type 0 where
   pub skipped : IsSkipped p.skipped
   pub head : IsHead p.head
-  pub body : body_length p.head.method (fields_of p.head) ≡ Some (length p.body)
+  pub body : IsFramedBody (framing_of (fields_of p.head)) p.body
+  pub size : length (text_of p) ≤ MAX_REQUEST
 
 -- the byte that ends the path of a target and begins its query
 abbrev pub is_question_mark : ℕ → Bool
@@ -63,8 +68,8 @@ request_of p = record {
   path = before_first is_question_mark p.head.target;
   query = after_first is_question_mark p.head.target;
   fields = fields_of p.head;
-  framed = has_field (codes "content-length") (fields_of p.head);
-  body = Whole p.body;
+  framed = is_framed (fields_of p.head);
+  body = body_of (content_of p.body);
 }
 
 -- bytes are a request's text and then rest
@@ -76,10 +81,3 @@ pub record Reads (bytes : List ℕ) (p : Parts) (rest : List ℕ) : Type 0 where
 pub record IsNoRequest (bytes : List ℕ) : Type 0 where
   pub none : (p : Parts) (rest : List ℕ) → ¬ (Reads bytes p rest)
   pub not_skipped : ¬ (IsSkipped bytes)
-
--- the request was taken off the input: its text stood in front, and is gone
-pub record Takes (before after : Option (List ℕ)) (request : Request) : Type 0 where
-  pub parts : Parts
-  pub are_parts : AreParts parts
-  pub request_is : request ≡ request_of parts
-  pub taken : Consumes before after (text_of parts)

@@ -1,9 +1,9 @@
-ghost use Rattle.std.specs.Prelude.{◌≡◌, ℕ, ◌+◌, ◌^◌, ◌<◌, ◌≤◌, [], ◌++◌, length, drop, Err, IfOk, OnOk};
+ghost use Rattle.std.specs.Prelude.{◌≡◌, ℕ, ◌+◌, ◌^◌, ◌<◌, ◌≤◌, [], length, drop, Err, IfOk};
 ghost use Rattle.sw_outside.specs.Faults.{HasRisen};
 ghost use Rattle.sw_http.specs.Input.{ReadsBehind};
 
 use crate::input::{PIECE, ReadError, drop_front, read_behind};
-use std::alloc::{AllocError, Global};
+use std::alloc::Global;
 use std::marker::Model;
 use sw_outside::Source;
 
@@ -63,12 +63,5 @@ impl Held {
         drop_front(&mut self.bytes, self.at);
         self.at = 0;
         read_behind(&mut self.bytes, source, PIECE)
-    }
-
-    /// Puts bytes behind those that are held.
-    pub(crate) fn push_all(&mut self, more: &[u8]) -> Result<(), AllocError>
-        ensures { OnOk result (self.new ≡ self.old ++ more.now) }
-    {
-        self.bytes.extend_from_slice(more)
     }
 }

@@ -13,6 +13,7 @@ use std::alloc::Global;
 use sw_outside::{Bytes, NoMemory};
 
 /// A request whose body was not taken yet.
+#[derive(Drop)]
 pub(crate) struct OpenRequest {
     pub method: Method,
     pub path: Bytes,

@@ -1,23 +1,27 @@
-ghost use Rattle.std.specs.Prelude.{◌≡◌, ℕ, ◌≤◌, None, Ok, Err, IfOk, IfSome};
-ghost use Rattle.std.specs.Io.KnownBytes.{IsAtEnd, Keeps, prepend_known};
-ghost use Rattle.httparse.specs.Pieces.{Stops, is_newline};
+ghost use Rattle.std.specs.Prelude.{◌≡◌, ◌≢◌, ℕ, ◌≤◌, [], None, Ok, Err, IfOk, IfSome, OnOk, OnErr};
+ghost use Rattle.std.specs.Io.KnownBytes.{Appends, IsAtEnd, prepend_known};
 ghost use Rattle.sw_outside.specs.Faults.{HasRisen};
-ghost use Rattle.sw_http.specs.Head.{TakesAtOnce, HasNoRequestAtOnce};
-ghost use Rattle.sw_http.specs.Input.{Skips, fault_of};
-ghost use Rattle.sw_http.specs.Request.{Takes, IsSkipped, IsNoRequest};
+ghost use Rattle.sw_outside.specs.Taken.{AppendsPart};
+ghost use Rattle.sw_http.specs.Continue.{Takes, Refuses, MayContinue, IsToldPart, IsCut, continue_text};
+ghost use Rattle.sw_http.specs.ChunkSteps.{TakesBody, HasNoBody};
+ghost use Rattle.sw_http.specs.Framing.{framing_of, is_framed};
+ghost use Rattle.sw_http.specs.Input.{fault_of};
+ghost use Rattle.sw_http.specs.Request.{IsSkipped};
+ghost use Rattle.sw_http.specs.declared.limits.TheConstants.{MAX_REQUEST};
+ghost use Rattle.sw_http.specs.declared.reader.HttpFault.TheVariants as faults;
 
 use crate::body::take_body;
-use crate::framing::{CONTENT_LENGTH, body_len, has_field};
-use crate::head::read_head;
+use crate::continue_::send_continue;
+use crate::fields::FieldList;
+use crate::framing::{framing_of, is_framed};
 use crate::held::Held;
 use crate::input::ReadError;
-use crate::limits::MAX_FIELDS;
-use crate::open_request::{OpenRequest, open_request};
+use crate::limits::MAX_REQUEST;
+use crate::open_request::OpenRequest;
+use crate::opening::{Opening, take_opening};
 use crate::request::{Body, Request};
-use crate::skip::{Start, skip_line_ends};
-use httparse::spans::EMPTY_HEADER_SPAN;
 use std::alloc::Global;
-use sw_outside::{NoMemory, Source};
+use sw_outside::{Failed, Sink, Source};
 use thiserror::Error;
 
 /// Why no request was handed out.
@@ -27,6 +31,8 @@ pub enum HttpFault {
     Bad,
     #[error("a read failed")]
     ReadFault,
+    #[error("a write failed")]
+    WriteFault,
     #[error("out of memory")]
     NoMemory,
 }
@@ -42,77 +48,99 @@ impl From<ReadError> for HttpFault {
     }
 }
 
+impl From<Failed> for HttpFault {
+    ghost from_gives = { λ _ fault. fault ≡ faults.WriteFault };
+
+    fn from(_error: Failed) -> HttpFault {
+        HttpFault::WriteFault
+    }
+}
+
 /// Takes the next request off the input, which is what is held and then what the source has left.
 ///
+/// Where the head of a request with a body has `Expect: 100-continue`, `100 Continue` is written before the body is read, in one call of
+/// the sink. Nothing else is ever written.
+///
 /// `None` comes where the input ended and nothing but CR and LF to be skipped was left. [`HttpFault::Bad`] comes where no front of the
-/// input is a request's text, [`HttpFault::ReadFault`] only where a read failed in this call: nothing but line ends before the request
-/// was taken then, and the next call goes on. After the other errors a part of the input may be gone.
-pub fn next_request<R: Source>(
+/// input is a request's text, [`HttpFault::ReadFault`] only where a read failed in this call, and [`HttpFault::WriteFault`] only where
+/// that write failed. Where a read failed before a head was whole, nothing but line ends before it was taken, and the next call goes
+/// on. After the other errors a part of the input may be gone.
+///
+/// A body over [`MAX_BODY`](crate::MAX_BODY) is read to its end and not kept. No more is held than a head and a piece, beside the body.
+pub fn next_request<R: Source, W: Sink>(
     alloc: Global,
     held: &mut Held,
     source: &mut R,
+    out: &mut W,
 ) -> Result<Option<Request>, HttpFault>
-    ensures request { IfOk result (λ next. IfSome next (Takes (prepend_known held.old (R.left source.old)) (prepend_known held.new (R.left source.new)))) }
+    ensures request { IfOk result (λ next. IfSome next (Takes (prepend_known held.old (R.left source.old)) (prepend_known held.new (R.left source.new)) (W.taken out.old) (W.taken out.new))) }
 
     // The input ended, and nothing but line ends to be skipped was left.
     ensures ended { result ≡ Ok None → IfSome (prepend_known held.old (R.left source.old)) IsSkipped }
     ensures at_end { result ≡ Ok None → IsAtEnd (R.left source.new) }
     ensures nothing_left { result ≡ Ok None → IsAtEnd (prepend_known held.new (R.left source.new)) }
+    ensures nothing_written { result ≡ Ok None → Appends (W.taken out.old) (W.taken out.new) [] }
 
-    ensures bad { result ≡ Err HttpFault.Bad → IfSome (prepend_known held.old (R.left source.old)) IsNoRequest }
+    ensures bad { result ≡ Err HttpFault.Bad → Refuses (prepend_known held.old (R.left source.old)) (W.taken out.old) (W.taken out.new) }
+    ensures may_continue { OnErr result (MayContinue (prepend_known held.old (R.left source.old)) (W.taken out.old) (W.taken out.new)) }
     ensures later { R.faults source.old ≤ R.faults source.new }
     ensures read_fault { result ≡ Err HttpFault.ReadFault → HasRisen (R.faults source.old) (R.faults source.new) }
-
-    // After a read that failed the request can still be read.
-    ensures kept { result ≡ Err HttpFault.ReadFault → Skips (prepend_known held.old (R.left source.old)) (prepend_known held.new (R.left source.new)) }
+    ensures cut { result ≡ Err HttpFault.ReadFault → IsCut (prepend_known held.old (R.left source.old)) (prepend_known held.new (R.left source.new)) (W.taken out.old) (W.taken out.new) }
+    ensures written_later { W.faults out.old ≤ W.faults out.new }
+    ensures write_fault { result ≡ Err HttpFault.WriteFault → HasRisen (W.faults out.old) (W.faults out.new) }
+    ensures told_part { result ≡ Err HttpFault.WriteFault → IsToldPart (prepend_known held.old (R.left source.old)) (W.taken out.old) (W.taken out.new) }
 {
-    match skip_line_ends(held, source)? {
-        Start::Begun => {}
-        Start::Ended => return Ok(None),
-        Start::TooMany => return Err(HttpFault::Bad),
-    }
-    match take_request(alloc, held, source)? {
-        Some(request) => Ok(Some(request)),
+    let (open, room) = match take_opening(alloc, held, source)? {
+        Opening::Head(open, room) => (open, room),
+        Opening::Ended => return Ok(None),
+        Opening::Bad => return Err(HttpFault::Bad),
+    };
+    match read_body(alloc, held, source, out, &open.fields, room)? {
+        Some(body) => Ok(Some(request_of(open, body))),
         None => Err(HttpFault::Bad),
     }
 }
 
-/// Takes a request off the input, where nothing is to be skipped before it. It answers `None` where there is none.
-fn take_request<R: Source>(
+/// The request that a head and a body make.
+fn request_of(head: OpenRequest, body: Body) -> Request
+    ensures { result ≡ record { method = head.method; path = head.path; query = head.query; fields = head.fields; framed = is_framed head.fields; body = body } }
+{
+    let framed = is_framed(&head.fields);
+    Request {
+        method: head.method,
+        path: head.path,
+        query: head.query,
+        fields: head.fields,
+        framed,
+        body,
+    }
+}
+
+/// Tells the client to go on where it asked, and takes the body off the input. It answers `None` where none of at most `room` bytes
+/// stands in front.
+fn read_body<R: Source, W: Sink>(
     alloc: Global,
     held: &mut Held,
     source: &mut R,
-) -> Result<Option<Request>, ReadError>
-    requires { Stops is_newline held.old }
-    ensures taken { IfOk result (λ found. IfSome found (TakesAtOnce (prepend_known held.old (R.left source.old)) (prepend_known held.new (R.left source.new)))) }
-    ensures none { result ≡ Ok None → IfSome (prepend_known held.old (R.left source.old)) HasNoRequestAtOnce }
-    ensures kept { result ≡ Err ReadError.Failed → Keeps (prepend_known held.old (R.left source.old)) (prepend_known held.new (R.left source.new)) }
+    out: &mut W,
+    fields: &FieldList,
+    room: usize,
+) -> Result<Option<Body>, HttpFault>
+    requires { room ≤ MAX_REQUEST }
+    ensures taken { IfOk result (λ found. IfSome found (TakesBody (prepend_known held.old (R.left source.old)) (prepend_known held.new (R.left source.new)) (framing_of fields.now) room)) }
+    ensures none { result ≡ Ok None → IfSome (prepend_known held.old (R.left source.old)) (HasNoBody (framing_of fields.now) room) }
+    ensures told { OnOk result (Appends (W.taken out.old) (W.taken out.new) (continue_text fields.now)) }
+    ensures told_first { result ≡ Err HttpFault.ReadFault → Appends (W.taken out.old) (W.taken out.new) (continue_text fields.now) }
+    ensures told_part { OnErr result (AppendsPart (W.taken out.old) (W.taken out.new) (continue_text fields.now)) }
+    ensures not_bad { result ≢ Err HttpFault.Bad }
     ensures later { R.faults source.old ≤ R.faults source.new }
-    ensures read_fault { result ≡ Err ReadError.Failed → HasRisen (R.faults source.old) (R.faults source.new) }
+    ensures read_fault { result ≡ Err HttpFault.ReadFault → HasRisen (R.faults source.old) (R.faults source.new) }
+    ensures written_later { W.faults out.old ≤ W.faults out.new }
+    ensures write_fault { result ≡ Err HttpFault.WriteFault → HasRisen (W.faults out.old) (W.faults out.new) }
 {
-    let mut headers = [EMPTY_HEADER_SPAN; MAX_FIELDS];
-    let Some(spans) = read_head(held, source, &mut headers)? else {
+    let Some(framing) = framing_of(fields) else {
         return Ok(None);
     };
-    let OpenRequest {
-        method,
-        path,
-        query,
-        fields,
-    } = open_request(alloc, held.rest(), &headers, spans)?;
-    let Some(len) = body_len(method.as_str().as_bytes(), &fields) else {
-        return Ok(None);
-    };
-    let Some(body) = take_body(alloc, held, source, spans.len, len)? else {
-        return Ok(None);
-    };
-    let framed = has_field(CONTENT_LENGTH, fields.as_slice());
-    Ok(Some(Request {
-        method,
-        path,
-        query,
-        fields,
-        framed,
-        body: Body::Whole(body),
-    }))
+    send_continue(out, fields)?;
+    Ok(take_body(alloc, held, source, framing, room)?)
 }

@@ -4,13 +4,12 @@ ghost use Rattle.http.specs.StatusCode.{reason_phrase};
 ghost use Rattle.sw_http.specs.Reply.{status_line, field_line, length_line, body_bytes, has_no_length, reply_text};
 
 use crate::fields::Field;
+use crate::line_end::CRLF;
 use crate::response::Response;
 use http::StatusCode;
 use itoa::Buffer;
 use std::alloc::{AllocError, Global};
 use sw_outside::NoMemory;
-
-const CRLF: &[u8] = b"\r\n";
 
 /// The statuses whose replies have no length.
 const CONTINUE: u16 = 100;

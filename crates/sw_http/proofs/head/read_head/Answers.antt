@@ -19,7 +19,7 @@ pub returns-then-seen-ge-MAX_HEAD-clause-none : goal.returns-then-seen-ge-MAX_HE
 returns-then-seen-ge-MAX_HEAD-clause-none g c _ =
     let none_there = subst HasNoHead c.rest.ensures c.in-NotYet.ensures in
     let long = subst (λ (l : List ℕ). 65536 ≤ length l) c.rest-seen.ensures c.if-seen-ge-MAX_HEAD.true in
-    if_kept _ _ HasNoHead c.loop-spans.invariant.kept (if_always _ _ HasNoHead (never_long _ none_there long).none)
+    if_kept _ _ HasNoHead c.loop-spans.invariant.kept (if_always _ _ HasNoHead (never_long _ none_there long))
 
 pub returns-then-branch-eq0-clause-none : goal.returns-then-branch-eq0-clause-none
 returns-then-branch-eq0-clause-none g c _ =

@@ -1,0 +1,154 @@
+-- What is kept of a body, and what was taken of it.
+use Rattle.std.proofs.Common.{◌≡◌, ℕ, ◌+◌, ◌<◌, ◌≤◌, List, [], ◌++◌, length, take, drop, Option, None, Some, IfSome, refl, sym, ap, ◌∙◌, subst, arith, append_assoc, append-nil, length-append, length-take-le, inl, inr}
+use Rattle.std.specs.Io.KnownBytes.{Consumes, Keeps, IsAtEnd, prepend_known}
+use Rattle.std.proofs.KnownBytes.{Consumes-trans, Consumes-nil, Consumes-kept, Consumes-whole}
+use Rattle.std.proofs.lemmas.Bool.{cases_lt, cond-true, cond-false, le-leb, lt-leb}
+use Rattle.httparse.specs.Ascii.{crlf_bytes}
+use Rattle.sw_http.specs.Body.{Plain, Chunks, BodyText, IsBody, print_body, body_of, extended, IsWithinLimit}
+use Rattle.sw_http.specs.ChunkSteps.{TakesBytes, TakesData, HasNoData, TakesChunked, HasNoChunked, IsUnread, TakesBody, HasNoBody}
+use Rattle.sw_http.specs.Input.{HasNoLineEnd}
+use Rattle.sw_http.specs.declared.framing.Framing.TheVariants.{Unframed, Length, Chunked}
+use Rattle.sw_http.specs.declared.request.Body.{Body}
+use Rattle.sw_http.specs.declared.request.Body.TheVariants.{Whole, TooLarge}
+use Rattle.sw_http.proofs.InputLemmas.{front_taken, if_behind}
+use Rattle.sw_http.proofs.ListLemmas.{fronts_same}
+
+-- ---- what is kept
+
+pub body_fits : (bytes : List ℕ) → length bytes ≤ 5242880 → body_of bytes ≡ Whole bytes
+body_fits bytes fits = cond-true _ _ _ (le-leb (length bytes) 5242880 fits)
+
+pub body_too_large : (bytes : List ℕ) → 5242880 < length bytes → body_of bytes ≡ TooLarge
+body_too_large bytes large = cond-false _ _ _ (lt-leb (length bytes) 5242880 large)
+
+pub extended_none : (body : Body) → IsWithinLimit body → extended body [] ≡ body
+extended_none (Whole bytes) within = ap body_of (append-nil bytes) ∙ body_fits bytes within
+extended_none TooLarge within = refl
+
+pub extended_within : (body : Body) (more : List ℕ) → IsWithinLimit (extended body more)
+extended_within (Whole bytes) more = elim (cases_lt 5242880 (length (bytes ++ more))) [
+  | inl large ↦ subst IsWithinLimit (sym (body_too_large (bytes ++ more) large)) tt
+  | inr fits ↦ subst IsWithinLimit (sym (body_fits (bytes ++ more) fits)) fits
+]
+extended_within TooLarge more = tt
+
+pub extended_twice : (body : Body) (more others : List ℕ) → extended (extended body more) others ≡ extended body (more ++ others)
+extended_twice (Whole bytes) more others = elim (cases_lt 5242880 (length (bytes ++ more))) [
+  | inl large ↦ ap (λ (b : Body). extended b others) (body_too_large (bytes ++ more) large)
+      ∙ sym (body_too_large (bytes ++ (more ++ others)) (omega (arith, large, ap length (append_assoc bytes more others), length-append (bytes ++ more) others)))
+  | inr fits ↦ ap (λ (b : Body). extended b others) (body_fits (bytes ++ more) fits) ∙ ap body_of (append_assoc bytes more others)
+]
+extended_twice TooLarge more others = refl
+
+-- ---- bytes that were taken
+
+pub no_content : (a : Option (List ℕ)) (body : Body) → IsWithinLimit body → TakesBytes a a body body 0
+no_content a body within = record { bytes = []; size = refl; taken = Consumes-nil a; kept = sym (extended_none body within) }
+
+pub content_within : (a b : Option (List ℕ)) (body now : Body) (len : ℕ) → TakesBytes a b body now len → IsWithinLimit now
+content_within a b body now len takes = subst IsWithinLimit (sym takes.kept) (extended_within body takes.bytes)
+
+pub content_kept : (a b c : Option (List ℕ)) (body now : Body) (len : ℕ) → TakesBytes a b body now len → Keeps b c → TakesBytes a c body now len
+content_kept a b c body now len takes kept = record {
+  bytes = takes.bytes;
+  size = takes.size;
+  taken = Consumes-kept a b c takes.bytes takes.taken kept;
+  kept = takes.kept;
+}
+
+pub content_step : (a : Option (List ℕ)) (held after : List ℕ) (left : Option (List ℕ)) (body mid now : Body) (count piece : ℕ)
+    → TakesBytes a (prepend_known held left) body mid count → piece ≤ length held → after ≡ drop piece held → now ≡ extended mid (take piece held)
+    → TakesBytes a (prepend_known after left) body now (count + piece)
+content_step a held after left body mid now count piece takes within after_is now_is = record {
+  bytes = takes.bytes ++ take piece held;
+  size = omega (arith, length-append takes.bytes (take piece held), takes.size, length-take-le piece held within);
+  taken = Consumes-trans a _ _ takes.bytes (take piece held) takes.taken
+      (subst (λ (l : List ℕ). Consumes (prepend_known held left) (prepend_known l left) (take piece held)) (sym after_is) (front_taken held left piece));
+  kept = now_is ∙ ap (λ (b : Body). extended b (take piece held)) takes.kept ∙ extended_twice body takes.bytes (take piece held);
+}
+
+-- the input ended before
+pub content_short : (a b : Option (List ℕ)) (body now : Body) (count len : ℕ) → TakesBytes a b body now count → IsAtEnd b → count < len
+    → IfSome a (λ (bytes : List ℕ). length bytes < len)
+content_short a b body now count len takes end short =
+    Consumes-whole a b takes.bytes (λ (bytes : List ℕ). length bytes < len) takes.taken end (omega (arith, takes.size))
+
+-- ---- the bytes of a chunk and their line end
+
+pub data_taken : (a b c : Option (List ℕ)) (body now : Body) (len : ℕ) → TakesBytes a b body now len → Consumes b c crlf_bytes → TakesData a c body now len
+data_taken a b c body now len takes end = record {
+  bytes = takes.bytes;
+  size = takes.size;
+  taken = Consumes-trans a b c takes.bytes crlf_bytes takes.taken end;
+  kept = takes.kept;
+}
+
+pub no_data_short : (len : ℕ) (bytes : List ℕ) → length bytes < len → HasNoData len bytes
+no_data_short len bytes short = record {
+  none = λ content rest size e. omega (arith, size, ap length e, length-append content (crlf_bytes ++ rest));
+}
+
+pub no_data_end : (len : ℕ) (content bytes : List ℕ) → length content ≡ len → HasNoLineEnd bytes → HasNoData len (content ++ bytes)
+no_data_end len content bytes size none_there = record {
+  none = λ other rest same e. none_there.none rest (fronts_same content other bytes _ (size ∙ sym same) e).1;
+}
+
+-- ---- a whole body
+
+pub plain_taken : (a b : Option (List ℕ)) (body now : Body) (len room : ℕ) → IsUnread len body → TakesBytes a b body now len → len ≤ room
+    → TakesBody a b (Some (Length len)) room now
+plain_taken a b body now len room unread takes fits = record {
+  text = Plain takes.bytes;
+  is_body = takes.size;
+  fits = omega (arith, takes.size);
+  taken = takes.taken;
+  body_is = takes.kept ∙ unread.becomes takes.bytes (omega (arith, takes.size));
+}
+
+pub no_plain : (len room : ℕ) (bytes : List ℕ) → length bytes < len → HasNoBody (Some (Length len)) room bytes
+no_plain len room bytes short = record { none = go }
+  where
+    go : (text : BodyText) (rest : List ℕ) → IsBody (Length len) text → length (print_body text) ≤ room → ¬ (bytes ≡ print_body text ++ rest)
+    go (Plain content) rest size fits e = omega (arith, size, ap length e, length-append content rest)
+    go (Chunks b) rest size fits e = size
+
+pub no_plain_room : (len room : ℕ) (bytes : List ℕ) → room < len → HasNoBody (Some (Length len)) room bytes
+no_plain_room len room bytes many = record { none = go }
+  where
+    go : (text : BodyText) (rest : List ℕ) → IsBody (Length len) text → length (print_body text) ≤ room → ¬ (bytes ≡ print_body text ++ rest)
+    go (Plain content) rest size fits e = omega (arith, size, fits)
+    go (Chunks b) rest size fits e = size
+
+pub chunks_taken : (a b : Option (List ℕ)) (body now : Body) (room : ℕ) → IsUnread 0 body → TakesChunked a b body now room → TakesBody a b (Some Chunked) room now
+chunks_taken a b body now room unread takes = record {
+  text = Chunks takes.text;
+  is_body = takes.is_chunked;
+  fits = takes.fits;
+  taken = takes.taken;
+  body_is = takes.kept ∙ unread.becomes _ (omega arith);
+}
+
+pub no_chunks : (room : ℕ) (bytes : List ℕ) → HasNoChunked room bytes → HasNoBody (Some Chunked) room bytes
+no_chunks room bytes none_there = record { none = go }
+  where
+    go : (text : BodyText) (rest : List ℕ) → IsBody Chunked text → length (print_body text) ≤ room → ¬ (bytes ≡ print_body text ++ rest)
+    go (Plain content) rest is fits e = is
+    go (Chunks b) rest is fits e = none_there.none b rest is fits e
+
+pub no_body_taken : (a : Option (List ℕ)) (body : Body) (room : ℕ) → IsUnread 0 body → TakesBody a a (Some Unframed) room body
+no_body_taken a body room unread = record {
+  text = Plain [];
+  is_body = refl;
+  fits = omega arith;
+  taken = Consumes-nil a;
+  body_is = sym (extended_none body unread.within) ∙ unread.becomes [] (omega arith);
+}
+
+-- no body has a bad framing
+pub no_framing : (room : ℕ) (bytes : List ℕ) → HasNoBody None room bytes
+no_framing room bytes = record { none = λ text rest is fits e. is }
+
+-- the bytes of a chunk were taken, and no line end follows
+pub data_none : (a b : Option (List ℕ)) (body now : Body) (len : ℕ) → TakesBytes a b body now len → IfSome b HasNoLineEnd → IfSome a (HasNoData len)
+data_none a b body now len takes none_there =
+    if_behind a b takes.bytes (HasNoData len) HasNoLineEnd takes.taken (λ rest holds. no_data_end len takes.bytes rest takes.size holds) none_there

@@ -1,0 +1,278 @@
+-- The line before a chunk, piece by piece.
+use Rattle.std.proofs.Common.{◌≡◌, ℕ, ◌+◌, ◌<◌, ◌≤◌, eq-eqb, true≢false, List, [], ◌∷◌, ◌++◌, length, take, drop, Option, None, Some, IfSome, refl, sym, ap, ◌∙◌, subst, arith, append_assoc, length-append, length-take-le, length-drop, take-append-drop, append-nil}
+use Rattle.std.specs.Char.{is_ascii_hexdigit}
+use Rattle.std.specs.Io.KnownBytes.{Consumes, Keeps, prepend_known}
+use Rattle.std.specs.List.{prefix_len}
+use Rattle.std.specs.Str.Parse.{digits_value}
+use Rattle.std.proofs.KnownBytes.{Consumes-trans, Consumes-nil}
+use Rattle.std.proofs.lemmas.Bool.{ne_eqb}
+use Rattle.std.proofs.lemmas.List.Elements.{All-nil}
+use Rattle.httparse.specs.Ascii.{crlf_bytes}
+use Rattle.httparse.specs.Grammar.{AllPass, ChunkLine, IsChunkLine, chunk_size, ReadsChunkLine, HasNoChunkLine, NeverHasChunkLine, print_chunk_line, print_extension, IsExtension, is_ows, is_extension_byte}
+use Rattle.httparse.specs.Pieces.{Stops}
+use Rattle.httparse.specs.Spans.{IsChunkLineAt}
+use Rattle.httparse.proofs.ChunkLemmas.{chunk_pieces, chunk_line_unique}
+use Rattle.httparse.proofs.RunLemmas.{run_unique, run_unstopped, Stops-append}
+use Rattle.sw_http.specs.ChunkSteps.{HasNoLine, HasDigits, is_semicolon, EndsExtension, TakesExtension, HasNoExtension, print_tail, TakesTail, HasNoTail, TakesLine, HasNoLineWithin}
+use Rattle.sw_http.specs.Input.{TakesRun, HasNoRun, HasNoLineEnd}
+use Rattle.sw_http.specs.declared.chunk_line.SizeLine.{SizeLine}
+use Rattle.sw_http.proofs.ListLemmas.{same_rest, take_every}
+use Rattle.sw_http.proofs.InputLemmas.{if_behind, if_kept, if_some_map, longer_run, run_passes, run_stops, run_within}
+
+-- ---- the digits
+
+-- the digits of a line, and what stands behind them
+line_text : (l : ChunkLine) → print_chunk_line l ≡ l.digits ++ print_tail l.pad l.extension
+unfolding print_chunk_line
+line_text l = simp append_assoc
+
+line_split : (l : ChunkLine) (rest : List ℕ) → print_chunk_line l ++ rest ≡ l.digits ++ (print_tail l.pad l.extension ++ rest)
+line_split l rest = ap (λ (t : List ℕ). t ++ rest) (line_text l) ∙ append_assoc l.digits (print_tail l.pad l.extension) rest
+
+digits_end : (l : ChunkLine) (rest : List ℕ) → IsChunkLine l → Stops is_ascii_hexdigit (print_tail l.pad l.extension ++ rest)
+digits_end l rest is =
+    let pieces = chunk_pieces (print_chunk_line l ++ rest) l rest (is, refl) in
+    subst (Stops is_ascii_hexdigit) (same_rest l.digits pieces.0 _ (sym pieces.1.0.1 ∙ line_split l rest)) pieces.1.0.2
+
+pub no_line_long : (bytes : List ℕ) (n : ℕ) → n ≡ prefix_len is_ascii_hexdigit bytes → 16 < n → (more : List ℕ) → HasNoLine (bytes ++ more)
+no_line_long bytes n is many more = record {
+  none = λ l rest valid e.
+      let within = run_within is_ascii_hexdigit bytes n is in
+      let passes = subst (λ (k : ℕ). AllPass is_ascii_hexdigit (take k bytes)) (sym is) (run_passes is_ascii_hexdigit bytes) in
+      let whole : take n bytes ++ (drop n bytes ++ more) ≡ l.digits ++ (print_tail l.pad l.extension ++ rest) =
+      sym (append_assoc (take n bytes) (drop n bytes) more) ∙ ap (λ (b : List ℕ). b ++ more) (take-append-drop n bytes) ∙ e ∙ line_split l rest in
+      let few = valid.digits.1 in
+      longer_run is_ascii_hexdigit (take n bytes) l.digits _ _ passes (digits_end l rest valid) whole (omega (arith, length-take-le n bytes within));
+}
+
+pub no_line_empty : (bytes : List ℕ) (n : ℕ) → n ≡ prefix_len is_ascii_hexdigit bytes → n ≡ 0 → n < length bytes → (more : List ℕ) → HasNoLine (bytes ++ more)
+no_line_empty bytes n is none some more = record {
+  none = λ l rest valid e.
+      let stops = run_stops is_ascii_hexdigit bytes bytes (ap (λ (k : ℕ). drop k bytes) (sym none ∙ is)) (omega arith) in
+      let same = run_unique is_ascii_hexdigit [] l.digits (bytes ++ more) _ (All-nil _) valid.digits.2
+      (Stops-append is_ascii_hexdigit bytes more stops) (digits_end l rest valid) (e ∙ line_split l rest) in
+      let some_digits = valid.digits.0 in
+      omega (arith, ap length same.0);
+}
+
+pub no_line_ended : (bytes : List ℕ) (n : ℕ) → n ≡ prefix_len is_ascii_hexdigit bytes → length bytes ≤ n → HasNoLine bytes
+no_line_ended bytes n is all = record {
+  none = λ l rest valid e.
+      let whole : n ≡ length bytes = omega (arith, run_within is_ascii_hexdigit bytes n is) in
+      let passes = subst (λ (k : ℕ). AllPass is_ascii_hexdigit (take k bytes)) (sym is ∙ whole) (run_passes is_ascii_hexdigit bytes) in
+      run_unstopped is_ascii_hexdigit l.digits _ (subst (AllPass is_ascii_hexdigit) (take_every bytes ∙ e ∙ line_split l rest) passes) (digits_end l rest valid);
+}
+
+pub has_digits : (bytes : List ℕ) (n : ℕ) → n ≡ prefix_len is_ascii_hexdigit bytes → n ≤ 16 → 0 < n → n < length bytes → HasDigits bytes n
+has_digits bytes n is few some inside = record {
+  within = omega arith;
+  some = some;
+  few = few;
+  digits = subst (λ (k : ℕ). AllPass is_ascii_hexdigit (take k bytes)) (sym is) (run_passes is_ascii_hexdigit bytes);
+  stops = run_stops is_ascii_hexdigit bytes (drop n bytes) (ap (λ (k : ℕ). drop k bytes) is) (omega (arith, length-drop n bytes));
+}
+
+-- ---- the number that they write
+
+-- a line of digits alone
+plain : List ℕ → ChunkLine
+plain digits = record { digits = digits; pad = []; extension = None }
+
+plain_reads : (buf digits : List ℕ) → 0 < length digits → length digits ≤ 16 → AllPass is_ascii_hexdigit digits → buf ≡ digits ++ crlf_bytes
+    → ReadsChunkLine buf (plain digits) []
+unfolding plain
+plain_reads buf digits some few are e = (record { digits = (some, few, are); pad = All-nil _; extension = tt }, e ∙ sym (line_text (plain digits)) ∙ sym (append-nil _))
+
+-- so the parser reads it
+pub plain_size : (buf digits : List ℕ) (len size : ℕ) (l : ChunkLine) → 0 < length digits → length digits ≤ 16 → AllPass is_ascii_hexdigit digits
+    → buf ≡ digits ++ crlf_bytes → IsChunkLineAt buf len size l → size ≡ digits_value 16 digits
+unfolding plain
+plain_size buf digits len size l some few are e at =
+    let same = chunk_line_unique buf l (plain digits) _ [] at.reads (plain_reads buf digits some few are e) in
+    at.size_is ∙ ap chunk_size same.0
+
+pub plain_is_no_partial : (buf digits : List ℕ) → 0 < length digits → length digits ≤ 16 → AllPass is_ascii_hexdigit digits → buf ≡ digits ++ crlf_bytes
+    → HasNoChunkLine buf → ⊥
+plain_is_no_partial buf digits some few are e none = none (plain digits) [] (plain_reads buf digits some few are e)
+
+pub plain_is_no_error : (buf digits : List ℕ) → 0 < length digits → length digits ≤ 16 → AllPass is_ascii_hexdigit digits → buf ≡ digits ++ crlf_bytes
+    → NeverHasChunkLine buf → ⊥
+plain_is_no_error buf digits some few are e none =
+    plain_is_no_partial (buf ++ []) digits some few are (append-nil buf ∙ e) (none [])
+
+-- ---- the extension
+
+pub ends_append : (e : Option (List ℕ)) (held more : List ℕ) → EndsExtension e held → EndsExtension e (held ++ more)
+ends_append None held more ends = Stops-append is_semicolon held more ends
+ends_append (Some text) held more ends = Stops-append is_extension_byte held more ends
+
+-- what begins with no semicolon begins with an extension that isn't there
+pub no_semicolon : (held : List ℕ) → 0 < length held → ((rest : List ℕ) → ¬ (held ≡ 59 ∷ rest)) → Stops is_semicolon held
+no_semicolon [] some other = absurd (omega arith)
+no_semicolon (b ∷ held) some other = ne_eqb b 59 λ e. other held (ap (λ (x : ℕ). x ∷ held) e)
+
+pub extension_absent : (a : Option (List ℕ)) (held : List ℕ) → Stops is_semicolon held → TakesExtension a a held 0
+extension_absent a held stops = record { extension = None; is_extension = tt; len_is = refl; taken = Consumes-nil a; ends = stops }
+
+pub extension_present : (a b c : Option (List ℕ)) (held : List ℕ) (count : ℕ) → Consumes a b (59 ∷ []) → TakesRun is_extension_byte b c count → Stops is_extension_byte held
+    → TakesExtension a c held (count + 1)
+extension_present a b c held count semicolon run stops = record {
+  extension = Some run.run;
+  is_extension = run.passes;
+  len_is = omega (arith, run.size);
+  taken = Consumes-trans a b c (59 ∷ []) run.run semicolon run.taken;
+  ends = stops;
+}
+
+-- behind a semicolon no run that may be is followed by a byte
+pub no_extension : (room : ℕ) (rest : List ℕ) → HasNoRun is_extension_byte room rest → HasNoExtension room (59 ∷ rest)
+no_extension room rest none_there = record { none = go }
+  where
+    go : (e : Option (List ℕ)) (after : List ℕ) → IsExtension e → length (print_extension e) ≤ room → ¬ (59 ∷ rest ≡ print_extension e ++ (crlf_bytes ++ after))
+    go None after valid few e = let same : ◌≡◌ {A = ℕ} 59 13 = cc in omega (arith, same)
+    go (Some text) after valid few e = none_there.none text (crlf_bytes ++ after) valid (omega arith) refl (cc)
+
+-- one extension at most stands in front
+pub extension_same : (e f : Option (List ℕ)) (after rest : List ℕ) → IsExtension e → IsExtension f → EndsExtension e after
+    → print_extension e ++ after ≡ print_extension f ++ (crlf_bytes ++ rest) → (e ≡ f) × (after ≡ crlf_bytes ++ rest)
+extension_same None None after rest valid other ends e = (refl, e)
+extension_same None (Some text) after rest valid other ends e = absurd (stops_other after (text ++ (crlf_bytes ++ rest)) ends e)
+  where
+    stops_other : (l r : List ℕ) → Stops is_semicolon l → l ≡ 59 ∷ r → ⊥
+    stops_other [] r stops same = stops
+    stops_other (x ∷ l) r stops same = let b : x ≡ 59 = cc in true≢false (sym (eq-eqb x 59 b) ∙ stops)
+extension_same (Some text) None after rest valid other ends e = let same : ◌≡◌ {A = ℕ} 59 13 = cc in absurd (omega (arith, same))
+extension_same (Some text) (Some word) after rest valid other ends e =
+    let same = run_unique is_extension_byte text word after (crlf_bytes ++ rest) valid other ends refl (cc) in
+    (ap Some same.0, same.1)
+
+-- ---- blanks, extension and line end
+
+blanks_end : (e : Option (List ℕ)) (rest : List ℕ) → Stops is_ows (print_extension e ++ (crlf_bytes ++ rest))
+blanks_end None rest = refl
+blanks_end (Some text) rest = refl
+
+tail_split : (pad : List ℕ) (e : Option (List ℕ)) (rest : List ℕ) → print_tail pad e ++ rest ≡ pad ++ (print_extension e ++ (crlf_bytes ++ rest))
+tail_split pad e rest = simp append_assoc
+
+pad_within : (pad : List ℕ) (e : Option (List ℕ)) (room : ℕ) → length (print_tail pad e) ≤ room → length pad ≤ room
+pad_within pad e room fits = omega (arith, fits, length-append pad (print_extension e ++ crlf_bytes))
+
+extension_within : (pad : List ℕ) (e : Option (List ℕ)) (room : ℕ) → length (print_tail pad e) ≤ room → length (print_extension e) ≤ room
+extension_within pad e room fits =
+    omega (arith, fits, length-append pad (print_extension e ++ crlf_bytes), length-append (print_extension e) crlf_bytes)
+
+-- no run of blanks is followed by a byte
+pub no_tail_blanks : (room : ℕ) (bytes : List ℕ) → HasNoRun is_ows room bytes → HasNoTail room bytes
+no_tail_blanks room bytes none_there = record {
+  none = λ pad e rest blanks valid fits same.
+      none_there.none pad _ blanks (pad_within pad e room fits) (blanks_end e rest) (same ∙ tail_split pad e rest);
+}
+
+-- these are the blanks, and what follows is no extension
+pub no_tail_extension : (room : ℕ) (pad bytes : List ℕ) → AllPass is_ows pad → Stops is_ows bytes → HasNoExtension room bytes → HasNoTail room (pad ++ bytes)
+no_tail_extension room pad bytes blanks stops none_there = record {
+  none = λ other e rest are valid fits same.
+      let cut = run_unique is_ows pad other bytes _ blanks are stops (blanks_end e rest) (same ∙ tail_split other e rest) in
+      none_there.none e rest valid (extension_within other e room fits) cut.1;
+}
+
+-- these are the blanks and the extension, and no line end follows
+pub no_tail_end : (room : ℕ) (pad : List ℕ) (e : Option (List ℕ)) (bytes : List ℕ) → AllPass is_ows pad → Stops is_ows (print_extension e ++ bytes) → IsExtension e
+    → EndsExtension e bytes → HasNoLineEnd bytes → HasNoTail room (pad ++ (print_extension e ++ bytes))
+no_tail_end room pad e bytes blanks stops valid ends none_there = record {
+  none = λ other f rest are is fits same.
+      let cut = run_unique is_ows pad other _ _ blanks are stops (blanks_end f rest) (same ∙ tail_split other f rest) in
+      let text = extension_same e f bytes rest valid is ends cut.1 in
+      none_there.none rest text.1;
+}
+
+-- ---- the whole line
+
+line_length : (l : ChunkLine) → length (print_chunk_line l) ≡ length l.digits + length (print_tail l.pad l.extension)
+line_length l = ap length (line_text l) ∙ length-append l.digits (print_tail l.pad l.extension)
+
+pub no_line_tail : (room n : ℕ) (bytes rest : List ℕ) → HasDigits bytes n → HasNoTail room rest → Stops is_ascii_hexdigit rest → HasNoLineWithin room (take n bytes ++ rest)
+no_line_tail room n bytes rest digits none_there stops = record {
+  none = λ l after valid fits same.
+      let cut = run_unique is_ascii_hexdigit (take n bytes) l.digits rest _ digits.digits valid.digits.2 stops (digits_end l after valid) (same ∙ line_split l after) in
+      none_there.none l.pad l.extension after valid.pad valid.extension (omega (arith, fits, line_length l)) cut.1;
+}
+
+pub line_taken : (a b c : Option (List ℕ)) (bytes : List ℕ) (n len : ℕ) (size_line : SizeLine) → HasDigits bytes n → Consumes a b (take n bytes) → TakesTail b c len
+    → size_line.size ≡ digits_value 16 (take n bytes) → size_line.len ≡ n + len → TakesLine a c size_line
+line_taken a b c bytes n len size_line digits front tail size_is len_is =
+    let size : length (take n bytes) ≡ n = length-take-le n bytes digits.within in
+    let line : ChunkLine = record { digits = take n bytes; pad = tail.pad; extension = tail.extension } in
+    record {
+      line = line;
+      is_line = record {
+        digits = (omega (arith, size, digits.some), omega (arith, size, digits.few), digits.digits);
+        pad = tail.are_blanks;
+        extension = tail.is_extension;
+      };
+      size_is = sym size_is;
+      len_is = omega (arith, line_length line, size, len_is, tail.len_is);
+      taken = subst (Consumes a c) (sym (line_text line)) (Consumes-trans a b c (take n bytes) (print_tail tail.pad tail.extension) front tail.taken);
+    }
+
+-- ---- why no line was taken
+
+pub line_none : (a : Option (List ℕ)) (room : ℕ) → IfSome a HasNoLine → IfSome a (HasNoLineWithin room)
+line_none a room = if_some_map a HasNoLine (HasNoLineWithin room) λ bytes none_there.
+    record { none = λ l rest valid fits e. none_there.none l rest valid e }
+
+pub line_no_tail : (a : Option (List ℕ)) (held after : List ℕ) (left : Option (List ℕ)) (n room : ℕ) → Keeps a (prepend_known held left) → HasDigits held n → after ≡ drop n held
+    → IfSome (prepend_known after left) (HasNoTail room) → IfSome a (HasNoLineWithin room)
+line_no_tail a held after left n room kept digits after_is none_there = if_kept a _ (HasNoLineWithin room) kept (go left none_there)
+  where
+    stops : (more : List ℕ) → Stops is_ascii_hexdigit (after ++ more)
+    stops more = Stops-append is_ascii_hexdigit after more (subst (Stops is_ascii_hexdigit) (sym after_is) digits.stops)
+
+    go : (x : Option (List ℕ)) → IfSome (prepend_known after x) (HasNoTail room) → IfSome (prepend_known held x) (HasNoLineWithin room)
+    go None holds = tt
+    go (Some xs) holds =
+        subst (HasNoLineWithin room) (sym (append_assoc (take n held) after xs) ∙ ap (λ (l : List ℕ). l ++ xs) (ap (λ (l : List ℕ). take n held ++ l) after_is ∙ take-append-drop n held))
+        (no_line_tail room n held (after ++ xs) digits holds (stops xs))
+
+pub extension_none : (a b : Option (List ℕ)) (room : ℕ) → Consumes a b (59 ∷ []) → IfSome b (HasNoRun is_extension_byte room) → IfSome a (HasNoExtension room)
+extension_none a b room semicolon none_there =
+    if_behind a b (59 ∷ []) (HasNoExtension room) (HasNoRun is_extension_byte room) semicolon (no_extension room) none_there
+
+pub tail_no_blanks : (a : Option (List ℕ)) (room : ℕ) → IfSome a (HasNoRun is_ows room) → IfSome a (HasNoTail room)
+tail_no_blanks a room = if_some_map a (HasNoRun is_ows room) (HasNoTail room) (no_tail_blanks room)
+
+pub tail_no_extension : (a : Option (List ℕ)) (held : List ℕ) (left : Option (List ℕ)) (count room : ℕ) → TakesRun is_ows a (prepend_known held left) count → Stops is_ows held
+    → IfSome (prepend_known held left) (HasNoExtension room) → IfSome a (HasNoTail room)
+tail_no_extension a held left count room run stops none_there = go a left run.taken none_there
+  where
+    go : (x y : Option (List ℕ)) → Consumes x (prepend_known held y) run.run → IfSome (prepend_known held y) (HasNoExtension room) → IfSome x (HasNoTail room)
+    go None y taken holds = tt
+    go (Some xs) None taken holds = absurd taken
+    go (Some xs) (Some ys) taken holds =
+        subst (HasNoTail room) (sym taken) (no_tail_extension room run.run (held ++ ys) run.passes (Stops-append is_ows held ys stops) holds)
+
+pub tail_no_end : (a : Option (List ℕ)) (held mid : List ℕ) (left now : Option (List ℕ)) (count len room : ℕ) → TakesRun is_ows a (prepend_known held left) count → Stops is_ows held
+    → TakesExtension (prepend_known held left) (prepend_known mid now) mid len → IfSome (prepend_known mid now) HasNoLineEnd → IfSome a (HasNoTail room)
+tail_no_end a held mid left now count len room run stops extension none_there = go a left now run.taken extension.taken none_there
+  where
+    go : (x y z : Option (List ℕ)) → Consumes x (prepend_known held y) run.run → Consumes (prepend_known held y) (prepend_known mid z) (print_extension extension.extension)
+        → IfSome (prepend_known mid z) HasNoLineEnd → IfSome x (HasNoTail room)
+    go None y z taken text holds = tt
+    go (Some xs) None z taken text holds = absurd taken
+    go (Some xs) (Some ys) None taken text holds = absurd text
+    go (Some xs) (Some ys) (Some zs) taken text holds =
+        subst (HasNoTail room) (sym (taken ∙ ap (λ (l : List ℕ). run.run ++ l) text))
+        (no_tail_end room run.run extension.extension (mid ++ zs) run.passes (subst (Stops is_ows) text (Stops-append is_ows held ys stops)) extension.is_extension
+        (ends_append extension.extension mid zs extension.ends) holds)
+
+pub tail_taken : (a b c d : Option (List ℕ)) (held : List ℕ) (count len : ℕ) → TakesRun is_ows a b count → TakesExtension b c held len → Consumes c d crlf_bytes
+    → TakesTail a d (count + len + 2)
+tail_taken a b c d held count len run extension end = record {
+  pad = run.run;
+  extension = extension.extension;
+  are_blanks = run.passes;
+  is_extension = extension.is_extension;
+  len_is = omega (arith, run.size, extension.len_is, length-append run.run (print_extension extension.extension ++ crlf_bytes), length-append (print_extension extension.extension) crlf_bytes);
+  taken = Consumes-trans a b d run.run _ run.taken (Consumes-trans b c d _ crlf_bytes extension.taken end);
+}

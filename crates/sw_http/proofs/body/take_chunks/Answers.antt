@@ -1,0 +1,14 @@
+use Rattle.std.proofs.Common.{Ok, ap, Some}
+use Rattle.sw_http.specs.ChunkSteps.{HasNoBody, HasNoChunked}
+use Rattle.sw_http.specs.declared.framing.Framing.TheVariants.{Chunked}
+use Rattle.sw_http.proofs.BodyLemmas.{chunks_taken, no_chunks}
+use Rattle.sw_http.proofs.InputLemmas.{if_some_map}
+use Rattle.sw_http.proofs.body.take_chunks.Goals as goal
+
+pub returns-then-branch-clause-taken : goal.returns-then-branch-clause-taken
+returns-then-branch-clause-taken g c =
+    chunks_taken _ _ _ _ _ c.in_ok-body.ensures (c.in_ok-take_chunked.ensures.taken (ap Ok c.if-branch.true))
+
+pub returns-else-branch-clause-none : goal.returns-else-branch-clause-none
+returns-else-branch-clause-none g c _ =
+    if_some_map _ (HasNoChunked c.args.room) (HasNoBody (Some Chunked) c.args.room) (no_chunks c.args.room) (c.in_ok-take_chunked.ensures.none (ap Ok c.if-branch.false))

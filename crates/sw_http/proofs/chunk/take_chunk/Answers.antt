@@ -1,0 +1,28 @@
+use Rattle.std.proofs.Common.{◌<◌, Ok, ap, arith, inl, inr}
+use Rattle.sw_http.specs.ChunkSteps.{HasNoChunked, HasNoLineWithin}
+use Rattle.sw_http.proofs.ChunkedLemmas.{no_chunked_line, chunk_taken, step_last_long, step_too_long, step_no_data}
+use Rattle.sw_http.proofs.InputLemmas.{if_some_map}
+use Rattle.sw_http.proofs.chunk.take_chunk.Goals as goal
+
+pub returns-in_default-clause-step : goal.returns-in_default-clause-step
+returns-in_default-clause-step g c =
+    if_some_map _ (HasNoLineWithin c.args.room) (HasNoChunked c.args.room) (no_chunked_line c.args.room) (c.in_ok-line.ensures.none (ap Ok c.in_default.is))
+
+pub returns-else-line-room-clause-step : goal.returns-else-line-room-clause-step
+returns-else-line-room-clause-step g c =
+    step_last_long _ _ _ _ (rw c.in-Some.is at c.in_ok-line.ensures.taken) c.if-line-eq0.true (omega arith)
+
+pub returns-then-branch-clause-step : goal.returns-then-branch-clause-step
+returns-then-branch-clause-step g c =
+    let some : 0 < c.in-Some.line.size = omega arith in
+    let taken = c.in_ok-take_sized.ensures.taken (ap Ok c.if-branch.true) in
+    (chunk_taken _ _ _ _ _ c.in-Some.line (rw c.in-Some.is at c.in_ok-line.ensures.taken) some taken, omega arith, c.in_ok-take_sized.ensures.fits (ap Ok c.if-branch.true))
+
+pub returns-else-branch-clause-step : goal.returns-else-branch-clause-step
+returns-else-branch-clause-step g c =
+    let some : 0 < c.in-Some.line.size = omega arith in
+    let line = rw c.in-Some.is at c.in_ok-line.ensures.taken in
+    elim (c.in_ok-take_sized.ensures.none (ap Ok c.if-branch.false)) [
+      | inl many ↦ step_too_long _ _ _ _ line some many
+      | inr none ↦ step_no_data _ _ _ _ line some none
+    ]

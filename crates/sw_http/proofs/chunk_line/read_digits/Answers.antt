@@ -1,0 +1,33 @@
+use Rattle.std.proofs.Common.{ℕ, ◌<◌, ◌≤◌, List, length, arith, sym, ap, ◌∙◌, subst}
+use Rattle.std.proofs.KnownBytes.{Keeps-trans}
+use Rattle.std.specs.Char.{is_ascii_hexdigit}
+use Rattle.std.specs.List.{prefix_len}
+use Rattle.sw_http.specs.ChunkSteps.{HasNoLine}
+use Rattle.sw_http.proofs.InputLemmas.{kept_read, read_none, if_kept, if_always, if_ended}
+use Rattle.sw_http.proofs.LineLemmas.{no_line_long, no_line_empty, no_line_ended, has_digits}
+use Rattle.sw_http.proofs.chunk_line.read_digits.Goals as goal
+
+pub returns-then-run-gt-MAX_SIZE_DIGITS-clause-none : goal.returns-then-run-gt-MAX_SIZE_DIGITS-clause-none
+returns-then-run-gt-MAX_SIZE_DIGITS-clause-none g c _ =
+    let is = c.digit_run-run.ensures ∙ ap (prefix_len is_ascii_hexdigit) c.rest.ensures in
+    if_kept _ _ HasNoLine c.loop-run.invariant.kept (if_always _ _ HasNoLine (no_line_long _ _ is c.if-run-gt-MAX_SIZE_DIGITS.true))
+
+pub returns-then-run-eq0-clause-none : goal.returns-then-run-eq0-clause-none
+returns-then-run-eq0-clause-none g c _ =
+    let is = c.digit_run-run.ensures ∙ ap (prefix_len is_ascii_hexdigit) c.rest.ensures in
+    let inside = subst (λ (l : List ℕ). c.digit_run-run.result < length l) c.rest-in-loop-run.ensures c.if-run-rest.true in
+    if_kept _ _ HasNoLine c.loop-run.invariant.kept (if_always _ _ HasNoLine (no_line_empty _ _ is c.if-run-eq0.true inside))
+
+pub returns-else-run-eq0-clause-found : goal.returns-else-run-eq0-clause-found
+returns-else-run-eq0-clause-found g c =
+    let is = c.digit_run-run.ensures ∙ ap (prefix_len is_ascii_hexdigit) c.rest.ensures in
+    let inside = subst (λ (l : List ℕ). c.digit_run-run.result < length l) c.rest-in-loop-run.ensures c.if-run-rest.true in
+    has_digits _ _ is (omega arith) (omega arith) inside
+
+pub returns-then-branch-eq0-clause-none : goal.returns-then-branch-eq0-clause-none
+returns-then-branch-eq0-clause-none g c _ =
+    let is = c.digit_run-run.ensures ∙ ap (prefix_len is_ascii_hexdigit) c.rest.ensures in
+    let all = subst (λ (l : List ℕ). length l ≤ c.digit_run-run.result) c.rest-in-loop-run.ensures (omega arith) in
+    let read = c.in_ok-read_more.ensures.read in
+    let none_there = subst HasNoLine (sym (read_none _ _ _ _ _ read c.if-branch-eq0.true)) (no_line_ended _ _ is all) in
+    if_kept _ _ HasNoLine (Keeps-trans _ _ _ c.loop-run.invariant.kept (kept_read _ _ _ _ _ read)) (if_ended _ _ HasNoLine none_there (read.at_end c.if-branch-eq0.true))

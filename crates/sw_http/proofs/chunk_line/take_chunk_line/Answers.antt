@@ -1,0 +1,20 @@
+use Rattle.std.proofs.Common.{Ok, ap, ◌∙◌, ℕ, List, take, refl, sym, subst}
+use Rattle.std.specs.Str.Parse.{digits_value}
+use Rattle.std.specs.Io.KnownBytes.{Consumes, prepend_known}
+use Rattle.sw_http.proofs.InputLemmas.{kept_consumes, front_taken}
+use Rattle.sw_http.proofs.LineLemmas.{line_no_tail, line_taken}
+use Rattle.sw_http.proofs.chunk_line.take_chunk_line.Goals as goal
+
+pub returns-in_default-2-clause-none : goal.returns-in_default-2-clause-none
+returns-in_default-2-clause-none g c _ =
+    line_no_tail _ _ _ _ _ _ c.in_ok-digits.ensures.kept (rw c.in-Some.is at c.in_ok-digits.ensures.found) c.advance.ensures
+    (c.in_ok-tail.ensures.none (ap Ok c.in_default-2.is))
+
+pub returns-clause-taken : goal.returns-clause-taken
+returns-clause-taken g c =
+    let held : List ℕ = c.read_digits.new.held in
+    let left = g.R.Source.left c.read_digits.new.source in
+    let front = kept_consumes _ _ _ _ c.in_ok-digits.ensures.kept
+    (subst (λ (l : List ℕ). Consumes (prepend_known held left) (prepend_known l left) (take c.in-Some.digits held)) (sym c.advance.ensures) (front_taken held left c.in-Some.digits)) in
+    let size = c.size_of-size.ensures ∙ ap (λ (l : List ℕ). digits_value 16 (take c.in-Some.digits l)) c.rest.ensures in
+    line_taken _ _ _ _ _ _ _ (rw c.in-Some.is at c.in_ok-digits.ensures.found) front (rw c.in-Some-2.is at c.in_ok-tail.ensures.taken) size refl

@@ -1,0 +1,188 @@
+-- What the reader's own steps take of a chunked body. (This project's own.)
+use Rattle.std.specs.Prelude.{◌≡◌, ℕ, ◌+◌, ◌<◌, ◌≤◌, Bool, List, ◌++◌, length, take, drop, All, Option, None, Some, IfSome, ◌==◌}
+use Rattle.std.specs.List.{flat_map}
+use Rattle.std.specs.Char.{is_ascii_hexdigit}
+use Rattle.std.specs.Io.KnownBytes.{Consumes}
+use Rattle.httparse.specs.Ascii.{crlf_bytes, semicolon}
+use Rattle.httparse.specs.Grammar.{AllPass, ChunkLine, IsChunkLine, chunk_size, print_chunk_line, print_extension, IsExtension, is_ows, is_extension_byte, Field, LineEnd, print_section}
+use Rattle.httparse.specs.Pieces.{Stops}
+use Rattle.sw_http.specs.Body.{BodyText, IsFramedBody, print_body, content_of, body_of, extended, IsWithinLimit}
+use Rattle.sw_http.specs.Chunked.{Chunk, IsChunk, print_chunk, chunk_bytes, ChunkedText, IsChunked, print_chunked, IsLast, IsTrailer}
+use Rattle.sw_http.specs.declared.chunk_line.SizeLine.{SizeLine}
+use Rattle.sw_http.specs.declared.chunk.Step.{Step}
+use Rattle.sw_http.specs.declared.chunk.Step.TheVariants.{More, Last, Bad}
+use Rattle.sw_http.specs.declared.framing.Framing.{Framing}
+use Rattle.sw_http.specs.declared.request.Body.{Body}
+
+-- ---- the line that tells a chunk's size
+
+-- no chunk line stands in front of bytes
+pub record HasNoLine (bytes : List ℕ) : Type 0 where
+  pub none : (l : ChunkLine) (rest : List ℕ) → IsChunkLine l → ¬ (bytes ≡ print_chunk_line l ++ rest)
+
+-- n bytes in front are the digits of a chunk line, if there is one
+pub record HasDigits (bytes : List ℕ) (n : ℕ) : Type 0 where
+  pub within : n ≤ length bytes
+  pub some : 0 < n
+  pub few : n ≤ 16
+  pub digits : AllPass is_ascii_hexdigit (take n bytes)
+  pub stops : Stops is_ascii_hexdigit (drop n bytes)
+
+abbrev pub is_semicolon : ℕ → Bool
+is_semicolon b = b == semicolon
+
+-- an extension can't go on with these bytes, nor begin with them where there is none
+abbrev pub EndsExtension : Option (List ℕ) → List ℕ → Type 0
+EndsExtension None bytes = Stops is_semicolon bytes
+EndsExtension (Some text) bytes = Stops is_extension_byte bytes
+
+-- an extension of len bytes was taken off the input, all of it
+pub record TakesExtension (before after : Option (List ℕ)) (held : List ℕ) (len : ℕ) : Type 0 where
+  pub extension : Option (List ℕ)
+  pub is_extension : IsExtension extension
+  pub len_is : length (print_extension extension) ≡ len
+  pub taken : Consumes before after (print_extension extension)
+  pub ends : EndsExtension extension held
+
+-- no extension of at most room bytes, and then a line end, stands in front of bytes
+pub record HasNoExtension (room : ℕ) (bytes : List ℕ) : Type 0 where
+  pub none : (extension : Option (List ℕ)) (rest : List ℕ) → IsExtension extension → length (print_extension extension) ≤ room
+      → ¬ (bytes ≡ print_extension extension ++ (crlf_bytes ++ rest))
+
+-- what stands behind the digits of a chunk line: blanks, an extension, the line end
+abbrev pub print_tail : List ℕ → Option (List ℕ) → List ℕ
+print_tail pad extension = pad ++ (print_extension extension ++ crlf_bytes)
+
+-- the rest of a chunk line behind its digits was taken off the input
+pub record TakesTail (before after : Option (List ℕ)) (len : ℕ) : Type 0 where
+  pub pad : List ℕ
+  pub extension : Option (List ℕ)
+  pub are_blanks : AllPass is_ows pad
+  pub is_extension : IsExtension extension
+  pub len_is : length (print_tail pad extension) ≡ len
+  pub taken : Consumes before after (print_tail pad extension)
+
+-- no such rest of at most room bytes stands in front of bytes
+pub record HasNoTail (room : ℕ) (bytes : List ℕ) : Type 0 where
+  pub none : (pad : List ℕ) (extension : Option (List ℕ)) (rest : List ℕ) → AllPass is_ows pad → IsExtension extension
+      → length (print_tail pad extension) ≤ room → ¬ (bytes ≡ print_tail pad extension ++ rest)
+
+-- a chunk line of this size and length was taken off the input
+pub record TakesLine (before after : Option (List ℕ)) (size_line : SizeLine) : Type 0 where
+  pub line : ChunkLine
+  pub is_line : IsChunkLine line
+  pub size_is : chunk_size line ≡ size_line.size
+  pub len_is : length (print_chunk_line line) ≡ size_line.len
+  pub taken : Consumes before after (print_chunk_line line)
+
+-- no chunk line of at most room bytes stands in front of bytes
+pub record HasNoLineWithin (room : ℕ) (bytes : List ℕ) : Type 0 where
+  pub none : (l : ChunkLine) (rest : List ℕ) → IsChunkLine l → length (print_chunk_line l) ≤ room → ¬ (bytes ≡ print_chunk_line l ++ rest)
+
+-- ---- the bytes of a body
+
+-- len bytes were taken off the input, and the body now has them too
+pub record TakesBytes (before after : Option (List ℕ)) (body body_now : Body) (len : ℕ) : Type 0 where
+  pub bytes : List ℕ
+  pub size : length bytes ≡ len
+  pub taken : Consumes before after bytes
+  pub kept : body_now ≡ extended body bytes
+
+-- len bytes and a line end were taken off the input, and the body now has the bytes too
+pub record TakesData (before after : Option (List ℕ)) (body body_now : Body) (len : ℕ) : Type 0 where
+  pub bytes : List ℕ
+  pub size : length bytes ≡ len
+  pub taken : Consumes before after (bytes ++ crlf_bytes)
+  pub kept : body_now ≡ extended body bytes
+
+-- no len bytes and a line end stand in front of bytes
+pub record HasNoData (len : ℕ) (bytes : List ℕ) : Type 0 where
+  pub none : (content rest : List ℕ) → length content ≡ len → ¬ (bytes ≡ content ++ (crlf_bytes ++ rest))
+
+-- a chunk of len bytes with its line was taken off the input, and the body now has its bytes too
+pub record TakesChunk (before after : Option (List ℕ)) (body body_now : Body) (len : ℕ) : Type 0 where
+  pub chunk : Chunk
+  pub is_chunk : IsChunk chunk
+  pub len_is : length (print_chunk chunk) ≡ len
+  pub taken : Consumes before after (print_chunk chunk)
+  pub kept : body_now ≡ extended body chunk.bytes
+
+-- the line of size 0 was taken off the input
+pub record TakesLast (before after : Option (List ℕ)) (len : ℕ) : Type 0 where
+  pub line : ChunkLine
+  pub is_last : IsLast line
+  pub len_is : length (print_chunk_line line) ≡ len
+  pub taken : Consumes before after (print_chunk_line line)
+
+-- no text of a chunked body of at most room bytes stands in front of bytes
+pub record HasNoChunked (room : ℕ) (bytes : List ℕ) : Type 0 where
+  pub none : (b : ChunkedText) (rest : List ℕ) → IsChunked b → length (print_chunked b) ≤ room → ¬ (bytes ≡ print_chunked b ++ rest)
+
+-- what was taken in one step through the chunks
+abbrev pub IsStep : ℕ → Option (List ℕ) → Option (List ℕ) → Body → Body → Step → Type 0
+IsStep room before after body body_now (More len) = TakesChunk before after body body_now len × (0 < len) × (len ≤ room)
+IsStep room before after body body_now (Last len) = TakesLast before after len × (len ≤ room) × (body_now ≡ body)
+IsStep room before after body body_now Bad = IfSome before (HasNoChunked room)
+
+-- chunks were taken off the input, and the body now has their bytes too; the room is less by their length
+pub record TakesChunks (before after : Option (List ℕ)) (body body_now : Body) (room room_now : ℕ) : Type 0 where
+  pub chunks : List Chunk
+  pub are_chunks : All IsChunk chunks
+  pub room_is : length (flat_map print_chunk chunks) + room_now ≡ room
+  pub taken : Consumes before after (flat_map print_chunk chunks)
+  pub kept : body_now ≡ extended body (flat_map chunk_bytes chunks)
+
+-- a chunked body of at most room bytes was taken off the input, and the body now has its bytes too
+pub record TakesChunked (before after : Option (List ℕ)) (body body_now : Body) (room : ℕ) : Type 0 where
+  pub text : ChunkedText
+  pub is_chunked : IsChunked text
+  pub fits : length (print_chunked text) ≤ room
+  pub taken : Consumes before after (print_chunked text)
+  pub kept : body_now ≡ extended body (flat_map chunk_bytes text.chunks)
+
+-- ---- the trailer
+
+-- no trailer stands in front of bytes
+pub record HasNoTrailer (bytes : List ℕ) : Type 0 where
+  pub none : (fields : List Field) (end : LineEnd) (rest : List ℕ) → IsTrailer fields end → ¬ (bytes ≡ print_section fields end ++ rest)
+
+-- the first len bytes are a trailer
+pub record IsTrailerAt (bytes : List ℕ) (len : ℕ) : Type 0 where
+  pub fields : List Field
+  pub end : LineEnd
+  pub is_trailer : IsTrailer fields end
+  pub within : len ≤ length bytes
+  pub len_is : len ≡ length (print_section fields end)
+  pub stands : bytes ≡ print_section fields end ++ drop len bytes
+
+-- a trailer of at most room bytes was taken off the input
+pub record TakesTrailer (before after : Option (List ℕ)) (room : ℕ) : Type 0 where
+  pub fields : List Field
+  pub end : LineEnd
+  pub is_trailer : IsTrailer fields end
+  pub fits : length (print_section fields end) ≤ room
+  pub taken : Consumes before after (print_section fields end)
+
+-- no trailer of at most room bytes stands in front of bytes
+pub record HasNoTrailerWithin (room : ℕ) (bytes : List ℕ) : Type 0 where
+  pub none : (fields : List Field) (end : LineEnd) (rest : List ℕ) → IsTrailer fields end → length (print_section fields end) ≤ room
+      → ¬ (bytes ≡ print_section fields end ++ rest)
+
+-- ---- a whole body
+
+-- nothing was read of a body that has at least len bytes
+pub record IsUnread (len : ℕ) (body : Body) : Type 0 where
+  pub within : IsWithinLimit body
+  pub becomes : (bytes : List ℕ) → len ≤ length bytes → extended body bytes ≡ body_of bytes
+
+-- a body with this framing, of at most room bytes, was taken off the input
+pub record TakesBody (before after : Option (List ℕ)) (framing : Option Framing) (room : ℕ) (body : Body) : Type 0 where
+  pub text : BodyText
+  pub is_body : IsFramedBody framing text
+  pub fits : length (print_body text) ≤ room
+  pub taken : Consumes before after (print_body text)
+  pub body_is : body ≡ body_of (content_of text)
+
+-- no such body of at most room bytes stands in front of bytes; where the framing is bad there is none
+pub record HasNoBody (framing : Option Framing) (room : ℕ) (bytes : List ℕ) : Type 0 where
+  pub none : (text : BodyText) (rest : List ℕ) → IsFramedBody framing text → length (print_body text) ≤ room → ¬ (bytes ≡ print_body text ++ rest)

@@ -1,0 +1,70 @@
+//! The bytes of a body. They are kept up to the greatest size of an object; beyond it they are only read.
+ghost use Rattle.std.specs.Prelude.{◌≡◌, ℕ, ◌<◌, ◌≤◌, true, false, length, Ok, Err, OnOk, IfSome};
+ghost use Rattle.std.specs.Io.KnownBytes.{Keeps, IsAtEnd, prepend_known};
+ghost use Rattle.sw_outside.specs.Faults.{HasRisen};
+ghost use Rattle.sw_http.specs.Body.{IsWithinLimit, extended};
+ghost use Rattle.sw_http.specs.ChunkSteps.{TakesBytes};
+
+use crate::held::Held;
+use crate::input::ReadError;
+use crate::limits::MAX_BODY;
+use crate::request::Body;
+use std::mem;
+use sw_outside::{Bytes, NoMemory, Source};
+
+/// Puts bytes behind those of a body.
+fn keep(body: &mut Body, more: &[u8]) -> Result<(), NoMemory>
+    ensures { OnOk result (body.new ≡ extended body.old more.now) }
+{
+    match mem::replace(body, Body::TooLarge) {
+        Body::Whole(bytes) => {
+            let mut bytes = Vec::from(bytes);
+            if bytes.len().saturating_add(more.len()) <= MAX_BODY {
+                bytes.extend_from_slice(more)?;
+                *body = Body::Whole(Bytes::from(bytes));
+            }
+            Ok(())
+        }
+        Body::TooLarge => Ok(()),
+    }
+}
+
+/// Reads where nothing is held. It answers `false` where the input ended.
+fn hold_some<R: Source>(held: &mut Held, source: &mut R) -> Result<bool, ReadError>
+    ensures kept { Keeps (prepend_known held.old (R.left source.old)) (prepend_known held.new (R.left source.new)) }
+    ensures some { result ≡ Ok true → 0 < length held.new }
+    ensures ended { result ≡ Ok false → IsAtEnd (prepend_known held.new (R.left source.new)) }
+    ensures later { R.faults source.old ≤ R.faults source.new }
+    ensures read_fault { result ≡ Err ReadError.Failed → HasRisen (R.faults source.old) (R.faults source.new) }
+{
+    if !held.rest().is_empty() {
+        return Ok(true);
+    }
+    Ok(held.read_more(source)? > 0)
+}
+
+/// Takes `len` bytes of a body off the input. It answers `false` where the input ends before.
+pub(crate) fn take_content<R: Source>(
+    held: &mut Held,
+    source: &mut R,
+    len: usize,
+    body: &mut Body,
+) -> Result<bool, ReadError>
+    requires { IsWithinLimit body.old }
+    ensures taken { result ≡ Ok true → TakesBytes (prepend_known held.old (R.left source.old)) (prepend_known held.new (R.left source.new)) body.old body.new len }
+    ensures none { result ≡ Ok false → IfSome (prepend_known held.old (R.left source.old)) (λ bytes. length bytes < len) }
+    ensures later { R.faults source.old ≤ R.faults source.new }
+    ensures read_fault { result ≡ Err ReadError.Failed → HasRisen (R.faults source.old) (R.faults source.new) }
+{
+    let mut taken = 0;
+    while taken < len {
+        if !hold_some(held, source)? {
+            return Ok(false);
+        }
+        let piece = held.rest().len().min(len - taken);
+        keep(body, &held.rest()[..piece])?;
+        held.advance(piece);
+        taken += piece;
+    }
+    Ok(true)
+}

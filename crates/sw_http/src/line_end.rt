@@ -1,0 +1,51 @@
+ghost use Rattle.std.specs.Prelude.{◌≡◌, ℕ, ◌+◌, ◌^◌, ◌<◌, ◌≤◌, ◌++◌, List, true, false, IsTrue, length, drop, Ok, Err, IfOk, IfSome};
+ghost use Rattle.std.specs.Io.KnownBytes.{Consumes, Keeps, IsAtEnd, prepend_known};
+ghost use Rattle.httparse.specs.Ascii.{crlf_bytes};
+ghost use Rattle.sw_outside.specs.Faults.{HasRisen};
+ghost use Rattle.sw_http.specs.Input.{HasNoLineEnd};
+
+use crate::held::Held;
+use crate::input::ReadError;
+use sw_outside::Source;
+
+/// What ends a line.
+pub(crate) const CRLF: &[u8] = b"\r\n";
+
+/// Whether this text stands in front of bytes.
+pub(crate) fn begins_with(bytes: &[u8], text: &[u8]) -> bool
+    ensures found { IsTrue result → bytes.now ≡ text.now ++ drop (length text.now) bytes.now }
+    ensures all { (rest : List ℕ) → bytes.now ≡ text.now ++ rest → IsTrue result }
+{
+    bytes.starts_with(text)
+}
+
+/// Reads until two bytes are held. It answers `false` where the input ends before.
+fn hold_two<R: Source>(held: &mut Held, source: &mut R) -> Result<bool, ReadError>
+    ensures kept { Keeps (prepend_known held.old (R.left source.old)) (prepend_known held.new (R.left source.new)) }
+    ensures whole { result ≡ Ok true → 2 ≤ length held.new }
+    ensures short { result ≡ Ok false → length held.new < 2 }
+    ensures ended { result ≡ Ok false → IsAtEnd (R.left source.new) }
+    ensures later { R.faults source.old ≤ R.faults source.new }
+    ensures read_fault { result ≡ Err ReadError.Failed → HasRisen (R.faults source.old) (R.faults source.new) }
+{
+    while held.rest().len() < CRLF.len() {
+        if held.read_more(source)? == 0 {
+            return Ok(false);
+        }
+    }
+    Ok(true)
+}
+
+/// Takes a CR LF off the front of the input. It answers `false` where none stands there.
+pub(crate) fn take_line_end<R: Source>(held: &mut Held, source: &mut R) -> Result<bool, ReadError>
+    ensures taken { result ≡ Ok true → Consumes (prepend_known held.old (R.left source.old)) (prepend_known held.new (R.left source.new)) crlf_bytes }
+    ensures none { result ≡ Ok false → IfSome (prepend_known held.old (R.left source.old)) HasNoLineEnd }
+    ensures later { R.faults source.old ≤ R.faults source.new }
+    ensures read_fault { result ≡ Err ReadError.Failed → HasRisen (R.faults source.old) (R.faults source.new) }
+{
+    if !hold_two(held, source)? || !begins_with(held.rest(), CRLF) {
+        return Ok(false);
+    }
+    held.advance(CRLF.len());
+    Ok(true)
+}

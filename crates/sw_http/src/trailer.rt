@@ -1,0 +1,94 @@
+//! The trailer of a chunked body: fields, which are ignored, and the empty line.
+ghost use Rattle.std.specs.Prelude.{◌≡◌, ◌↔◌, ℕ, ◌≤◌, IsTrue, true, false, length, take, None, Ok, Err, IfOk, IfSome};
+ghost use Rattle.std.specs.Io.KnownBytes.{Keeps, prepend_known};
+ghost use Rattle.sw_outside.specs.Faults.{HasRisen};
+ghost use Rattle.sw_http.specs.ChunkSteps.{HasNoTrailer, IsTrailerAt, TakesTrailer, HasNoTrailerWithin};
+ghost use Rattle.sw_http.specs.Input.{IsLook};
+
+use crate::held::Held;
+use crate::input::ReadError;
+use crate::limits::{MAX_FIELDS, MAX_HEAD};
+use crate::look::Look;
+use httparse::Status;
+use httparse::spans::{EMPTY_HEADER_SPAN, HeaderSpan, parse_headers};
+use sw_outside::Source;
+
+/// Looks for a trailer in front of bytes.
+fn find_trailer(bytes: &[u8], headers: &mut [HeaderSpan]) -> Look<usize>
+    requires room { length headers.old ≡ MAX_FIELDS }
+    ensures { IsLook (IsTrailerAt bytes.now) HasNoTrailer bytes.now result }
+{
+    match parse_headers(bytes, headers) {
+        Ok(Status::Complete((len, _))) => {
+            if len <= MAX_HEAD {
+                Look::Whole(len)
+            } else {
+                Look::Never
+            }
+        }
+        Ok(Status::Partial) => Look::NotYet,
+        Err(_) => Look::Never,
+    }
+}
+
+/// The same, where no trailer stands in front of the first `seen` bytes. A trailer ends with a line feed, so without a new one there is
+/// no need to look.
+fn find_new_trailer(bytes: &[u8], seen: usize, headers: &mut [HeaderSpan]) -> Look<usize>
+    requires room { length headers.old ≡ MAX_FIELDS }
+    requires within { seen ≤ length bytes.now }
+    requires none_seen { HasNoTrailer (take seen bytes.now) }
+    ensures { IsLook (IsTrailerAt bytes.now) HasNoTrailer bytes.now result }
+{
+    if bytes[seen..].contains(&b'\n') {
+        find_trailer(bytes, headers)
+    } else {
+        Look::NotYet
+    }
+}
+
+/// Reads until a trailer stands in front of what is held, and answers how many bytes it has. It answers `None` where none ever will.
+fn read_trailer<R: Source>(held: &mut Held, source: &mut R) -> Result<Option<usize>, ReadError>
+    ensures kept { Keeps (prepend_known held.old (R.left source.old)) (prepend_known held.new (R.left source.new)) }
+    ensures found { IfOk result (λ found. IfSome found (IsTrailerAt held.new)) }
+    ensures none { result ≡ Ok None → IfSome (prepend_known held.old (R.left source.old)) HasNoTrailer }
+    ensures later { R.faults source.old ≤ R.faults source.new }
+    ensures read_fault { result ≡ Err ReadError.Failed → HasRisen (R.faults source.old) (R.faults source.new) }
+{
+    let mut headers = [EMPTY_HEADER_SPAN; MAX_FIELDS];
+    let mut seen = 0;
+    loop {
+        match find_new_trailer(held.rest(), seen, &mut headers) {
+            Look::Whole(len) => return Ok(Some(len)),
+            Look::Never => return Ok(None),
+            Look::NotYet => {}
+        }
+        seen = held.rest().len();
+        if seen >= MAX_HEAD {
+            return Ok(None);
+        }
+        if held.read_more(source)? == 0 {
+            return Ok(None);
+        }
+    }
+}
+
+/// Takes a trailer off the input. It answers `false` where none of at most `room` bytes stands in front.
+pub(crate) fn take_trailer<R: Source>(
+    held: &mut Held,
+    source: &mut R,
+    room: usize,
+) -> Result<bool, ReadError>
+    ensures taken { result ≡ Ok true → TakesTrailer (prepend_known held.old (R.left source.old)) (prepend_known held.new (R.left source.new)) room }
+    ensures none { result ≡ Ok false → IfSome (prepend_known held.old (R.left source.old)) (HasNoTrailerWithin room) }
+    ensures later { R.faults source.old ≤ R.faults source.new }
+    ensures read_fault { result ≡ Err ReadError.Failed → HasRisen (R.faults source.old) (R.faults source.new) }
+{
+    match read_trailer(held, source)? {
+        Some(len) if len <= room => {
+            held.advance(len);
+            Ok(true)
+        }
+        Some(_) => Ok(false),
+        None => Ok(false),
+    }
+}
