@@ -1,0 +1,4 @@
+pub mod Asking
+pub mod KeptItems
+pub mod Seconds
+pub mod Times

@@ -1,0 +1,30 @@
+use Rattle.std.proofs.Common.{◌∙◌, Some, refl, sym}
+use Rattle.std.proofs.lemmas.Option.{slice_get_within}
+use Rattle.sw_object_server.proofs.Asking.{in_place}
+use Rattle.sw_object_server.proofs.reading.read_name.Goals as goal
+use Rattle.sw_object_server.specs.declared.verdict.Verdict.TheVariants.{Refused, Made}
+
+pub returns-in-Refused-clause-asked : goal.returns-in-Refused-clause-asked
+returns-in-Refused-clause-asked c = (
+  Some c.in-Some.device,
+  rw c.as_slice.ensures at ((c.in-Some.ensures.known c.in-Some.device).0 refl),
+  in_place c.args.ring.now c.args.parts.now c.args.verb c.args.name c.args.request _ c.in-Some.device
+      (rw (← c.partition.ensures.value, ← c.as_slice-2.ensures) (sym c.has_number.ensures ∙ c.if-not-has_number.false))
+      (Refused c.in-Refused.status, rw c.in-Refused.is at c.in_ok-status.ensures, refl),
+)
+
+pub returns-in-Made-clause-asked : goal.returns-in-Made-clause-asked
+returns-in-Made-clause-asked c = (
+  Some c.in-Some.device,
+  rw c.as_slice.ensures at ((c.in-Some.ensures.known c.in-Some.device).0 refl),
+  in_place c.args.ring.now c.args.parts.now c.args.verb c.args.name c.args.request _ c.in-Some.device
+      (rw (← c.partition.ensures.value, ← c.as_slice-2.ensures) (sym c.has_number.ensures ∙ c.if-not-has_number.false))
+      (Made c.in-Made.step, rw c.in-Made.is at c.in_ok-status.ensures, refl),
+)
+
+-- a device that the ring has is among its devices
+pub returns-in-Made-clause-placed : goal.returns-in-Made-clause-placed
+returns-in-Made-clause-placed c = (
+  slice_get_within c.args.ring.now.devices c.in-Some.device c.as_slice.result.now ((c.in-Some.ensures.known c.in-Some.device).0 refl),
+  c.requires,
+)

@@ -1,0 +1,36 @@
+//! The object server: what a request asks the nodes for, and what is replied.
+//!
+//! [`answer`] is one request over any door. It has two halves. [`read_request`] is pure: a ring and a request alone decide which one step
+//! is [`Asked`] for, or with which status the request is refused; `specs/Asking.antt` has the tests in their order. The other half calls
+//! the door for that step and replies to its answer, by `specs/Replies.antt` and `specs/Showing.antt`.
+//!
+//! The body of a PUT is moved into the content that is written, and the body of what a GET finds into its reply: neither is copied.
+//!
+//! The next layers up are `sw_cluster`, which routes requests to this server, and the jobs that serve connections.
+#![tactic(auto)]
+
+mod asked;
+mod changing;
+mod expiry;
+mod field_tests;
+mod heads;
+mod items;
+pub mod laws;
+mod limits;
+mod posting;
+mod putting;
+mod reading;
+mod replies;
+mod serving;
+mod showing;
+mod target;
+#[cfg(test)]
+mod tests;
+mod verb;
+mod verdict;
+
+pub use asked::{Asked, Step};
+pub use reading::read_request;
+pub use replies::bare;
+pub use serving::answer;
+pub use target::{at_slash, decoded, slash_count};

@@ -1,0 +1,129 @@
+ghost use Rattle.std.specs.Prelude.{◌≡◌, true, IfOk};
+ghost use Rattle.std.specs.Str.{is_utf8 as is_utf8_text};
+ghost use Rattle.sw_object_server.specs.Asking.{Puts, PutsBody, PutsType, put_content as put_content_of, put_step as put_step_of};
+ghost use Rattle.sw_object_server.specs.Contents.{IsContent};
+
+use crate::asked::Step;
+use crate::field_tests::{agrees_with, asks_for_none, is_replicated, type_of};
+use crate::heads::heads_of;
+use crate::verdict::Verdict;
+use md5::{Digest, Md5};
+use std::alloc::Global;
+use sw_hashpath::Name;
+use sw_http::{Body, FieldList, Request};
+use sw_outside::{Bytes, NoMemory};
+use sw_state::{Content, Heads, Kind, Write};
+use sw_timestamp::Timestamp;
+
+/// A PUT of this name at this time.
+pub(crate) fn read_put(
+    alloc: Global,
+    time: Timestamp,
+    name: &Name,
+    request: Request,
+) -> Result<Verdict, NoMemory>
+    ensures { IfOk result (λ verdict. Puts name.now request verdict time) }
+{
+    let Request {
+        method: _,
+        path: _,
+        query: _,
+        fields,
+        framed,
+        body,
+    } = request;
+    if framed {
+        read_body(alloc, time, name, body, &fields)
+    } else {
+        Ok(Verdict::Refused(411))
+    }
+}
+
+/// A PUT that says how long its body is.
+fn read_body(
+    alloc: Global,
+    time: Timestamp,
+    name: &Name,
+    body: Body,
+    fields: &FieldList,
+) -> Result<Verdict, NoMemory>
+    ensures { IfOk result (PutsBody time name.now fields.now body) }
+{
+    match body {
+        Body::TooLarge => Ok(Verdict::Refused(413)),
+        Body::Whole(body) => match type_of(fields) {
+            Some(content_type) => read_typed(alloc, time, name, body, content_type, fields),
+            None => Ok(Verdict::Refused(400)),
+        },
+    }
+}
+
+/// A PUT of this body and content type.
+fn read_typed(
+    alloc: Global,
+    time: Timestamp,
+    name: &Name,
+    body: Bytes,
+    content_type: &[u8],
+    fields: &FieldList,
+) -> Result<Verdict, NoMemory>
+    requires { is_utf8_text content_type.now ≡ true }
+    ensures { IfOk result (λ verdict. PutsType time name.now body fields.now verdict content_type.now) }
+{
+    match heads_of(alloc, time, name, fields)? {
+        Some(heads) => {
+            let content = content_of(alloc, body, content_type, heads)?;
+            Ok(put_content(time, content, fields))
+        }
+        None => Ok(Verdict::Refused(400)),
+    }
+}
+
+/// A PUT of this content.
+fn put_content(time: Timestamp, content: Content, fields: &FieldList) -> Verdict
+    ensures { result ≡ put_content_of time fields.now content }
+{
+    if agrees_with(&content.etag, fields) {
+        Verdict::Made(put_step(time, content, fields))
+    } else {
+        Verdict::Refused(422)
+    }
+}
+
+/// The content of this body, type and metadata. The body is moved into it.
+fn content_of(
+    alloc: Global,
+    body: Bytes,
+    content_type: &[u8],
+    heads: Heads,
+) -> Result<Content, NoMemory>
+    requires { is_utf8_text content_type.now ≡ true }
+    ensures { IfOk result (λ content. IsContent content body content_type.now heads) }
+{
+    let content_type = Bytes::copy(alloc, content_type)?;
+    let etag = Md5::digest(body.as_slice());
+    Ok(Content {
+        body,
+        content_type,
+        etag,
+        heads,
+    })
+}
+
+fn put_step(time: Timestamp, content: Content, fields: &FieldList) -> Step
+    ensures { result ≡ put_step_of time content fields.now }
+{
+    if is_replicated(fields) {
+        return Step::Receive {
+            write: Write {
+                time,
+                kind: Kind::Put(content),
+            },
+        };
+    }
+    Step::Put {
+        time,
+        content,
+        none_match: asks_for_none(fields),
+    }
+}

@@ -1,0 +1,131 @@
+ghost use Rattle.std.specs.Prelude.{◌≡◌, decimal, IfOk};
+ghost use Rattle.std.specs.Str.{bytes_eq};
+ghost use Rattle.sw_object_server.specs.Targets.{parts_of as parts_of_path};
+ghost use Rattle.sw_object_server.specs.Asking.{AsksDevice, AsksName, IsAsked, IsTimed, IsVerdict, Posts, Puts, delete as delete_verdict};
+ghost use Rattle.sw_object_server.specs.Places.{IsHashed, IsPlaced};
+
+use crate::asked::{Asked, Step};
+use crate::field_tests::time_of;
+use crate::posting::{read_delete, read_post};
+use crate::putting::read_put;
+use crate::target::{Parts, is_for_objects, parts_of};
+use crate::verb::{Verb, verb_of};
+use crate::verdict::Verdict;
+use itoa::Buffer;
+use std::alloc::Global;
+use sw_hashpath::{Name, NameError, partition};
+use sw_http::Request;
+use sw_outside::NoMemory;
+use sw_ring::Ring;
+
+/// What a request asks the nodes of a ring for, or the status that refuses it. Its body is moved, and nothing of it copied.
+///
+/// A request whose path has fewer than five segments, or that is a container's row, isn't this server's, and is refused as a bad one.
+pub fn read_request(alloc: Global, ring: &Ring, request: Request) -> Result<Asked, NoMemory>
+    ensures asked { IfOk result (IsAsked ring.now request) }
+    ensures placed { IfOk result (IsPlaced ring.now) }
+{
+    if !is_for_objects(&request) {
+        return Ok(Asked::Refused(400));
+    }
+    match verb_of(&request.method) {
+        Some(verb) => read_target(alloc, ring, verb, request),
+        None => Ok(Asked::Refused(405)),
+    }
+}
+
+/// A request with this verb.
+fn read_target(alloc: Global, ring: &Ring, verb: Verb, request: Request) -> Result<Asked, NoMemory>
+    ensures asked { IfOk result (λ asked. AsksName ring.now (parts_of_path request.path) request asked verb) }
+    ensures placed { IfOk result (IsPlaced ring.now) }
+{
+    let parts = parts_of(alloc, request.path.as_slice())?;
+    let (account, container) = (parts.account.as_slice(), parts.container.as_slice());
+    match Name::new(
+        alloc,
+        &ring.secrets,
+        account,
+        container,
+        parts.object.as_slice(),
+    ) {
+        Ok(name) => read_name(alloc, ring, &parts, verb, name, request),
+        Err(NameError::Bad(_)) => Ok(Asked::Refused(400)),
+        Err(NameError::NoMemory) => Err(NoMemory),
+    }
+}
+
+/// A request of this name.
+fn read_name(
+    alloc: Global,
+    ring: &Ring,
+    parts: &Parts,
+    verb: Verb,
+    name: Name,
+    request: Request,
+) -> Result<Asked, NoMemory>
+    requires { IsHashed ring.now name }
+    ensures asked { IfOk result (AsksDevice ring.now parts.now verb name request) }
+    ensures placed { IfOk result (IsPlaced ring.now) }
+{
+    let Some(device) = ring.device(parts.device.as_slice()) else {
+        return Ok(Asked::Refused(404));
+    };
+    if !has_number(
+        parts.partition.as_slice(),
+        partition(&name.hash, ring.power),
+    ) {
+        return Ok(Asked::Refused(400));
+    }
+    match read_verb(alloc, verb, &name, request)? {
+        Verdict::Refused(status) => Ok(Asked::Refused(status)),
+        Verdict::Made(step) => Ok(Asked::Step { device, name, step }),
+    }
+}
+
+/// What the verb asks for at this name.
+fn read_verb(alloc: Global, verb: Verb, name: &Name, request: Request) -> Result<Verdict, NoMemory>
+    ensures { IfOk result (IsVerdict verb name.now request) }
+{
+    match verb {
+        Verb::Get => Ok(Verdict::Made(Step::Get { head_only: false })),
+        Verb::Head => Ok(Verdict::Made(Step::Get { head_only: true })),
+        Verb::Put => timed_put(alloc, name, request),
+        Verb::Post => timed_post(alloc, name, &request),
+        Verb::Delete => Ok(timed_delete(&request)),
+    }
+}
+
+fn timed_put(alloc: Global, name: &Name, request: Request) -> Result<Verdict, NoMemory>
+    ensures { IfOk result (λ verdict. IsTimed request.fields verdict (Puts name.now request verdict)) }
+{
+    match time_of(&request.fields) {
+        Some(time) => read_put(alloc, time, name, request),
+        None => Ok(Verdict::Refused(400)),
+    }
+}
+
+fn timed_post(alloc: Global, name: &Name, request: &Request) -> Result<Verdict, NoMemory>
+    ensures { IfOk result (λ verdict. IsTimed request.now.fields verdict (Posts name.now request.now verdict)) }
+{
+    match time_of(&request.fields) {
+        Some(time) => read_post(alloc, time, name, request),
+        None => Ok(Verdict::Refused(400)),
+    }
+}
+
+fn timed_delete(request: &Request) -> Verdict
+    ensures { IsTimed request.now.fields result (λ time. result ≡ delete_verdict request.now.fields time) }
+{
+    match time_of(&request.fields) {
+        Some(time) => read_delete(time, request),
+        None => Verdict::Refused(400),
+    }
+}
+
+/// Whether the text is the decimal form of the number.
+fn has_number(text: &[u8], number: u32) -> bool
+    ensures { result ≡ bytes_eq text.now (decimal number) }
+{
+    let mut buffer = Buffer::new();
+    text == buffer.format(number).as_bytes()
+}
