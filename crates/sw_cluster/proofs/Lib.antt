@@ -1,6 +1,6 @@
-pub mod ServerLemmas
 pub mod ReportLemmas
 pub mod SessionLemmas
-pub mod StoreLemmas
 pub mod OpeningLemmas
 pub mod TurnLemmas
+pub mod ServingLemmas
+pub mod TrailLemmas

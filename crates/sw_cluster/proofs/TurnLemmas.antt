@@ -1,48 +1,153 @@
--- What a request's reading and its answer are together.
-use Rattle.std.proofs.Common.{◌≡◌, ℕ, List, Option, Some, Err, subst, inl, inr}
+-- What one turn of a session's loop leaves.
+use Rattle.std.proofs.Common.{◌≡◌, ℕ, List, [], ◌∷◌, ◌++◌, Option, Result, Ok, Err, true, refl, sym, ap, ◌∙◌, subst, inl, inr}
+use Rattle.std.specs.Io.KnownBytes.{Appends}
+use Rattle.std.proofs.KnownBytes.{Appends-trans}
+use Rattle.sw_outside.specs.Readings.{Ticks, TicksEach}
 use Rattle.sw_outside.specs.Taken.{AppendsPart}
+use Rattle.sw_http.specs.Continue.{Continues, IsCut, Refuses as RefusedByReader, Takes, continue_of}
 use Rattle.sw_http.specs.Reply.{reply_text}
-use Rattle.sw_http.specs.declared.writer.WriteFault.{WriteFault}
-use Rattle.sw_http.specs.declared.writer.WriteFault.TheVariants as writes
-use Rattle.sw_cluster.specs.Fault.{fault_of}
-use Rattle.sw_http.specs.Request.{Takes}
 use Rattle.sw_http.specs.declared.request.Request.{Request}
 use Rattle.sw_http.specs.declared.response.Response.{Response}
-use Rattle.sw_ring.specs.declared.ring.Ring.{Ring}
-use Rattle.sw_cluster.specs.Places.{IsPlace, asked_of}
-use Rattle.sw_cluster.specs.Server.{AnswersAt, IsAnswer}
-use Rattle.sw_cluster.specs.Session.{Serves}
-use Rattle.sw_cluster.specs.Step.{IsStep, Turn}
-use Rattle.sw_cluster.specs.Target.{Asked, parts_of}
-use Rattle.sw_cluster.specs.Targets.{IsAsked}
-use Rattle.sw_cluster.specs.declared.place.Place.{Place}
-use Rattle.sw_cluster.specs.declared.store.Stored.{Stored}
-use Rattle.sw_cluster.specs.declared.target.Target.{Target}
+use Rattle.sw_http.specs.declared.writer.WriteFault.{WriteFault}
+use Rattle.sw_http.specs.declared.writer.WriteFault.TheVariants as writes
+use Rattle.sw_core.specs.declared.step_line.StepLine.{StepLine}
+use Rattle.sw_core.specs.Machine.{Runs, empty_machine}
+use Rattle.sw_core.specs.Runs.{IsRun, Opens}
+use Rattle.sw_core.specs.Stored.{state_at}
+use Rattle.sw_core.specs.Trails.{reached_by}
+use Rattle.sw_core.specs.World.{World, empty_world}
+use Rattle.sw_core.proofs.MachineLemmas.{run_reached}
+use Rattle.sw_cluster.specs.Ending.{IsTrail}
+use Rattle.sw_cluster.specs.Fault.{fault_of}
+use Rattle.sw_cluster.specs.Session.{IsTold, Serves, refusal}
+use Rattle.sw_cluster.specs.Step.{BreaksAtReply, IsReadingFault, IsReceived, IsRefusal, IsStep, RefusesPart, TellsWhole, Turn}
+use Rattle.sw_cluster.specs.Worlds.{BeginsAlike}
+use Rattle.sw_cluster.specs.declared.session.SessionFault.{SessionFault}
+use Rattle.sw_cluster.specs.declared.session.SessionFault.TheVariants as faults
+use Rattle.sw_cluster.proofs.SessionLemmas.{part_behind}
+
+-- ---- moments
+
+-- the clock was read once more
+pub one_more_tick : (start before after : Option (List ℕ)) (moments : List ℕ) (now : ℕ) → TicksEach start before moments → Ticks before after now
+    → TicksEach start after (moments ++ now ∷ [])
+one_more_tick start before after [] now each tick = (after, subst (λ (c : Option (List ℕ)). Ticks c after now) each tick, refl)
+one_more_tick start before after (moment ∷ moments) now each tick =
+    (each.0, each.1, one_more_tick each.0 before after moments now each.2 tick)
+
+-- a moment was kept behind those before it
+pub kept_moment : (moments same more : List ℕ) (now : ℕ) → same ≡ moments → more ≡ same ++ now ∷ [] → more ≡ moments ++ now ∷ []
+kept_moment moments same more now same_is more_is = more_is ∙ ap (λ (m : List ℕ). m ++ now ∷ []) same_is
+
+-- ---- turns that answered nothing
+
+-- a read failed
+pub told_whole : (before after taken taken_now : Option (List ℕ)) → IsCut before after taken taken_now → TellsWhole before taken taken_now
+told_whole before after taken taken_now (inl skips) = inl skips.1
+told_whole before after taken taken_now (inr told) = inr told
+
+-- what a rest asked to be told, as a text
+told_text : (input taken taken_now : Option (List ℕ)) → Continues input taken taken_now → (text : List ℕ) × IsTold input text × Appends taken taken_now text
+told_text input taken taken_now (inl told) = (continue_of told.0, inl (told.0, told.1, refl), told.2)
+told_text input taken taken_now (inr nothing) = ([], inr (nothing.0, refl), nothing.1)
+
+-- the rest was refused, or its refusal not written whole
+pub refused : (input rest taken mid now : Option (List ℕ)) (result : Result (Option Request) SessionFault)
+    → RefusedByReader input taken mid → IsRefusal mid now result → IsReceived input rest taken now result
+refused input rest taken mid now result refuses refusal_is = by_result result refusal_is
+  where
+    text : (text : List ℕ) × IsTold input text × Appends taken mid text
+    text = told_text input taken mid refuses.continued
+
+    part : AppendsPart mid now refusal → RefusesPart input taken now
+    part written = record {
+      no_request = refuses.no_request;
+      told = text.0;
+      is_told = text.1;
+      written = part_behind taken mid now text.0 refusal text.2 written;
+    }
+
+    by_result : (result : Result (Option Request) SessionFault) → IsRefusal mid now result → IsReceived input rest taken now result
+    by_result (Err faults.BadInput) written = record {
+      no_request = refuses.no_request;
+      told = text.0;
+      is_told = text.1;
+      written = Appends-trans taken mid now text.0 refusal text.2 written;
+    }
+    by_result (Err faults.WriteFault) written = inr (part written)
+    by_result (Err faults.NoMemory) written = inr (part written)
+    by_result (Err faults.ReadFault) written = absurd written
+    by_result (Err faults.TooLong) written = absurd written
+    by_result (Ok request) written = absurd written
+
+-- the reading of a request ended the session
+pub reading_step : (may : Serves) (steps : List StepLine) (moments moments_now : List ℕ) (input rest taken now : Option (List ℕ)) (fault : SessionFault)
+    → moments_now ≡ moments → IsReadingFault input taken now fault → IsStep may steps steps moments moments_now input rest taken now (Err fault)
+reading_step may steps moments moments_now input rest taken now faults.BadInput same is = (record { no_step = refl; no_moment = same }, is)
+reading_step may steps moments moments_now input rest taken now faults.ReadFault same is = (record { no_step = refl; no_moment = same }, is)
+reading_step may steps moments moments_now input rest taken now faults.WriteFault same is = inl (record { no_step = refl; no_moment = same }, is)
+reading_step may steps moments moments_now input rest taken now faults.NoMemory same is = inl (record { no_step = refl; no_moment = same }, is)
+reading_step may steps moments moments_now input rest taken now faults.TooLong same is = absurd is
+
+-- ---- turns that answered a request
 
 -- a request that was taken off the input, and then answered
-pub turn_taken : (may : Serves) (store after : List Stored) (input rest : Option (List ℕ)) (request : Request) (response : Response)
-    → Takes input rest request → may store request response after → Turn may store after input rest response
-turn_taken may store after input rest request response takes answer = record {
+abbrev turn_taken : (may : Serves) (steps after : List StepLine) (input rest taken mid : Option (List ℕ)) (request : Request) (moment : ℕ) (response : Response)
+    → (takes : Takes input rest taken mid request) → may steps request moment response after → Turn may steps after input rest moment response
+turn_taken may steps after input rest taken mid request moment response takes answer = record {
   parts = takes.parts;
   are_parts = takes.are_parts;
-  taken = takes.taken;
-  answer = subst (λ (q : Request). may store q response after) takes.request_is answer;
+  consumed = takes.consumed;
+  answer = subst (λ (q : Request). may steps q moment response after) takes.request_is answer;
 }
 
--- a request whose target was read, and then answered in its place
-pub placed : (ring : Ring) (store after : List Stored) (r : Request) (response : Response) (target : Target) (place : Place)
-    → IsAsked r.path r.query (Some target) → IsPlace ring (asked_of target) place → AnswersAt store target.name.now place r response after
-    → IsAnswer ring store r response after
-placed ring store after r response target place asked is answers =
-    let parts : asked_of target ≡ parts_of r.path = λ i. record { device = asked.1.0 i; partition = asked.1.1.0 i; name = asked.1.1.1 i } in
-    rw asked.0 (
-      place,
-      subst (λ (a : Asked). IsPlace ring a place) parts is,
-      subst (λ (n : List ℕ). AnswersAt store n place r response after) asked.1.1.1 answers,
-    )
+-- the reply was written whole
+pub answered_step : (may : Serves) (steps after : List StepLine) (moments moments_now : List ℕ) (input rest taken mid now : Option (List ℕ)) (request : Request) (moment : ℕ) (response : Response)
+    → Takes input rest taken mid request → may steps request moment response after → moments_now ≡ moments ++ moment ∷ []
+    → Appends mid now (reply_text response) → IsStep may steps after moments moments_now input rest taken now (Ok true)
+answered_step may steps after moments moments_now input rest taken mid now request moment response takes answer one_more written = (
+  moment,
+  one_more,
+  record {
+    response = response;
+    turn = turn_taken may steps after input rest taken mid request moment response takes answer;
+    written = Appends-trans taken mid now _ _ takes.continued written;
+  },
+)
 
--- the reply to a request wasn't written whole
-pub broken_step : (may : Serves) (store after : List Stored) (input rest before now : Option (List ℕ)) (response : Response) (fault : WriteFault)
-    → Turn may store after input rest response → AppendsPart before now (reply_text response) → IsStep may store after input rest before now (Err (fault_of fault))
-broken_step may store after input rest before now response writes.Failed turn part = inl (record { response = response; turn = turn; written = part })
-broken_step may store after input rest before now response writes.NoMemory turn part = inr (inl (record { response = response; turn = turn; written = part }))
+-- or not
+broken_turn : (may : Serves) (steps after : List StepLine) (moments moments_now : List ℕ) (input rest taken mid now : Option (List ℕ)) (request : Request) (moment : ℕ) (response : Response)
+    → Takes input rest taken mid request → may steps request moment response after → moments_now ≡ moments ++ moment ∷ []
+    → AppendsPart mid now (reply_text response) → BreaksAtReply may steps after moments moments_now input rest taken now
+broken_turn may steps after moments moments_now input rest taken mid now request moment response takes answer one_more written = (
+  moment,
+  one_more,
+  record {
+    response = response;
+    turn = turn_taken may steps after input rest taken mid request moment response takes answer;
+    written = part_behind taken mid now _ _ takes.continued written;
+  },
+)
+
+pub broken_step : (may : Serves) (steps after : List StepLine) (moments moments_now : List ℕ) (input rest taken mid now : Option (List ℕ)) (request : Request) (moment : ℕ) (response : Response) (fault : WriteFault)
+    → Takes input rest taken mid request → may steps request moment response after → moments_now ≡ moments ++ moment ∷ []
+    → AppendsPart mid now (reply_text response) → IsStep may steps after moments moments_now input rest taken now (Err (fault_of fault))
+broken_step may steps after moments moments_now input rest taken mid now request moment response writes.Failed takes answer one_more written =
+    inr (broken_turn may steps after moments moments_now input rest taken mid now request moment response takes answer one_more written)
+broken_step may steps after moments moments_now input rest taken mid now request moment response writes.NoMemory takes answer one_more written =
+    inr (broken_turn may steps after moments moments_now input rest taken mid now request moment response takes answer one_more written)
+
+-- ---- the trail
+
+-- the lines of a world that began with nothing are those of a run from nothing
+pub trail_told : (start w : World) (clock clock_now : Option (List ℕ)) (steps : List StepLine) (moments read : List ℕ) → start ≡ empty_world
+    → BeginsAlike start w → IsRun w → steps ≡ w.lines → moments ≡ read → TicksEach clock clock_now read
+    → IsTrail clock clock_now (record { steps = steps; moments = moments })
+trail_told start w clock clock_now steps moments read start_is alike run steps_are moments_are ticks =
+    let opens : Opens w.began empty_machine = record { states = λ d n. alike d n ∙ ap (λ (s : World). state_at s.began d n) start_is; fronts = λ d. refl } in
+    let ran = run empty_machine opens in record {
+      machine = ran.0;
+      run = subst (λ (l : List StepLine). Runs empty_machine l ran.0) (sym steps_are) ran.1;
+      reached = λ d n. run_reached empty_machine w.lines ran.0 ran.1 d n ∙ ap (λ (l : List StepLine). reached_by l d n) (sym steps_are);
+      moments = subst (TicksEach clock clock_now) (sym moments_are) ticks;
+    }

@@ -1,56 +1,103 @@
 -- What one turn of a session's loop does: one request is read, answered, and its reply written. (This project's own.)
-use Rattle.std.specs.Prelude.{ℕ, Bool, true, false, List, Option, IfSome, Result, Ok, Err, ◌⊎◌}
-use Rattle.std.specs.Io.KnownBytes.{Appends, Consumes, Keeps}
+use Rattle.std.specs.Prelude.{◌≡◌, ℕ, Bool, true, false, List, [], ◌∷◌, ◌++◌, Option, Some, None, IfSome, Result, Ok, Err, ◌⊎◌}
+use Rattle.std.specs.Io.KnownBytes.{Appends, Consumes}
+use Rattle.httparse.specs.Grammar.{RequestHead}
 use Rattle.sw_outside.specs.Taken.{AppendsPart}
+use Rattle.sw_http.specs.Continue.{HasHead, MayContinue, Takes, continue_of}
 use Rattle.sw_http.specs.Request.{Parts, AreParts, request_of, text_of, IsSkipped, IsNoRequest}
-use Rattle.sw_http.specs.Reply.{reply_text}
+use Rattle.sw_http.specs.declared.request.Request.{Request}
 use Rattle.sw_http.specs.declared.response.Response.{Response}
+use Rattle.sw_core.specs.declared.step_line.StepLine.{StepLine}
 use Rattle.sw_cluster.specs.declared.session.SessionFault.{SessionFault}
 use Rattle.sw_cluster.specs.declared.session.SessionFault.TheVariants as faults
-use Rattle.sw_cluster.specs.declared.store.Stored.{Stored}
-use Rattle.sw_cluster.specs.Session.{Serves, refusal}
+use Rattle.sw_cluster.specs.Session.{Serves, IsTold, refusal, written_for}
 
--- a request was taken off the input and answered
-pub record Turn (may : Serves) (store after : List Stored) (input rest : Option (List ℕ)) (response : Response) : Type 0 where
+-- a request was taken off the input, and answered at this moment
+pub record Turn (may : Serves) (steps after : List StepLine) (input rest : Option (List ℕ)) (moment : ℕ) (response : Response) : Type 0 where
   pub parts : Parts
   pub are_parts : AreParts parts
-  pub taken : Consumes input rest (text_of parts)
-  pub answer : may store (request_of parts) response after
+  pub consumed : Consumes input rest (text_of parts)
+  pub answer : may steps (request_of parts) moment response after
 
--- the request's reply was written whole
-pub record Answers (may : Serves) (store after : List Stored) (input rest before now : Option (List ℕ)) : Type 0 where
+-- and all that is written for it was written
+pub record Answers (may : Serves) (steps after : List StepLine) (input rest before now : Option (List ℕ)) (moment : ℕ) : Type 0 where
   pub response : Response
-  pub turn : Turn may store after input rest response
-  pub written : Appends before now (reply_text response)
+  pub turn : Turn may steps after input rest moment response
+  pub written : Appends before now (written_for (request_of turn.parts) response)
 
--- a front of it was written
-pub record AnswersPart (may : Serves) (store after : List Stored) (input rest before now : Option (List ℕ)) : Type 0 where
+-- or a front of it
+pub record AnswersPart (may : Serves) (steps after : List StepLine) (input rest before now : Option (List ℕ)) (moment : ℕ) : Type 0 where
   pub response : Response
-  pub turn : Turn may store after input rest response
-  pub written : AppendsPart before now (reply_text response)
+  pub turn : Turn may steps after input rest moment response
+  pub written : AppendsPart before now (written_for (request_of turn.parts) response)
 
--- the rest of the input is no request, and a front of the refusal was written
+-- no request was answered
+pub record Idles (steps after : List StepLine) (moments moments_now : List ℕ) : Type 0 where
+  pub no_step : after ≡ steps
+  pub no_moment : moments_now ≡ moments
+
+-- the rest of the input is no request, and it was refused
+pub record Refuses (input before now : Option (List ℕ)) : Type 0 where
+  pub no_request : IfSome input IsNoRequest
+  pub told : List ℕ
+  pub is_told : IsTold input told
+  pub written : Appends before now (told ++ refusal)
+
+-- or a front of the refusal was written
 pub record RefusesPart (input before now : Option (List ℕ)) : Type 0 where
   pub no_request : IfSome input IsNoRequest
-  pub written : AppendsPart before now refusal
+  pub told : List ℕ
+  pub is_told : IsTold input told
+  pub written : AppendsPart before now (told ++ refusal)
 
--- how a session ends by the refusal of the rest of its input
-abbrev pub IsRefusal : Option (List ℕ) → Option (List ℕ) → SessionFault → Type 0
-IsRefusal before now faults.BadInput = Appends before now refusal
-IsRefusal before now faults.WriteFault = AppendsPart before now refusal
-IsRefusal before now faults.NoMemory = AppendsPart before now refusal
-IsRefusal before now faults.ReadFault = ⊥
-IsRefusal before now faults.TooLong = ⊥
+-- what a refused rest's reply leaves on the sink, by how the session ends
+abbrev pub IsRefusal : Option (List ℕ) → Option (List ℕ) → Result (Option Request) SessionFault → Type 0
+IsRefusal before now (Err faults.BadInput) = Appends before now refusal
+IsRefusal before now (Err faults.WriteFault) = AppendsPart before now refusal
+IsRefusal before now (Err faults.NoMemory) = AppendsPart before now refusal
+IsRefusal before now (Err faults.ReadFault) = ⊥
+IsRefusal before now (Err faults.TooLong) = ⊥
+IsRefusal before now (Ok request) = ⊥
+
+-- a read failed, and what the next head asks to be told was written or nothing
+abbrev pub TellsWhole : Option (List ℕ) → Option (List ℕ) → Option (List ℕ) → Type 0
+TellsWhole input before now = Appends before now [] ⊎ ((h : RequestHead) × HasHead input h × Appends before now (continue_of h))
+
+-- how the reading of one request ended the session
+abbrev pub IsReadingFault : Option (List ℕ) → Option (List ℕ) → Option (List ℕ) → SessionFault → Type 0
+IsReadingFault input before now faults.BadInput = Refuses input before now
+IsReadingFault input before now faults.ReadFault = TellsWhole input before now
+IsReadingFault input before now faults.WriteFault = MayContinue input before now ⊎ RefusesPart input before now
+IsReadingFault input before now faults.NoMemory = MayContinue input before now ⊎ RefusesPart input before now
+IsReadingFault input before now faults.TooLong = ⊥
+
+-- what the reading of one request left, by what it answered
+abbrev pub IsReceived : Option (List ℕ) → Option (List ℕ) → Option (List ℕ) → Option (List ℕ) → Result (Option Request) SessionFault → Type 0
+IsReceived input rest before now (Ok (Some request)) = Takes input rest before now request
+IsReceived input rest before now (Ok None) = IfSome input IsSkipped × Appends before now []
+IsReceived input rest before now (Err fault) = IsReadingFault input before now fault
+
+-- one request more was answered at this moment, and its reply not written whole
+abbrev pub BreaksAtReply : Serves → List StepLine → List StepLine → List ℕ → List ℕ → Option (List ℕ) → Option (List ℕ) → Option (List ℕ)
+    → Option (List ℕ) → Type 0
+BreaksAtReply may steps after moments moments_now input rest before now =
+    (moment : ℕ) × (moments_now ≡ moments ++ moment ∷ []) × AnswersPart may steps after input rest before now moment
 
 -- what one turn of the loop did, by what it answered
-abbrev pub IsStep : Serves → List Stored → List Stored → Option (List ℕ) → Option (List ℕ) → Option (List ℕ) → Option (List ℕ)
-    → Result Bool SessionFault → Type 0
-IsStep may store after input rest before now (Ok true) = Answers may store after input rest before now
-IsStep may store after input rest before now (Ok false) = IfSome input IsSkipped × Keeps before now
-IsStep may store after input rest before now (Err faults.BadInput) = IfSome input IsNoRequest × Appends before now refusal
-IsStep may store after input rest before now (Err faults.ReadFault) = Keeps before now
-IsStep may store after input rest before now (Err faults.WriteFault) =
-    AnswersPart may store after input rest before now ⊎ RefusesPart input before now
-IsStep may store after input rest before now (Err faults.NoMemory) =
-    Keeps before now ⊎ (AnswersPart may store after input rest before now ⊎ RefusesPart input before now)
-IsStep may store after input rest before now (Err faults.TooLong) = ⊥
+abbrev pub IsStep : Serves → List StepLine → List StepLine → List ℕ → List ℕ → Option (List ℕ) → Option (List ℕ) → Option (List ℕ)
+    → Option (List ℕ) → Result Bool SessionFault → Type 0
+IsStep may steps after moments moments_now input rest before now (Ok true) =
+    (moment : ℕ) × (moments_now ≡ moments ++ moment ∷ []) × Answers may steps after input rest before now moment
+IsStep may steps after moments moments_now input rest before now (Ok false) =
+    Idles steps after moments moments_now × IfSome input IsSkipped × Appends before now []
+IsStep may steps after moments moments_now input rest before now (Err faults.BadInput) =
+    Idles steps after moments moments_now × IsReadingFault input before now faults.BadInput
+IsStep may steps after moments moments_now input rest before now (Err faults.ReadFault) =
+    Idles steps after moments moments_now × IsReadingFault input before now faults.ReadFault
+IsStep may steps after moments moments_now input rest before now (Err faults.WriteFault) =
+    (Idles steps after moments moments_now × IsReadingFault input before now faults.WriteFault)
+    ⊎ BreaksAtReply may steps after moments moments_now input rest before now
+IsStep may steps after moments moments_now input rest before now (Err faults.NoMemory) =
+    (Idles steps after moments moments_now × IsReadingFault input before now faults.NoMemory)
+    ⊎ BreaksAtReply may steps after moments moments_now input rest before now
+IsStep may steps after moments moments_now input rest before now (Err faults.TooLong) = ⊥

@@ -2,25 +2,23 @@
 //!
 //! [`cluster::cluster`] is the top call: it carries the theorem of the whole program, over any words, source, sinks and stores. `main` only
 //! makes the real ones. Below it, from the top: `words` and `opening` tell the command and open its ring; `session` reads and answers the
-//! requests of an input one after the other; `server` answers one, at the place that `target` and `place` find; `store` keeps the names and
-//! their states; `locate` and `whereabouts` say where a name is.
+//! requests of an input one after the other; `server` answers one, by the nodes of the world or by `control`, whose texts `trail_text` writes;
+//! `locate` and `whereabouts` say where a name is.
 #![tactic(auto)]
 
 mod cluster;
+mod control;
 mod locate;
 mod mem_stores;
 mod opening;
-mod place;
-mod replies;
 mod ring_stores;
 mod server;
 mod session;
 mod status;
-mod store;
 mod stores;
-mod target;
 #[cfg(test)]
 mod tests;
+mod trail_text;
 mod whereabouts;
 mod words;
 
@@ -30,13 +28,16 @@ use status::NO_MEMORY;
 use std::io::ErrorKind;
 use std::process::ExitCode;
 use std::{env, io};
-use sw_outside::{ReaderSource, WriterSink};
+use sw_core::Trail;
+use sw_outside::{HostClock, ReaderSource, WriterSink};
 
 fn main(rt: HostRuntime) -> ExitCode {
     let mut source = ReaderSource::new(rt.stdin());
     let mut out = WriterSink::new(rt.stdout());
     let mut errors = WriterSink::new(rt.stderr());
     let mut stores = RingStores::new(&rt);
+    let mut clock = HostClock::new(&rt);
+    let mut trail = Trail::new(rt.alloc());
     let words = match words_given(&rt) {
         Ok(words) => words,
         Err(error) if error.kind() == ErrorKind::OutOfMemory => {
@@ -53,6 +54,8 @@ fn main(rt: HostRuntime) -> ExitCode {
         &mut out,
         &mut errors,
         &mut stores,
+        &mut clock,
+        &mut trail,
     );
     ExitCode::from(status)
 }

@@ -1,14 +1,18 @@
 use Rattle.std.proofs.Common.{◌≤◌}
 use Rattle.std.specs.Io.KnownBytes.{prepend_known}
+use Rattle.sw_outside.specs.Readings.{TicksEach}
 use Rattle.sw_cluster.proofs.SessionLemmas.{Progress}
 use Rattle.sw_cluster.specs.Server.{MayAnswer}
+use Rattle.sw_cluster.specs.Worlds.{BeginsAlike}
 use Rattle.sw_cluster.proofs.session.serve.Given as goal
 
 -- what is held and left is what the input still has after the requests that were answered
 abbrev pub invariant-loop : goal.invariant-loop
 invariant-loop g l = record {
   progress : Progress (MayAnswer l.ring) (g.R.Source.left l.initial.source) (prepend_known l.held (g.R.Source.left l.source))
-      (g.W.Sink.taken l.initial.out) (g.W.Sink.taken l.out) l.store l.counter;
+      (g.W.Sink.taken l.initial.out) (g.W.Sink.taken l.out) l.moments.items l.world.lines l.counter;
+  begins : BeginsAlike l.initial.world l.world;
+  ticks : TicksEach (g.C.Clock.readings l.initial.clock) (g.C.Clock.readings l.clock) l.moments.items;
   reads : g.R.Source.faults l.initial.source ≤ g.R.Source.faults l.source;
   writes : g.W.Sink.faults l.initial.out ≤ g.W.Sink.faults l.out;
 }

@@ -1,24 +1,32 @@
 use Rattle.std.proofs.lemmas.Result.{err_from_is_err_and}
 use Rattle.sw_cluster.specs.Server.{MayAnswer}
-use Rattle.sw_cluster.proofs.TurnLemmas.{broken_step, turn_taken}
+use Rattle.sw_cluster.proofs.TurnLemmas.{answered_step, broken_step, kept_moment, one_more_tick}
 use Rattle.sw_cluster.proofs.session.step.Goals as goal
 
 -- the request was answered, and its reply not written whole
 pub returns-in_err-write_response-clause-step : goal.returns-in_err-write_response-clause-step
 returns-in_err-write_response-clause-step g c =
-    let exit = err_from_is_err_and c.from_residual.result c.from_residual.ensures.1 in
+    let exit = err_from_is_err_and c.from_residual-in_err-write_response.result c.from_residual-in_err-write_response.ensures.1 in
     rw (exit.1, exit.2) (
-    broken_step (MayAnswer c.args.ring.now) c.args.store.now c.answer-response.new.store _ _ _ _ c.answer-response.result c.in_err-write_response.field-0.0
-    (turn_taken (MayAnswer c.args.ring.now) c.args.store.now c.answer-response.new.store _ _ c.in-Ok-Some.request c.answer-response.result
-    (rw c.in-Ok-Some.field-0-is at c.in-Ok-Some.ensures.request) c.answer-response.ensures)
+    broken_step (MayAnswer c.args.ring.now) c.args.world.now.lines c.answer-response.new.world.lines _ _ _ _ _ _ _ _ c.now-now.result
+    c.answer-response.result c.in_err-write_response.field-0.0 (rw c.in-Some.is at c.in_ok-request.ensures.received)
+    c.answer-response.ensures.answer
+    (kept_moment _ _ _ c.now-now.result c.reserve.ensures.items c.push_reserved.ensures.items)
     c.in_err-write_response.ensures.part
     )
 
+pub returns-in_err-write_response-clause-ticks : goal.returns-in_err-write_response-clause-ticks
+returns-in_err-write_response-clause-ticks g c = λ start each.
+    rw (c.push_reserved.ensures.items, c.reserve.ensures.items) (one_more_tick start _ _ _ c.now-now.result each c.now-now.ensures)
+
 -- or written whole
 pub returns-clause-step : goal.returns-clause-step
-returns-clause-step g c = record {
-  response = c.answer-response.result;
-  turn = turn_taken (MayAnswer c.args.ring.now) c.args.store.now c.answer-response.new.store _ _ c.in-Ok-Some.request c.answer-response.result
-      (rw c.in-Ok-Some.field-0-is at c.in-Ok-Some.ensures.request) c.answer-response.ensures;
-  written = c.in_ok-write_response.ensures.whole;
-}
+returns-clause-step g c =
+    answered_step (MayAnswer c.args.ring.now) c.args.world.now.lines c.answer-response.new.world.lines _ _ _ _ _ _ _ _ c.now-now.result
+    c.answer-response.result (rw c.in-Some.is at c.in_ok-request.ensures.received) c.answer-response.ensures.answer
+    (kept_moment _ _ _ c.now-now.result c.reserve.ensures.items c.push_reserved.ensures.items)
+    c.in_ok-write_response.ensures.whole
+
+pub returns-clause-ticks : goal.returns-clause-ticks
+returns-clause-ticks g c = λ start each.
+    rw (c.push_reserved.ensures.items, c.reserve.ensures.items) (one_more_tick start _ _ _ c.now-now.result each c.now-now.ensures)
