@@ -15,7 +15,7 @@ use sw_volume::{Volume, VolumeError};
 ///
 /// An unlink that fails isn't reported, since an obsolete file stands for nothing: the file may stay, and the others are
 /// unlinked all the same. [`VolumeError::Failed`] comes only from the listing, and [`VolumeError::NoMemory`] only before the
-/// first unlink; nothing has changed then.
+/// first unlink: the listing was the only call then, and nothing has changed.
 pub fn cleanup<V: Volume>(alloc: Global, volume: &mut V, dir: &[u8]) -> Result<Picked, VolumeError>
     ensures cleans { IfOk result (λ picked. V.tells volume.old ≡ true → Cleans (V.holds volume.old) (V.holds volume.new) dir.now (V.faults volume.old) (V.faults volume.new) picked) }
     ensures picks { IfOk result (λ picked. V.tells volume.old ≡ true → PicksState (V.holds volume.old) dir.now picked) }
@@ -24,6 +24,7 @@ pub fn cleanup<V: Volume>(alloc: Global, volume: &mut V, dir: &[u8]) -> Result<P
     ensures told { V.tells volume.new ≡ V.tells volume.old }
     ensures later { V.faults volume.old ≤ V.faults volume.new }
     ensures failed { OnFailed result (HasRisen (V.faults volume.old) (V.faults volume.new)) }
+    ensures refused_first { OnErr result (V.calls volume.new ≡ raised (V.calls volume.old)) }
     ensures lists { V.lists volume.new ≡ raised (V.lists volume.old) }
 {
     let listing = volume.list(alloc, dir)?;

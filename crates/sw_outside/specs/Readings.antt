@@ -1,5 +1,5 @@
 -- The readings of a clock. (This project's own.)
-use Rattle.std.specs.Prelude.{◌≡◌, ℕ, zero, suc, List, [], ◌∷◌, Option, None, Some}
+use Rattle.std.specs.Prelude.{◌≡◌, ℕ, List, [], ◌∷◌, Option, None, Some}
 
 -- the reading that comes first; a clock that has none to come shows 0
 abbrev pub first_reading : List ℕ → ℕ

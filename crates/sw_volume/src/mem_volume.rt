@@ -93,6 +93,8 @@ impl Volume for MemVolume {
 
     ghost faults = { λ v. v.faults };
 
+    ghost calls = { λ v. v.calls };
+
     ghost lists = { λ v. v.lists };
 
     fn list(&mut self, alloc: Global, dir: &[u8]) -> Result<Listing, VolumeError>
@@ -101,9 +103,10 @@ impl Volume for MemVolume {
         ensures same { true ≡ true → IsSame (contents self.old.folders) (contents self.new.folders) }
         ensures told { true ≡ true }
         ensures cause { HasCause self.old.faults self.new.faults result }
+        ensures calls { self.new.calls ≡ raised self.old.calls }
         ensures lists { self.new.lists ≡ raised self.old.lists }
         ensures fails { IsSome (failure_at self.old.failing self.old.calls) ↔ (result ≡ Err VolumeError.Failed) }
-        ensures calls { (self.new.calls ≡ raised self.old.calls) × (self.new.failing ≡ self.old.failing) }
+        ensures plan { self.new.failing ≡ self.old.failing }
     {
         self.lists = self.lists.saturating_add(1);
         if self.begin().is_some() {
@@ -117,9 +120,10 @@ impl Volume for MemVolume {
         ensures same { true ≡ true → IsSame (contents self.old.folders) (contents self.new.folders) }
         ensures told { true ≡ true }
         ensures cause { HasCause self.old.faults self.new.faults result }
+        ensures calls { self.new.calls ≡ raised self.old.calls }
         ensures lists { self.new.lists ≡ self.old.lists }
         ensures fails { IsSome (failure_at self.old.failing self.old.calls) ↔ (result ≡ Err VolumeError.Failed) }
-        ensures calls { (self.new.calls ≡ raised self.old.calls) × (self.new.failing ≡ self.old.failing) }
+        ensures plan { self.new.failing ≡ self.old.failing }
     {
         if self.begin().is_some() {
             return Err(self.fail().into());
@@ -139,10 +143,11 @@ impl Volume for MemVolume {
         ensures no_memory { OnNoMemory result (true ≡ true → IsSame (contents self.old.folders) (contents self.new.folders)) }
         ensures told { true ≡ true }
         ensures cause { HasCause self.old.faults self.new.faults result }
+        ensures calls { self.new.calls ≡ raised self.old.calls }
         ensures lists { self.new.lists ≡ self.old.lists }
         ensures fails { IsSome (failure_at self.old.failing self.old.calls) → IsErr result }
         ensures made { OnFailed result (GoesAs (failure_at self.old.failing self.old.calls) (contents self.old.folders) (contents self.new.folders) dir.now file.now (Some bytes.now)) }
-        ensures calls { (self.new.calls ≡ raised self.old.calls) × (self.new.failing ≡ self.old.failing) }
+        ensures plan { self.new.failing ≡ self.old.failing }
     {
         match self.begin() {
             None => {
@@ -162,10 +167,11 @@ impl Volume for MemVolume {
         ensures failed { OnErr result (true ≡ true → MaySet (contents self.old.folders) (contents self.new.folders) dir.now file.now None) }
         ensures told { true ≡ true }
         ensures cause { outside.HasCause self.old.faults self.new.faults result }
+        ensures calls { self.new.calls ≡ raised self.old.calls }
         ensures lists { self.new.lists ≡ self.old.lists }
         ensures fails { IsSome (failure_at self.old.failing self.old.calls) ↔ IsErr result }
         ensures made { OnErr result (GoesAs (failure_at self.old.failing self.old.calls) (contents self.old.folders) (contents self.new.folders) dir.now file.now None) }
-        ensures calls { (self.new.calls ≡ raised self.old.calls) × (self.new.failing ≡ self.old.failing) }
+        ensures plan { self.new.failing ≡ self.old.failing }
     {
         match self.begin() {
             None => {

@@ -13,6 +13,7 @@ use sw_outside::{Bytes, Failed};
 #[derive(Debug, Drop)]
 pub struct SoundVolume {
     tree: Tree,
+    calls: u64,
     lists: u64,
 }
 
@@ -21,17 +22,18 @@ impl Model for SoundVolume {
 
     ghost Value = { SoundState };
 
-    ghost view = { λ v. record { folders = v.tree; lists = v.lists } };
+    ghost view = { λ v. record { folders = v.tree; calls = v.calls; lists = v.lists } };
 }
 
 impl SoundVolume {
     /// An empty volume.
     pub fn new(alloc: Global) -> SoundVolume
         ensures empty { IsSame (λ _ _. None) (contents result.folders) }
-        ensures lists { result.lists ≡ 0 }
+        ensures counts { (result.calls ≡ 0) × (result.lists ≡ 0) }
     {
         SoundVolume {
             tree: Tree::new(alloc),
+            calls: 0,
             lists: 0,
         }
     }
@@ -44,9 +46,12 @@ impl Volume for SoundVolume {
 
     ghost faults = { λ _. 0 };
 
+    ghost calls = { λ v. v.calls };
+
     ghost lists = { λ v. v.lists };
 
     fn list(&mut self, alloc: Global, dir: &[u8]) -> Result<Listing, VolumeError> {
+        self.calls = self.calls.saturating_add(1);
         self.lists = self.lists.saturating_add(1);
         Ok(self.tree.list(alloc, dir)?)
     }
@@ -57,6 +62,7 @@ impl Volume for SoundVolume {
         dir: &[u8],
         file: &[u8],
     ) -> Result<Option<Bytes>, VolumeError> {
+        self.calls = self.calls.saturating_add(1);
         Ok(self.tree.read(alloc, dir, file)?)
     }
 
@@ -67,11 +73,13 @@ impl Volume for SoundVolume {
         file: &[u8],
         bytes: &[u8],
     ) -> Result<(), VolumeError> {
+        self.calls = self.calls.saturating_add(1);
         self.tree.put(alloc, dir, file, bytes)?;
         Ok(())
     }
 
     fn unlink(&mut self, dir: &[u8], file: &[u8]) -> Result<(), Failed> {
+        self.calls = self.calls.saturating_add(1);
         self.tree.unlink(dir, file);
         Ok(())
     }

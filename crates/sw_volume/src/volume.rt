@@ -43,7 +43,10 @@ pub trait Volume {
     /// How many calls have failed. The count never falls, and stands still at 2^64 - 1.
     ghost faults: { Self → ℕ };
 
-    /// How many times `list` was called. The count stands still at 2^64 - 1.
+    /// How many calls there were, failed ones too. The count stands still at 2^64 - 1.
+    ghost calls: { Self → ℕ };
+
+    /// How many of the calls were `list`. The count stands still at 2^64 - 1.
     ghost lists: { Self → ℕ };
 
     /// The files that stand in `dir` itself, and its folders in or below which a file stands: none of either where `dir`
@@ -54,6 +57,7 @@ pub trait Volume {
         ensures same { tells self.old ≡ true → IsSame (holds self.old) (holds self.new) }
         ensures told { tells self.new ≡ tells self.old }
         ensures cause { HasCause (faults self.old) (faults self.new) result }
+        ensures calls { calls self.new ≡ raised (calls self.old) }
         ensures lists { lists self.new ≡ raised (lists self.old) };
 
     /// What stands at the path, or `None` where no file does.
@@ -62,6 +66,7 @@ pub trait Volume {
         ensures same { tells self.old ≡ true → IsSame (holds self.old) (holds self.new) }
         ensures told { tells self.new ≡ tells self.old }
         ensures cause { HasCause (faults self.old) (faults self.new) result }
+        ensures calls { calls self.new ≡ raised (calls self.old) }
         ensures lists { lists self.new ≡ lists self.old };
 
     /// Makes these bytes what stands at the path, in place of what stood there. After [`VolumeError::Failed`] either
@@ -78,6 +83,7 @@ pub trait Volume {
         ensures no_memory { OnNoMemory result (tells self.old ≡ true → IsSame (holds self.old) (holds self.new)) }
         ensures told { tells self.new ≡ tells self.old }
         ensures cause { HasCause (faults self.old) (faults self.new) result }
+        ensures calls { calls self.new ≡ raised (calls self.old) }
         ensures lists { lists self.new ≡ lists self.old };
 
     /// Takes the file away, where one stands at the path; else there is nothing to do, and that is no failure. After
@@ -87,5 +93,6 @@ pub trait Volume {
         ensures failed { OnErr result (tells self.old ≡ true → MaySet (holds self.old) (holds self.new) dir.now file.now None) }
         ensures told { tells self.new ≡ tells self.old }
         ensures cause { outside.HasCause (faults self.old) (faults self.new) result }
+        ensures calls { calls self.new ≡ raised (calls self.old) }
         ensures lists { lists self.new ≡ lists self.old };
 }
