@@ -11,11 +11,11 @@ use Rattle.sw_peer.specs.declared.answer.Answer.TheVariants as answers
 use Rattle.sw_peer.specs.declared.got.Got.{Got}
 use Rattle.sw_peer.specs.declared.got.Got.TheVariants as gots
 use Rattle.sw_ring.specs.declared.ring.Ring.{Ring}
-use Rattle.sw_core.specs.Recording.{IsRecorded, is_entered as is_recorded_entered, line_by, line_for}
+use Rattle.sw_core.specs.Recording.{IsRecorded, line_by, line_for}
 use Rattle.sw_core.specs.Stored.{state_at}
 use Rattle.sw_core.specs.World.{World, call_of, sight_of}
 use Rattle.sw_object_server.specs.Asking.{IsAsked}
-use Rattle.sw_object_server.specs.Replies.{is_entered, made_reply, reply_to}
+use Rattle.sw_object_server.specs.Replies.{made_reply, reply_to}
 use Rattle.sw_object_server.specs.Serving.{IsAnswered, IsChangeLeft, IsGivenUp, IsLeft, IsReadLeft, IsServed as IsServedAt, IsStepLeft, IsStepServed}
 use Rattle.sw_object_server.specs.Showing.{IsShown}
 use Rattle.sw_object_server.specs.declared.asked.Asked.{Asked}
@@ -163,19 +163,6 @@ given_up_alike ring old new request (inr left) = by_asked left.0 left.2
 
 -- ---- want of memory
 
--- the line of a call tells of an answer what the reply to it does
-entered_alike : (answer : Answer) → is_recorded_entered answer ≡ is_entered answer
-entered_alike (answers.Done front) = refl
-entered_alike (answers.Buried front) = refl
-entered_alike (answers.Conflict time) = refl
-entered_alike (answers.NotFound time) = refl
-entered_alike (answers.Mismatch second) = refl
-entered_alike answers.Exists = refl
-entered_alike answers.JournalFull = refl
-entered_alike (answers.Damaged bad) = refl
-entered_alike answers.Failed = refl
-entered_alike answers.NoMemory = refl
-
 change_left : (old new : World) (device : ℕ) (name : Name) (change : Change) → IsRecorded old → IsRecorded new
     → IsChangeLeft (sight_of old) (sight_of new) device name change → IsUnchanged old.lines new.lines
 change_left old new device name change before after left = by_kept left.1.kept
@@ -184,7 +171,7 @@ change_left old new device name change before after left = by_kept left.1.kept
     by_kept (inl keeps) = inr (
       line_by device name (Changed change left.0),
       one_line old new (record { device = device; name = name; reply = Changed change left.0 }) before after keeps,
-      entered_alike left.0 ∙ left.2,
+      left.2,
     )
     by_kept (inr none) = inl (no_line old new before after none.1)
 

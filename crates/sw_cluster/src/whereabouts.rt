@@ -1,14 +1,12 @@
 ghost use Rattle.std.specs.Prelude.{◌≡◌, ◌++◌, ◌<◌, ◌^◌, None, Some, Err, IfOk, OnOk, IsSome, length, drop};
 ghost use Rattle.std.specs.Option.{option_copied};
-ghost use Rattle.hex.specs.Hex.{encode_lower};
 ghost use Rattle.sw_hashpath.specs.BadNames.{bad_name};
 ghost use Rattle.sw_hashpath.specs.declared.bad_name.BadName.{BadName};
 ghost use Rattle.sw_cluster.specs.Whereabouts.{devices_line, devices_text, hash_line, partition_line, row_text, spaced_name, suffix_line, where_lines, where_text as text_of_place};
 
-use hex::encode_to_slice;
 use itoa::Buffer;
 use std::alloc::{AllocError, Global};
-use sw_hashpath::{NameError, hash_path, partition};
+use sw_hashpath::{NameError, hash_path, hex_text, partition};
 use sw_outside::{Bytes, NoMemory};
 use sw_ring::{Ring, Which};
 
@@ -112,14 +110,6 @@ fn add_line(text: &mut Vec<u8>, label: &[u8], value: &[u8]) -> Result<(), AllocE
 {
     text.extend_from_slice(label)?;
     text.extend_from_slice(value)
-}
-
-fn hex_text(hash: &[u8; 16]) -> [u8; 32]
-    ensures { result ≡ encode_lower hash.now }
-{
-    let mut text = [0u8; 32];
-    encode_to_slice(hash, &mut text).unwrap();
-    text
 }
 
 /// The devices that keep a name, each with a space before it: those of the object table for an object, of the container table for

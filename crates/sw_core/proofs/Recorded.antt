@@ -1,6 +1,6 @@
 -- The lines of a world are those of its calls.
 use Rattle.std.proofs.Common.{◌≡◌, ℕ, Bool, true, false, List, [], ◌∷◌, map, zip, length, ◌⊎◌, inl, inr, refl, sym, ap, ◌∙◌, ◌+◌, arith}
-use Rattle.sw_peer.specs.Steps.{Change, Put, Post, Delete, Receive, deletion_answer, has_object, made_answer}
+use Rattle.sw_peer.specs.Steps.{Change, Put, Post, Delete, Receive, deletion_answer, has_object, is_entered, made_answer}
 use Rattle.sw_peer.specs.declared.answer.Answer.{Answer}
 use Rattle.sw_peer.specs.declared.answer.Answer.TheVariants as answers
 use Rattle.sw_state.specs.States.{writes_of}
@@ -9,7 +9,7 @@ use Rattle.sw_state.proofs.StateLaws.{state_of-writes_of}
 use Rattle.sw_core.specs.Asked.{change_of}
 use Rattle.sw_core.specs.Machine.{Answers, Machine, Makes, Refuses, Runs, state}
 use Rattle.sw_core.specs.Named.{Named}
-use Rattle.sw_core.specs.Recording.{IsRecorded, is_entered, line_by, line_for}
+use Rattle.sw_core.specs.Recording.{IsRecorded, line_by, line_for}
 use Rattle.sw_core.specs.Runs.{IsRun, IsTold, Opens}
 use Rattle.sw_core.specs.Stored.{state_at}
 use Rattle.sw_core.specs.World.{World, call_of, reply_of}

@@ -2,20 +2,12 @@
 use Rattle.std.specs.Prelude.{◌≡◌, ℕ, Bool, true, false, List, map, Some}
 use Rattle.sw_hashpath.specs.declared.name.Name.{Name}
 use Rattle.sw_peer.specs.Sights.{Call, Changed, Read, Reply}
-use Rattle.sw_peer.specs.Steps.{Change, Put, Post, Delete, Receive}
-use Rattle.sw_peer.specs.declared.answer.Answer.{Answer}
-use Rattle.sw_peer.specs.declared.answer.Answer.TheVariants.{Done, Buried}
+use Rattle.sw_peer.specs.Steps.{Change, Put, Post, Delete, Receive, is_entered}
 use Rattle.sw_core.specs.World.{World, sight_of, step_of}
 use Rattle.sw_core.specs.declared.plain_step.PlainCall.{PlainCall}
 use Rattle.sw_core.specs.declared.plain_step.PlainCall.TheVariants as calls
 use Rattle.sw_core.specs.declared.step_line.StepAnswer.TheVariants as steps
 use Rattle.sw_core.specs.declared.step_line.StepLine.{StepLine}
-
--- whether an answer says that the write was entered
-abbrev pub is_entered : Answer → Bool
-is_entered (Done front) = true
-is_entered (Buried front) = true
-is_entered answer = false
 
 -- the call that asks for a change
 abbrev pub call_for : Change → PlainCall

@@ -1,7 +1,12 @@
 -- The parts of a hash. The partition and the suffix are those of the OpenStack Swift documentation ("The Rings",
 -- "Replication"). The stripe is this project's own.
-use Rattle.std.specs.Prelude.{ℕ, ◌-◌, ◌/◌, ◌%◌, ◌^◌, List, drop, take, slice_index}
+use Rattle.std.specs.Prelude.{◌≡◌, ℕ, ◌-◌, ◌/◌, ◌%◌, ◌^◌, ◌<◌, List, drop, length, take, slice_index}
 use Rattle.std.specs.Int.{w16, w32, from_be_bytes}
+use Rattle.std.specs.List.{All}
+
+-- a hash, as any MD5 (RFC 1321), is 16 bytes
+abbrev pub IsDigest : List ℕ → Type 0
+IsDigest digest = (length digest ≡ 16) × All (λ b. b < 256) digest
 
 -- the first four bytes as a number, high byte first, without its last 32 - power bits
 abbrev pub partition_of : List ℕ → ℕ → ℕ

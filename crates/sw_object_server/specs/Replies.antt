@@ -1,5 +1,5 @@
 -- The replies of the object server to what a step is answered. (OpenStack Swift's object server, in the profile of this product.)
-use Rattle.std.specs.Prelude.{ℕ, Bool, true, false, List, [], ◌∷◌, codes, decimal, Option, None, Some}
+use Rattle.std.specs.Prelude.{ℕ, false, List, [], ◌∷◌, codes, decimal, Option, None, Some}
 use Rattle.hex.specs.Hex.{encode_lower}
 use Rattle.sw_hashpath.specs.BadFiles.{bad_file_number}
 use Rattle.sw_hashpath.specs.declared.decode_error.BadFile.{BadFile}
@@ -58,9 +58,3 @@ reply_to made answers.JournalFull = bare 503
 reply_to made (answers.Damaged bad) = damaged bad
 reply_to made answers.Failed = bare 507
 reply_to made answers.NoMemory = bare 500
-
--- whether the answer says that the write was entered
-abbrev pub is_entered : Answer → Bool
-is_entered (answers.Done front) = true
-is_entered (answers.Buried front) = true
-is_entered answer = false

@@ -4,13 +4,13 @@ use Rattle.sw_hashpath.specs.declared.name.Name.{Name}
 use Rattle.sw_http.specs.declared.request.Request.{Request}
 use Rattle.sw_http.specs.declared.response.Response.{Response}
 use Rattle.sw_peer.specs.Sights.{Sight, IsChanged, IsRead}
-use Rattle.sw_peer.specs.Steps.{Change, write_of}
+use Rattle.sw_peer.specs.Steps.{Change, is_entered, write_of}
 use Rattle.sw_peer.specs.Steps.Change.{Put, Post, Delete, Receive}
 use Rattle.sw_peer.specs.declared.answer.Answer.{Answer}
 use Rattle.sw_peer.specs.declared.got.Got.{Got}
 use Rattle.sw_ring.specs.declared.ring.Ring.{Ring}
 use Rattle.sw_object_server.specs.Asking.{IsAsked}
-use Rattle.sw_object_server.specs.Replies.{bare, is_entered, made_reply, reply_to}
+use Rattle.sw_object_server.specs.Replies.{bare, made_reply, reply_to}
 use Rattle.sw_object_server.specs.Showing.{IsShown}
 use Rattle.sw_object_server.specs.declared.asked.Asked.{Asked}
 use Rattle.sw_object_server.specs.declared.asked.Asked.TheVariants as asks

@@ -1,10 +1,9 @@
 ghost use Rattle.std.specs.Prelude.{◌≡◌, ◌≤◌, length};
 ghost use Rattle.std.specs.List.{prefix_len, suffix_len};
 ghost use Rattle.std.specs.Option.{option_copied};
-ghost use Rattle.hex.specs.Hex.{encode_lower};
 ghost use Rattle.sw_object_server.specs.Fields.{IsTime, agrees_with as agrees_with_digest, asks_for_none as asks_for_none_in, before_quotes, behind_quotes, has_value as has_value_in, is_quote, is_replicated as is_replicated_in, is_type as is_type_text, shows_digest as shows_digest_in, type_of as type_of_fields, unquoted as unquoted_text};
 
-use hex::encode_to_slice;
+use sw_hashpath::hex_text;
 use sw_http::FieldList;
 use sw_outside::is_utf8;
 use sw_timestamp::{NotTimestamp, Timestamp};
@@ -73,15 +72,6 @@ fn shows_digest(digest: &[u8; 16], text: &[u8]) -> bool
     ensures { result ≡ shows_digest_in digest.now text.now }
 {
     unquoted(text).eq_ignore_ascii_case(&hex_text(digest))
-}
-
-/// A digest in hexadecimal, in lower case.
-pub(crate) fn hex_text(digest: &[u8; 16]) -> [u8; 32]
-    ensures { result ≡ encode_lower digest.now }
-{
-    let mut text = [0u8; 32];
-    encode_to_slice(digest, &mut text).unwrap();
-    text
 }
 
 /// A text without the double quotes around it.

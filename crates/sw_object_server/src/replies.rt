@@ -1,13 +1,12 @@
 ghost use Rattle.std.specs.Prelude.{◌≡◌, [], ◌∷◌, false, decimal, IfOk, OnErr};
-ghost use Rattle.hex.specs.Hex.{encode_lower};
 ghost use Rattle.sw_hashpath.specs.BadFiles.{bad_file_number as bad_file_number_of};
+ghost use Rattle.sw_peer.specs.Steps.{is_entered};
 ghost use Rattle.sw_timestamp.specs.TimeText.{normal_text};
-ghost use Rattle.sw_object_server.specs.Replies.{at_time as at_time_reply, bare as bare_reply, created as created_reply, damaged as damaged_reply, is_entered, made_reply as made_reply_to, not_found as not_found_reply, reply_to as reply_to_answer, with_field as with_field_reply};
+ghost use Rattle.sw_object_server.specs.Replies.{at_time as at_time_reply, bare as bare_reply, created as created_reply, damaged as damaged_reply, made_reply as made_reply_to, not_found as not_found_reply, reply_to as reply_to_answer, with_field as with_field_reply};
 
-use crate::field_tests::hex_text;
 use itoa::Buffer;
 use std::alloc::Global;
-use sw_hashpath::BadFile;
+use sw_hashpath::{BadFile, hex_text};
 use sw_http::{Field, FieldList, Response};
 use sw_outside::{Bytes, NoMemory};
 use sw_peer::Answer;

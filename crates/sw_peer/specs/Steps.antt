@@ -136,6 +136,12 @@ made_answer s (Post time heads) front = answers.Done front
 made_answer s (Delete time if_delete_at) front = deletion_answer (has_object s) front
 made_answer s (Receive write) front = answers.Done front
 
+-- whether the answer says that the write was entered
+abbrev pub is_entered : Answer → Bool
+is_entered (answers.Done front) = true
+is_entered (answers.Buried front) = true
+is_entered answer = false
+
 -- what stands as a read shows it
 abbrev pub got_beside : Option Base → Option Meta → ℕ → Got
 got_beside None meta front = gots.NotFound None
