@@ -1,4 +1,1 @@
 pub mod Asking
-pub mod KeptItems
-pub mod Seconds
-pub mod Times

@@ -12,8 +12,9 @@ use Rattle.sw_state.specs.declared.content.Content.{Content}
 use Rattle.sw_state.specs.declared.heads.Heads.{Heads}
 use Rattle.sw_state.specs.declared.write.Kind.TheVariants as kinds
 use Rattle.sw_state.specs.declared.write.Kind.{Kind}
-use Rattle.sw_object_server.specs.Contents.{IsContent, IsHeads}
-use Rattle.sw_object_server.specs.Fields.{IsTime, agrees_with, asks_for_none, is_replicated, type_of}
+use Rattle.sw_fields.specs.Metadata.{IsHeads}
+use Rattle.sw_object_server.specs.Contents.{IsContent}
+use Rattle.sw_fields.specs.Fields.{IsTime, agrees_with, asks_for_none, is_replicated, type_of}
 use Rattle.sw_object_server.specs.Places.{IsDevice, is_partition_of, name_fault, name_in}
 use Rattle.sw_object_server.specs.Targets.{is_for_objects, parts_of, verb_of}
 use Rattle.sw_object_server.specs.declared.asked.Asked.{Asked}

@@ -1,9 +1,5 @@
 pub mod Asking
 pub mod Contents
-pub mod Expiry
-pub mod Fields
-pub mod Items
-pub mod Laws
 pub mod Places
 pub mod Replies
 pub mod Serving

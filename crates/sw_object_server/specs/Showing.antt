@@ -12,7 +12,7 @@ use Rattle.sw_state.specs.declared.content.Content.{Content}
 use Rattle.sw_state.specs.declared.head.Head.{Head}
 use Rattle.sw_state.specs.declared.heads.Heads.{Heads}
 use Rattle.sw_timestamp.specs.TimeText.{normal_text, units_of_second}
-use Rattle.sw_object_server.specs.Expiry.{is_expired}
+use Rattle.sw_fields.specs.Expiry.{is_expired}
 use Rattle.sw_object_server.specs.Replies.{bare, damaged, field, not_found}
 
 -- ---- texts

@@ -5,7 +5,7 @@ use Rattle.std.specs.List.{starts_with, before_first, after_first}
 use Rattle.std.specs.Str.{bytes_eq}
 use Rattle.percent_encoding.specs.Percent.{percent_decode}
 use Rattle.sw_http.specs.declared.request.Request.{Request}
-use Rattle.sw_object_server.specs.Fields.{has_value}
+use Rattle.sw_fields.specs.Fields.{has_value}
 use Rattle.sw_object_server.specs.declared.target.Parts.{Parts}
 use Rattle.sw_object_server.specs.declared.verb.Verb.{Verb}
 use Rattle.sw_object_server.specs.declared.verb.Verb.TheVariants.{Put, Get, Head, Post, Delete}

@@ -6,17 +6,13 @@
 //!
 //! The body of a PUT is moved into the content that is written, and the body of what a GET finds into its reply: neither is copied.
 //!
+//! What single fields say, and the metadata that they give an object, are read by `sw_fields`.
+//!
 //! The next layers up are `sw_cluster`, which routes requests to this server, and the jobs that serve connections.
 #![tactic(auto)]
 
 mod asked;
 mod changing;
-mod expiry;
-mod field_tests;
-mod heads;
-mod items;
-pub mod laws;
-mod limits;
 mod posting;
 mod putting;
 mod reading;

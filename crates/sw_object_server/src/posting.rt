@@ -2,10 +2,9 @@ ghost use Rattle.std.specs.Prelude.{◌≡◌, IfOk};
 ghost use Rattle.sw_object_server.specs.Asking.{Posts, delete as delete_verdict, post_step as post_step_of};
 
 use crate::asked::Step;
-use crate::field_tests::is_replicated;
-use crate::heads::heads_of;
 use crate::verdict::Verdict;
 use std::alloc::Global;
+use sw_fields::{heads_of, is_replicated};
 use sw_hashpath::Name;
 use sw_http::{FieldList, Request};
 use sw_outside::NoMemory;

@@ -4,11 +4,10 @@ ghost use Rattle.sw_object_server.specs.Asking.{Puts, PutsBody, PutsType, put_co
 ghost use Rattle.sw_object_server.specs.Contents.{IsContent};
 
 use crate::asked::Step;
-use crate::field_tests::{agrees_with, asks_for_none, is_replicated, type_of};
-use crate::heads::heads_of;
 use crate::verdict::Verdict;
 use md5::{Digest, Md5};
 use std::alloc::Global;
+use sw_fields::{agrees_with, asks_for_none, heads_of, is_replicated, type_of};
 use sw_hashpath::Name;
 use sw_http::{Body, FieldList, Request};
 use sw_outside::{Bytes, NoMemory};

@@ -5,7 +5,6 @@ ghost use Rattle.sw_object_server.specs.Asking.{AsksDevice, AsksName, IsAsked, I
 ghost use Rattle.sw_object_server.specs.Places.{IsHashed, IsPlaced};
 
 use crate::asked::{Asked, Step};
-use crate::field_tests::time_of;
 use crate::posting::{read_delete, read_post};
 use crate::putting::read_put;
 use crate::target::{Parts, is_for_objects, parts_of};
@@ -13,6 +12,7 @@ use crate::verb::{Verb, verb_of};
 use crate::verdict::Verdict;
 use itoa::Buffer;
 use std::alloc::Global;
+use sw_fields::time_of;
 use sw_hashpath::{Name, NameError, partition};
 use sw_http::Request;
 use sw_outside::NoMemory;

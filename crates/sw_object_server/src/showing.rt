@@ -1,10 +1,10 @@
 ghost use Rattle.std.specs.Prelude.{◌≡◌, ◌++◌, ◌≤◌, map, IfOk, OnOk, if◌then◌else◌, []};
 ghost use Rattle.sw_object_server.specs.Showing.{IsDate, IsFound, IsShown, expiry_fields, field_of as field_of_item, fixed_fields as fixed_fields_of, found as found_reply, found_fields, second_text as second_text_of};
 
-use crate::expiry::is_expired;
 use crate::replies::{bare, damaged, field, not_found, time_text};
 use httpdate::HttpDate;
 use std::alloc::Global;
+use sw_fields::is_expired;
 use sw_hashpath::hex_text;
 use sw_http::{Field, FieldList, Response};
 use sw_outside::{Bytes, NoMemory};

@@ -3,9 +3,9 @@ ghost use Rattle.std.specs.List.{position_or_len};
 ghost use Rattle.percent_encoding.specs.Percent.{percent_decode};
 ghost use Rattle.sw_object_server.specs.Targets.{behind_segment, first_segment, has_segments as has_segments_of_object, is_for_objects as is_for_objects_of, is_slash, parts_of as parts_of_path};
 
-use crate::field_tests::has_value;
 use percent_encoding::percent_decode;
 use std::alloc::Global;
+use sw_fields::has_value;
 use sw_http::Request;
 use sw_outside::{Bytes, NoMemory};
 

@@ -4,9 +4,6 @@
 ghost use Rattle.std.specs.Prelude.{◌≤◌, length};
 
 use crate::asked::{Asked, Step};
-use crate::expiry::expiry_of;
-use crate::items::items_of;
-use crate::laws::keeps_the_last;
 use crate::reading::read_request;
 use crate::replies::{created, reply_to};
 use crate::showing::shown;
@@ -14,7 +11,7 @@ use http::Method;
 use std::alloc::Global;
 use std::process::Abort;
 use std::test::Fail;
-use sw_hashpath::{BadFile, Name};
+use sw_hashpath::BadFile;
 use sw_http::{Body, Field, FieldList, Request, Response, write_response};
 use sw_outside::{Bytes, MemSink};
 use sw_peer::{Answer, Got};
@@ -333,79 +330,6 @@ fn another_nodes_put_is_received(rt: HostRuntime) -> Result<(), Fail> {
     match &write.kind {
         Kind::Put(content) => assert_content(&rt, content),
         _ => panic!(rt; "another write is received"),
-    }
-    Ok(())
-}
-
-/// A letter of the name with this number: the first two tell names apart.
-fn letter(number: usize, place: usize) -> u8 {
-    match place {
-        0 => b'a' + (number / 26 % 26) as u8,
-        1 => b'a' + (number % 26) as u8,
-        _ => b'a',
-    }
-}
-
-/// So many fields of user metadata, with names and values of these sizes, all of one name where they are alike.
-fn metadata(
-    alloc: Global,
-    count: usize,
-    alike: bool,
-    name_size: usize,
-    value_size: usize,
-) -> Result<FieldList, Fail> {
-    let mut fields = Vec::new(alloc);
-    for number in 0..count {
-        let mut name = Vec::from_slice(alloc, b"X-Object-Meta-")?;
-        for place in 0..name_size {
-            name.push(letter(if alike { 0 } else { number }, place))?;
-        }
-        fields.push(Field {
-            name: Bytes::from(name),
-            value: Bytes::from(vec![in alloc; b'v'; value_size]?),
-        })?;
-    }
-    Ok(FieldList::from(fields))
-}
-
-#[test]
-fn user_metadata_is_limited(rt: HostRuntime) -> Result<(), Fail> {
-    let alloc = rt.alloc();
-    let table: [(usize, bool, usize, usize, bool); 10] = [
-        (0, false, 0, 0, true),
-        (90, false, 2, 0, true),
-        (91, false, 2, 0, false),
-        (1, false, 128, 256, true),
-        (1, false, 129, 0, false),
-        (1, false, 2, 257, false),
-        (1, false, 0, 0, false),
-        // 16 items of 256 bytes are as many bytes as there may be.
-        (16, false, 128, 128, true),
-        (17, false, 41, 200, false),
-        // A name that comes again counts once.
-        (100, true, 128, 256, true),
-    ];
-    for (count, alike, name_size, value_size, is_taken) in table {
-        let fields = metadata(alloc, count, alike, name_size, value_size)?;
-        assert_eq!(rt; items_of(alloc, &fields)?.is_some(), is_taken);
-    }
-    keeps_the_last();
-    Ok(())
-}
-
-#[test]
-fn an_object_expires_only_where_the_queue_can_name_it(rt: HostRuntime) -> Result<(), Fail> {
-    let alloc = rt.alloc();
-    let fields = field_list(alloc, b"X-Delete-At:6")?;
-    for (size, is_taken) in [(2032, true), (2033, false)] {
-        let name = Name {
-            account: Bytes::copy(alloc, b".a")?,
-            container: Bytes::copy(alloc, b"c")?,
-            object: Bytes::from(vec![in alloc; b'o'; size]?),
-            hash: [0; 16],
-        };
-        let time = Timestamp::parse(b"5")?;
-        assert_eq!(rt; expiry_of(time, &name, &fields).is_ok(), is_taken);
     }
     Ok(())
 }

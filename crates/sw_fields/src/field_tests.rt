@@ -1,7 +1,7 @@
 ghost use Rattle.std.specs.Prelude.{◌≡◌, ◌≤◌, length};
 ghost use Rattle.std.specs.List.{prefix_len, suffix_len};
 ghost use Rattle.std.specs.Option.{option_copied};
-ghost use Rattle.sw_object_server.specs.Fields.{IsTime, agrees_with as agrees_with_digest, asks_for_none as asks_for_none_in, before_quotes, behind_quotes, has_value as has_value_in, is_quote, is_replicated as is_replicated_in, is_type as is_type_text, shows_digest as shows_digest_in, type_of as type_of_fields, unquoted as unquoted_text};
+ghost use Rattle.sw_fields.specs.Fields.{IsTime, agrees_with as agrees_with_digest, asks_for_none as asks_for_none_in, before_quotes, behind_quotes, has_value as has_value_in, is_quote, is_replicated as is_replicated_in, is_type as is_type_text, shows_digest as shows_digest_in, type_of as type_of_fields, unquoted as unquoted_text};
 
 use sw_hashpath::hex_text;
 use sw_http::FieldList;
@@ -9,7 +9,7 @@ use sw_outside::is_utf8;
 use sw_timestamp::{NotTimestamp, Timestamp};
 
 /// Whether the field of this name, compared without case, has this value.
-pub(crate) fn has_value(fields: &FieldList, name: &[u8], value: &[u8]) -> bool
+pub fn has_value(fields: &FieldList, name: &[u8], value: &[u8]) -> bool
     ensures { result ≡ has_value_in name.now value.now fields.now }
 {
     match fields.value_of(name) {
@@ -19,7 +19,7 @@ pub(crate) fn has_value(fields: &FieldList, name: &[u8], value: &[u8]) -> bool
 }
 
 /// Whether another node sends what it has.
-pub(crate) fn is_replicated(fields: &FieldList) -> bool
+pub fn is_replicated(fields: &FieldList) -> bool
     ensures { result ≡ is_replicated_in fields.now }
 {
     has_value(fields, b"x-backend-replication", b"True")
@@ -27,14 +27,14 @@ pub(crate) fn is_replicated(fields: &FieldList) -> bool
 }
 
 /// Whether the write is to be refused where an object stands.
-pub(crate) fn asks_for_none(fields: &FieldList) -> bool
+pub fn asks_for_none(fields: &FieldList) -> bool
     ensures { result ≡ asks_for_none_in fields.now }
 {
     has_value(fields, b"if-none-match", b"*")
 }
 
 /// The time that the fields give a write.
-pub(crate) fn time_of(fields: &FieldList) -> Option<Timestamp>
+pub fn time_of(fields: &FieldList) -> Option<Timestamp>
     ensures { IsTime fields.now result }
 {
     match Timestamp::parse(fields.value_of(b"x-timestamp")?) {
@@ -44,7 +44,7 @@ pub(crate) fn time_of(fields: &FieldList) -> Option<Timestamp>
 }
 
 /// The content type that the fields give, where it is UTF-8 and not empty.
-pub(crate) fn type_of(fields: &FieldList) -> Option<&[u8]>
+pub fn type_of(fields: &FieldList) -> Option<&[u8]>
     ensures { option_copied result ≡ type_of_fields fields.now }
 {
     let value = fields.value_of(b"content-type")?;
@@ -58,7 +58,7 @@ fn is_type(value: &[u8]) -> bool
 }
 
 /// Whether the ETag, where one is given, is this digest.
-pub(crate) fn agrees_with(digest: &[u8; 16], fields: &FieldList) -> bool
+pub fn agrees_with(digest: &[u8; 16], fields: &FieldList) -> bool
     ensures { result ≡ agrees_with_digest digest.now fields.now }
 {
     match fields.value_of(b"etag") {

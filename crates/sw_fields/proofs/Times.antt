@@ -4,7 +4,7 @@ use Rattle.std.specs.Prelude.{codes}
 use Rattle.sw_timestamp.specs.TimeText.{IsTimeText}
 use Rattle.sw_http.specs.Fields.{field_value_of}
 use Rattle.sw_http.specs.declared.fields.Field.{Field}
-use Rattle.sw_object_server.specs.Fields.{IsTimeOf}
+use Rattle.sw_fields.specs.Fields.{IsTimeOf}
 
 -- a value that is no time gives none
 pub no_time : (fields : List Field) (text : List ℕ) → field_value_of (codes "x-timestamp") fields ≡ Some text

@@ -7,7 +7,7 @@ use Rattle.std.specs.Char.{digit_value, is_ascii_digit}
 use Rattle.std.specs.List.{list_all}
 use Rattle.std.specs.Str.Parse.{AllDigits, digits_value}
 use Rattle.sw_timestamp.specs.TimeText.{IsTimeText, units_of_second}
-use Rattle.sw_object_server.specs.Expiry.{is_second}
+use Rattle.sw_fields.specs.Expiry.{is_second}
 
 both : (a b : Bool) → (a && b) ≡ true → (a ≡ true) × (b ≡ true)
 both true b is = (refl, is)

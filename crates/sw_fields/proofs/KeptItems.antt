@@ -10,8 +10,8 @@ use Rattle.sw_http.specs.declared.fields.Field.{Field}
 use Rattle.sw_state.proofs.NameOrder.{before-asym, before-itself, before-other}
 use Rattle.sw_state.specs.HeadNames.{is_before, value_of, with_head}
 use Rattle.sw_state.specs.declared.head.Head.{Head}
-use Rattle.sw_object_server.specs.Items.{is_item_field, item_of, with_field}
-use Rattle.sw_object_server.specs.Laws.{KeepsTheLast, is_item_named}
+use Rattle.sw_fields.specs.Items.{is_item_field, item_of, with_field}
+use Rattle.sw_fields.specs.Laws.{KeepsTheLast, is_item_named}
 
 -- ---- the first that passes one test among those that pass another
 

@@ -3,7 +3,7 @@ ghost use Rattle.std.specs.Result.{result_ok};
 ghost use Rattle.std.specs.List.{list_all};
 ghost use Rattle.std.specs.Char.{is_ascii_digit};
 ghost use Rattle.sw_state.specs.DeleteTimes.{is_delete_time};
-ghost use Rattle.sw_object_server.specs.Expiry.{checked_second as checked_second_at, expiry_of as expiry_of_fields, is_expired as is_expired_at, is_second as is_second_text, may_expire as may_expire_at, path_size as path_size_of, second_of as second_of_text};
+ghost use Rattle.sw_fields.specs.Expiry.{checked_second as checked_second_at, expiry_of as expiry_of_fields, is_expired as is_expired_at, is_second as is_second_text, may_expire as may_expire_at, path_size as path_size_of, second_of as second_of_text};
 
 use crate::limits::MAX_EXPIRING_NAME;
 use sw_hashpath::Name;
@@ -21,17 +21,13 @@ const MAX_DIGITS: usize = 10;
 /// What a request says of its object's expiry is refused.
 #[derive(Clone, Copy, Debug, PartialEq, Eq, Error)]
 #[error("not a second at which the object may expire")]
-pub(crate) struct BadExpiry;
+pub struct BadExpiry;
 
 /// The second, since the epoch, at which a write of this time lets the name expire, where it does.
 ///
 /// The error comes exactly where X-Delete-At is given and isn't 1 to 10 digits, or isn't later than the time of the write, or the
 /// expirer's queue couldn't name the object.
-pub(crate) fn expiry_of(
-    time: Timestamp,
-    name: &Name,
-    fields: &FieldList,
-) -> Result<Option<u64>, BadExpiry>
+pub fn expiry_of(time: Timestamp, name: &Name, fields: &FieldList) -> Result<Option<u64>, BadExpiry>
     ensures value { result_ok result ≡ expiry_of_fields time name.now fields.now }
     ensures in_range { IfOk result (λ second. is_delete_time second ≡ true) }
 {
@@ -106,7 +102,7 @@ fn are_digits(text: &[u8]) -> bool
 }
 
 /// Whether an object with these heads has expired at this second, since the epoch.
-pub(crate) fn is_expired(heads: &Heads, moment: u64) -> bool
+pub fn is_expired(heads: &Heads, moment: u64) -> bool
     ensures { result ≡ is_expired_at heads.now moment }
 {
     match heads.delete_at {

@@ -1,6 +1,6 @@
 use Rattle.std.proofs.Common.{◌∙◌, refl, sym}
-use Rattle.sw_object_server.proofs.Seconds.{reads}
-use Rattle.sw_object_server.proofs.expiry.second_of.Goals as goal
+use Rattle.sw_fields.proofs.Seconds.{reads}
+use Rattle.sw_fields.proofs.expiry.second_of.Goals as goal
 
 -- a second is a time, so it isn't refused as one
 pub returns-in-Err-clause-value : goal.returns-in-Err-clause-value

@@ -1,5 +1,5 @@
 ghost use Rattle.std.specs.Prelude.{IfOk};
-ghost use Rattle.sw_object_server.specs.Contents.{IsHeads};
+ghost use Rattle.sw_fields.specs.Metadata.{IsHeads};
 
 use crate::expiry::expiry_of;
 use crate::items::items_of;
@@ -12,7 +12,7 @@ use sw_timestamp::Timestamp;
 
 /// The metadata that the fields give a write of this name at this time. It answers `None` where they are refused: a bad X-Delete-At, or
 /// user metadata that breaks a limit.
-pub(crate) fn heads_of(
+pub fn heads_of(
     alloc: Global,
     time: Timestamp,
     name: &Name,

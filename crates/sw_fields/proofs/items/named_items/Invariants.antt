@@ -1,8 +1,8 @@
 -- What is kept are the items of the fields before the index, and each of them has a good name.
 use Rattle.std.proofs.Common.{◌≡◌, [], true, fold, take}
 use Rattle.std.specs.List.{list_all}
-use Rattle.sw_object_server.specs.Items.{has_good_name, with_field}
-use Rattle.sw_object_server.proofs.items.named_items.Given as goal
+use Rattle.sw_fields.specs.Items.{has_good_name, with_field}
+use Rattle.sw_fields.proofs.items.named_items.Given as goal
 
 abbrev pub invariant-loop-field : goal.invariant-loop-field
 invariant-loop-field l = record {

@@ -1,6 +1,6 @@
 use Rattle.std.proofs.Common.{refl, sym}
-use Rattle.sw_object_server.proofs.Times.{no_time}
-use Rattle.sw_object_server.proofs.field_tests.time_of.Goals as goal
+use Rattle.sw_fields.proofs.Times.{no_time}
+use Rattle.sw_fields.proofs.field_tests.time_of.Goals as goal
 
 pub returns-in-Err : goal.returns-in-Err
 returns-in-Err c =

@@ -2,7 +2,7 @@ ghost use Rattle.std.specs.Prelude.{◌≡◌, ◌-◌, ◌^◌, true, Ok, min, 
 ghost use Rattle.std.specs.List.{list_all};
 ghost use Rattle.std.specs.Str.{str_to_ascii_lowercase};
 ghost use Rattle.sw_http.specs.Fields.{is_named as is_named_field};
-ghost use Rattle.sw_object_server.specs.Items.{are_few as are_few_items, has_good_name as has_good_name_of, is_in_limits as is_in_limits_of, is_item_field as is_item_field_of, is_kept_field as is_kept_field_of, is_user_field as is_user_field_of, is_user_item as is_user_item_of, item_of as item_of_field, items_of as items_of_fields, name_size as name_size_of, named_items as named_items_of, user_size as user_size_of, with_field};
+ghost use Rattle.sw_fields.specs.Items.{are_few as are_few_items, has_good_name as has_good_name_of, is_in_limits as is_in_limits_of, is_item_field as is_item_field_of, is_kept_field as is_kept_field_of, is_user_field as is_user_field_of, is_user_item as is_user_item_of, item_of as item_of_field, items_of as items_of_fields, name_size as name_size_of, named_items as named_items_of, user_size as user_size_of, with_field};
 
 use crate::limits::{MAX_ITEM_NAME, MAX_ITEM_VALUE, MAX_ITEMS, MAX_METADATA};
 use std::alloc::Global;
@@ -18,7 +18,7 @@ const PREFIX_SIZE: usize = 14;
 
 /// The header items that the fields give an object. It answers `None` where one has no name that a field can have, or where user metadata
 /// breaks a limit.
-pub(crate) fn items_of(alloc: Global, fields: &FieldList) -> Result<Option<HeadList>, NoMemory>
+pub fn items_of(alloc: Global, fields: &FieldList) -> Result<Option<HeadList>, NoMemory>
     ensures { IfOk result (λ items. items ≡ items_of_fields fields.now) }
 {
     let Some(items) = named_items(alloc, fields.as_slice())? else {

@@ -4,7 +4,7 @@ use Rattle.std.specs.Option.{option_map}
 use Rattle.std.specs.Str.{bytes_eq, str_to_ascii_lowercase}
 use Rattle.sw_http.specs.declared.fields.Field.{Field}
 use Rattle.sw_state.specs.HeadNames.{value_of}
-use Rattle.sw_object_server.specs.Items.{is_item_field, kept_items}
+use Rattle.sw_fields.specs.Items.{is_item_field, kept_items}
 
 -- whether a field is an item, and one that is kept under this name
 abbrev pub is_item_named : List ℕ → Field → Bool

@@ -1,0 +1,3 @@
+pub mod KeptItems
+pub mod Seconds
+pub mod Times
