@@ -1,5 +1,5 @@
 -- What a source and a sink in memory are, as contracts see them. (This project's own.)
-use Rattle.std.specs.Prelude.{ℕ, ◌+◌, ◌-◌, ◌^◌, min, max, List}
+use Rattle.std.specs.Prelude.{ℕ, ◌-◌, ◌^◌, max, List}
 use Rattle.std.specs.Prelude.{Bool, nat_eq, slice_index_or}
 use Rattle.std.specs.List.{list_any}
 
@@ -19,6 +19,7 @@ is_failing failing call = list_any (λ n. nat_eq n call) failing
 abbrev pub piece_at : List ℕ → ℕ → ℕ
 piece_at pieces call = max 1 (slice_index_or pieces call (2 ^ 64 - 1))
 
--- one more, up to the greatest count
-abbrev pub raised : ℕ → ℕ
-raised n = min (n + 1) (2 ^ 64 - 1)
+-- a source in memory that never fails
+pub record SoundSupply : Type 0 where
+  pub left : List ℕ  -- the bytes to come
+  pub calls : ℕ  -- how many calls there were

@@ -1,4 +1,6 @@
-ghost use Rattle.std.specs.Prelude.{None};
+ghost use Rattle.std.specs.Prelude.{◌≡◌, ◌/◌, ◌^◌, ◌<◌, None};
+ghost use Rattle.std.specs.Time.{system_time_nanos};
+ghost use Rattle.sw_outside.specs.Readings.{Ticks};
 
 use crate::clock::Clock;
 use std::rt::Clock as HostTime;
@@ -19,14 +21,24 @@ impl<'a, R: HostTime> HostClock<'a, R> {
 impl<R: HostTime> Clock for HostClock<'_, R> {
     ghost readings = { λ _. None };
 
-    fn now(&mut self) -> u64 {
-        let Ok(moment) = SystemTime::now(self.rt) else {
-            return 0;
-        };
-        match moment.duration_since(UNIX_EPOCH) {
-            Ok(since) => since.as_secs(),
+    fn now(&mut self) -> u64
+        ensures ticks { Ticks None None result }
+        ensures range { result < 2 ^ 63 }
+    {
+        match SystemTime::now(self.rt) {
+            Ok(moment) => whole_seconds(moment),
             Err(_) => 0,
         }
+    }
+}
+
+/// The whole seconds from 1970 to this moment: what is left of the last second is dropped. A moment before 1970 is 0.
+fn whole_seconds(moment: SystemTime) -> u64
+    ensures { result ≡ system_time_nanos moment / 1_000_000_000 }
+{
+    match moment.duration_since(UNIX_EPOCH) {
+        Ok(since) => since.as_secs(),
+        Err(_) => 0,
     }
 }
 

@@ -1,9 +1,9 @@
-ghost use Rattle.std.specs.Prelude.{◌≡◌, ℕ, [], Some, IsSome, IsErr, OnOk, OnErr};
+ghost use Rattle.std.specs.Prelude.{◌≡◌, ℕ, ◌++◌, ◌⊎◌, [], Some, IsSome, IsErr, OnOk, OnErr};
 ghost use Rattle.std.specs.Io.KnownBytes.{Appends};
+ghost use Rattle.sw_outside.specs.Counts.{raised};
 ghost use Rattle.sw_outside.specs.Faults.{HasCause};
 ghost use Rattle.sw_outside.specs.Taken.{AppendsPart};
-ghost use Rattle.sw_outside.specs.Supply.{raised};
-ghost use Rattle.sw_outside.specs.Store.{breach_at};
+ghost use Rattle.sw_outside.specs.Store.{breach_at, FailsAsPlanned, FindsNoMemory};
 
 use crate::errors::Failed;
 use crate::sink::Sink;
@@ -25,6 +25,7 @@ pub struct MemSink {
     failing: Vec<FailingPut>,
     calls: u64,
     faults: u64,
+    starved: u64,
 }
 
 impl Model for MemSink {
@@ -32,7 +33,7 @@ impl Model for MemSink {
 
     ghost Value = { Store };
 
-    ghost view = { λ s. record { bytes = s.bytes.items; failing = s.failing.items; calls = s.calls; faults = s.faults } };
+    ghost view = { λ s. record { bytes = s.bytes.items; failing = s.failing.items; calls = s.calls; faults = s.faults; starved = s.starved } };
 }
 
 impl MemSink {
@@ -40,13 +41,14 @@ impl MemSink {
     pub fn new(alloc: Global, failing: Vec<FailingPut>) -> MemSink
         ensures empty { result.bytes ≡ [] }
         ensures failing { result.failing ≡ failing.items }
-        ensures counts { (result.calls ≡ 0) × (result.faults ≡ 0) }
+        ensures counts { (result.calls ≡ 0) × (result.faults ≡ 0) × (result.starved ≡ 0) }
     {
         MemSink {
             bytes: Vec::new(alloc),
             failing,
             calls: 0,
             faults: 0,
+            starved: 0,
         }
     }
 
@@ -56,6 +58,13 @@ impl MemSink {
     {
         &self.bytes
     }
+
+    /// How many puts found no memory. The count stands still at 2^64 - 1.
+    pub fn starved(&self) -> u64
+        ensures { result ≡ self.now.starved }
+    {
+        self.starved
+    }
 }
 
 impl Sink for MemSink {
@@ -63,19 +72,24 @@ impl Sink for MemSink {
 
     ghost faults = { λ s. s.faults };
 
+    ghost calls = { λ s. s.calls };
+
     fn put(&mut self, bytes: &[u8]) -> Result<(), Failed>
         ensures all { OnOk result (Appends (Some self.old.bytes) (Some self.new.bytes) bytes.now) }
         ensures part { OnErr result (AppendsPart (Some self.old.bytes) (Some self.new.bytes) bytes.now) }
         ensures cause { HasCause self.old.faults self.new.faults result }
-        ensures fails { IsSome (breach_at self.old.failing self.old.calls) → IsErr result }
         ensures calls { self.new.calls ≡ raised self.old.calls }
-        ensures plan { self.new.failing ≡ self.old.failing }
+        ensures planned { IsSome (breach_at self.old.failing self.old.calls) → IsErr result }
+        ensures taken { OnOk result (self.new ≡ record self.old { bytes = self.old.bytes ++ bytes.now; calls = raised self.old.calls }) }
+        ensures failed { OnErr result (FailsAsPlanned self.old self.new bytes.now ⊎ FindsNoMemory self.old self.new) }
     {
         let call = self.calls;
         self.calls = call.saturating_add(1);
         let planned = taken_at(&self.failing, call);
         let wanted = planned.unwrap_or(bytes.len()).min(bytes.len());
-        if self.bytes.extend_from_slice(&bytes[..wanted]).is_ok() && planned.is_none() {
+        if self.bytes.extend_from_slice(&bytes[..wanted]).is_err() {
+            self.starved = self.starved.saturating_add(1);
+        } else if planned.is_none() {
             return Ok(());
         }
         self.faults = self.faults.saturating_add(1);

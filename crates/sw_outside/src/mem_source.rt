@@ -1,7 +1,8 @@
-ghost use Rattle.std.specs.Prelude.{◌≡◌, ℕ, ◌<◌, ◌≤◌, min, length, take, Some, is_err, IfOk};
+ghost use Rattle.std.specs.Prelude.{◌≡◌, ℕ, ◌<◌, ◌≤◌, min, length, take, drop, Some, is_err, IfOk, OnErr};
 ghost use Rattle.std.specs.Io.KnownBytes.{ReadConsumes};
+ghost use Rattle.sw_outside.specs.Counts.{raised};
 ghost use Rattle.sw_outside.specs.Faults.{HasCause};
-ghost use Rattle.sw_outside.specs.Supply.{is_failing, piece_at, raised};
+ghost use Rattle.sw_outside.specs.Supply.{is_failing, piece_at};
 
 use crate::bytes::Bytes;
 use crate::errors::Failed;
@@ -55,6 +56,8 @@ impl Source for MemSource {
 
     ghost faults = { λ s. s.faults };
 
+    ghost calls = { λ s. s.calls };
+
     fn read(&mut self, into: &mut [u8]) -> Result<usize, Failed>
         requires { 0 < length into.old }
         ensures count { IfOk result (λ n. n ≤ length into.new) }
@@ -63,7 +66,8 @@ impl Source for MemSource {
         ensures fails { is_err result ≡ is_failing self.old.failing self.old.calls }
         ensures piece { IfOk result (λ n. n ≡ min (length into.new) (min (length self.old.left) (piece_at self.old.pieces self.old.calls))) }
         ensures calls { self.new.calls ≡ raised self.old.calls }
-        ensures plan { (self.new.pieces ≡ self.old.pieces) × (self.new.failing ≡ self.old.failing) }
+        ensures given { IfOk result (λ n. self.new ≡ record self.old { left = drop n self.old.left; calls = raised self.old.calls }) }
+        ensures failed { OnErr result (self.new ≡ record self.old { calls = raised self.old.calls; faults = raised self.old.faults }) }
     {
         let call = self.calls;
         self.calls = call.saturating_add(1);

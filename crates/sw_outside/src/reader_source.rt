@@ -4,18 +4,23 @@ use crate::errors::Failed;
 use crate::source::Source;
 use std::io::Read;
 
-/// Any of std's readers as a source. It tells what the reader tells, and counts the reads that failed.
+/// Any of std's readers as a source. It tells what the reader tells, and counts the reads and those that failed.
 #[derive(Drop)]
 pub struct ReaderSource<R: Read + Drop> {
     reader: R,
     faults: u64,
+    calls: u64,
 }
 
 impl<R: Read + Drop> ReaderSource<R> {
     pub fn new(reader: R) -> ReaderSource<R>
-        ensures { result ≡ record { reader = reader; faults = 0 } }
+        ensures { result ≡ record { reader = reader; faults = 0; calls = 0 } }
     {
-        ReaderSource { reader, faults: 0 }
+        ReaderSource {
+            reader,
+            faults: 0,
+            calls: 0,
+        }
     }
 }
 
@@ -24,7 +29,10 @@ impl<R: Read + Drop> Source for ReaderSource<R> {
 
     ghost faults = { λ s. s.faults };
 
+    ghost calls = { λ s. s.calls };
+
     fn read(&mut self, into: &mut [u8]) -> Result<usize, Failed> {
+        self.calls = self.calls.saturating_add(1);
         match self.reader.read(into) {
             Ok(given) => Ok(given),
             Err(_) => {

@@ -1,5 +1,6 @@
-ghost use Rattle.std.specs.Prelude.{ℕ, List, Option, OnOk, OnErr};
+ghost use Rattle.std.specs.Prelude.{◌≡◌, ℕ, List, Option, OnOk, OnErr};
 ghost use Rattle.std.specs.Io.KnownBytes.{Appends};
+ghost use Rattle.sw_outside.specs.Counts.{raised};
 ghost use Rattle.sw_outside.specs.Faults.{HasCause};
 ghost use Rattle.sw_outside.specs.Taken.{AppendsPart};
 
@@ -10,12 +11,16 @@ pub trait Sink {
     /// All bytes taken so far, where the sink tells them.
     ghost taken: { Self → Option (List ℕ) };
 
-    /// How many calls have failed. The count never falls, and stands still at 2^64 - 1.
+    /// How many calls have failed, each counted once. The count stands still at 2^64 - 1.
     ghost faults: { Self → ℕ };
+
+    /// How many calls there were, failed ones too. The count stands still at 2^64 - 1.
+    ghost calls: { Self → ℕ };
 
     /// Takes the bytes. After [`Failed`] some front of them was taken, maybe none or all.
     fn put(&mut self, bytes: &[u8]) -> Result<(), Failed>
         ensures all { OnOk result (Appends (taken self.old) (taken self.new) bytes.now) }
         ensures part { OnErr result (AppendsPart (taken self.old) (taken self.new) bytes.now) }
-        ensures cause { HasCause (faults self.old) (faults self.new) result };
+        ensures cause { HasCause (faults self.old) (faults self.new) result }
+        ensures calls { calls self.new ≡ raised (calls self.old) };
 }

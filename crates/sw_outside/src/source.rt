@@ -1,5 +1,6 @@
 ghost use Rattle.std.specs.Prelude.{◌≡◌, ℕ, ◌<◌, ◌≤◌, List, Option, length, IfOk};
 ghost use Rattle.std.specs.Io.KnownBytes.{ReadConsumes};
+ghost use Rattle.sw_outside.specs.Counts.{raised};
 ghost use Rattle.sw_outside.specs.Faults.{HasCause};
 
 use crate::errors::Failed;
@@ -9,8 +10,11 @@ pub trait Source {
     /// The bytes to come, where the source tells them.
     ghost left: { Self → Option (List ℕ) };
 
-    /// How many calls have failed. The count never falls, and stands still at 2^64 - 1.
+    /// How many calls have failed, each counted once. The count stands still at 2^64 - 1.
     ghost faults: { Self → ℕ };
+
+    /// How many calls there were, failed ones too. The count stands still at 2^64 - 1.
+    ghost calls: { Self → ℕ };
 
     /// Reads some of the bytes to come into the front of `into`, and answers how many. It answers 0 only at their end.
     ///
@@ -19,5 +23,6 @@ pub trait Source {
         requires { 0 < length into.old }
         ensures count { IfOk result (λ n. n ≤ length into.new) }
         ensures bytes { ReadConsumes (left self.old) (left self.new) result into.new }
-        ensures cause { HasCause (faults self.old) (faults self.new) result };
+        ensures cause { HasCause (faults self.old) (faults self.new) result }
+        ensures calls { calls self.new ≡ raised (calls self.old) };
 }

@@ -66,7 +66,7 @@ fn sound_ends_never_fail(rt: HostRuntime) -> Result<(), Fail> {
     assert_eq!(rt; source.read(&mut room), Ok(1));
     assert_eq!(rt; room[0], b'c');
     assert_eq!(rt; source.read(&mut room), Ok(0));
-    assert_eq!(rt; SoundSink.put(b"anything"), Ok(()));
+    assert_eq!(rt; SoundSink::new().put(b"anything"), Ok(()));
     Ok(())
 }
 

@@ -4,18 +4,23 @@ use crate::errors::Failed;
 use crate::sink::Sink;
 use std::io::Write;
 
-/// Any of std's writers as a sink. It tells what the writer tells, and counts the puts that failed.
+/// Any of std's writers as a sink. It tells what the writer tells, and counts the puts and those that failed.
 #[derive(Drop)]
 pub struct WriterSink<W: Write + Drop> {
     writer: W,
     faults: u64,
+    calls: u64,
 }
 
 impl<W: Write + Drop> WriterSink<W> {
     pub fn new(writer: W) -> WriterSink<W>
-        ensures { result ≡ record { writer = writer; faults = 0 } }
+        ensures { result ≡ record { writer = writer; faults = 0; calls = 0 } }
     {
-        WriterSink { writer, faults: 0 }
+        WriterSink {
+            writer,
+            faults: 0,
+            calls: 0,
+        }
     }
 }
 
@@ -24,9 +29,12 @@ impl<W: Write + Drop> Sink for WriterSink<W> {
 
     ghost faults = { λ s. s.faults };
 
+    ghost calls = { λ s. s.calls };
+
     // std's `write_all` says nothing of what was written before a failure, so the loop stands here. A writer that takes
     // nothing of a piece that isn't empty has failed.
     fn put(&mut self, bytes: &[u8]) -> Result<(), Failed> {
+        self.calls = self.calls.saturating_add(1);
         let mut done = 0;
         while done < bytes.len() {
             match self.writer.write(&bytes[done..]) {

@@ -11,4 +11,5 @@ loop-done-preserved g c = record {
   within = grind (arith, common_steps, c.in-Ok.ensures.bound, c.loop-done.invariant.within);
   taken = rw take-add (Appends-trans _ _ _ _ _ c.loop-done.invariant.taken (rw take_rest at c.in-Ok.ensures.bytes));
   sound = c.loop-done.invariant.sound;
+  counted = c.loop-done.invariant.counted;
 }

@@ -8,6 +8,7 @@ invariant-loop-done g l = record {
   within : l.done ≤ length l.bytes;
   taken : Appends (g.W.Write.contents l.initial.self.writer) (g.W.Write.contents l.self.writer) (take l.done l.bytes);
   sound : l.self.faults ≡ l.initial.self.faults;
+  counted : l.self.calls ≡ l.initial.self.calls;
 }
 
 abbrev pub decreases-loop-done : goal.decreases-loop-done
