@@ -1,7 +1,7 @@
 ghost use Rattle.std.specs.Prelude.{◌≡◌, ◌≤◌, ◌∷◌, [], true, IfOk, OnOk, OnErr};
 ghost use Rattle.sw_cleanup.specs.Cleaning.{AddsName, AreNamesAmong, Cleans, KeepsState, PicksState, Unlinks};
 ghost use Rattle.sw_outside.specs.Faults.{HasRisen};
-ghost use Rattle.sw_outside.specs.Supply.{raised};
+ghost use Rattle.sw_outside.specs.Counts.{raised};
 ghost use Rattle.sw_volume.specs.Volume.{IsSame, OnFailed};
 
 use crate::obsolete_files::obsolete;

@@ -1,6 +1,6 @@
 ghost use Rattle.std.specs.Prelude.{◌≡◌, ◌≤◌, ◌↔◌, true, Some, None, Err, IsSome, IsErr, IfOk, OnOk, OnErr};
 ghost use Rattle.sw_outside.specs.Faults as outside;
-ghost use Rattle.sw_outside.specs.Supply.{raised};
+ghost use Rattle.sw_outside.specs.Counts.{raised};
 ghost use Rattle.sw_volume.specs.MemState.{failure_at, GoesAs};
 ghost use Rattle.sw_volume.specs.Tree.{contents};
 ghost use Rattle.sw_volume.specs.Volume.{IsSame, Sets, MaySet, ListsAll, IsFileIn, IsFolderIn, HasCause, OnFailed, OnNoMemory};

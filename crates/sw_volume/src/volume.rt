@@ -1,6 +1,6 @@
 ghost use Rattle.std.specs.Prelude.{◌≡◌, ℕ, List, Bool, true, Some, None, IsSome, IfOk, OnOk, OnErr};
 ghost use Rattle.sw_outside.specs.Faults as outside;
-ghost use Rattle.sw_outside.specs.Supply.{raised};
+ghost use Rattle.sw_outside.specs.Counts.{raised};
 ghost use Rattle.sw_volume.specs.Volume.{Contents, IsSame, Sets, MaySet, ListsAll, IsFileIn, IsFolderIn, HasCause, OnFailed, OnNoMemory};
 
 use crate::errors::VolumeError;
