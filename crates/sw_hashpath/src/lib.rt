@@ -18,8 +18,6 @@ mod name_error;
 mod path;
 mod place;
 mod secrets;
-#[cfg(test)]
-mod tests;
 
 pub use bad_name::{BadName, first_fault};
 pub use decode_error::{BadFile, DecodeError};

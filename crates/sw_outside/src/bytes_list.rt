@@ -64,24 +64,3 @@ impl From<BytesList> for Vec<Bytes> {
         list.vec
     }
 }
-
-#[cfg(test)]
-mod tests {
-    use super::*;
-    use std::test::Fail;
-
-    #[test]
-    fn a_list_and_its_copy_have_the_byte_strings_of_the_vec(rt: HostRuntime) -> Result<(), Fail> {
-        let alloc = rt.alloc();
-        let mut vec = Vec::new(alloc);
-        vec.push(Bytes::copy(alloc, b"sda")?)?;
-        vec.push(Bytes::copy(alloc, b"")?)?;
-        let list = BytesList::from(vec);
-        let copied: Vec<Bytes> = list.copy(alloc)?.into();
-        assert_eq!(rt; copied.len(), 2);
-        assert_eq!(rt; copied[0].as_slice(), b"sda".as_slice());
-        assert_eq!(rt; copied[1].as_slice(), b"".as_slice());
-        assert_eq!(rt; list.as_slice().len(), 2);
-        Ok(())
-    }
-}

@@ -25,8 +25,6 @@ mod sound_sink;
 mod sound_source;
 mod source;
 mod store_error;
-#[cfg(test)]
-mod tests;
 mod text;
 mod writer_sink;
 

@@ -43,20 +43,3 @@ impl Clock for MemClock {
         reading
     }
 }
-
-#[cfg(test)]
-mod tests {
-    use super::*;
-    use std::test::Fail;
-
-    #[test]
-    fn shows_its_readings_in_order_and_then_its_last(rt: HostRuntime) -> Result<(), Fail> {
-        let alloc = rt.alloc();
-        let mut clock = MemClock::new(vec![in alloc; 5, 7]?);
-        assert_eq!(rt; clock.now(), 5);
-        assert_eq!(rt; clock.now(), 7);
-        assert_eq!(rt; clock.now(), 7);
-        assert_eq!(rt; MemClock::new(Vec::new(alloc)).now(), 0);
-        Ok(())
-    }
-}

@@ -106,21 +106,3 @@ fn taken_at(failing: &[FailingPut], call: u64) -> Option<usize>
         .find(|put| put.call == call)
         .map(|put| put.taken)
 }
-
-#[cfg(test)]
-mod tests {
-    use super::*;
-    use std::test::Fail;
-
-    #[test]
-    fn keeps_what_it_takes_and_fails_where_it_is_told(rt: HostRuntime) -> Result<(), Fail> {
-        let alloc = rt.alloc();
-        let failing = vec![in alloc; FailingPut { call: 1, taken: 2 }]?;
-        let mut sink = MemSink::new(alloc, failing);
-        assert_eq!(rt; sink.put(b"abc"), Ok(()));
-        assert_eq!(rt; sink.put(b"def"), Err(Failed));
-        assert_eq!(rt; sink.put(b"g"), Ok(()));
-        assert_eq!(rt; sink.bytes(), b"abcdeg".as_slice());
-        Ok(())
-    }
-}

@@ -99,25 +99,3 @@ pub(crate) fn give(left: &[u8], piece: usize, into: &mut [u8]) -> usize
     into[..given].copy_from_slice(&left[..given]);
     given
 }
-
-#[cfg(test)]
-mod tests {
-    use super::*;
-    use std::test::Fail;
-
-    #[test]
-    fn gives_its_bytes_in_pieces_and_fails_where_it_is_told(rt: HostRuntime) -> Result<(), Fail> {
-        let alloc = rt.alloc();
-        let bytes = Bytes::copy(alloc, b"abcdef")?;
-        let mut source = MemSource::new(bytes, vec![in alloc; 2, 0, 1]?, vec![in alloc; 1]?);
-        let mut room = [0u8; 4];
-        assert_eq!(rt; source.read(&mut room), Ok(2));
-        assert_eq!(rt; &room[..2], b"ab".as_slice());
-        assert_eq!(rt; source.read(&mut room), Err(Failed));
-        assert_eq!(rt; source.read(&mut room), Ok(1));
-        assert_eq!(rt; source.read(&mut room), Ok(3));
-        assert_eq!(rt; &room[..3], b"def".as_slice());
-        assert_eq!(rt; source.read(&mut room), Ok(0));
-        Ok(())
-    }
-}

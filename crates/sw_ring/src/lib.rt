@@ -16,8 +16,6 @@ mod reading;
 mod ring;
 mod row_checks;
 mod row_table;
-#[cfg(test)]
-mod tests;
 
 pub use bad_ring::{BadRing, RingError};
 pub use device_list::DeviceList;

@@ -13,7 +13,7 @@ StateIsState = (ws : List Write) → IsStateOf ws (state_of ws)
 abbrev pub OneState : Type 0
 OneState = (ws : List Write) (s t : State) → Agree ws → IsStateOf ws s → IsStateOf ws t → s ≡ t
 
--- of writes that agree, which there are decides, not their order nor how often each came
+-- where the writes agree, which there are decides, and not their order nor how often each came
 abbrev pub StateOfSet : Type 0
 StateOfSet = (ws vs : List Write) → Agree ws → SameWrites ws vs → state_of ws ≡ state_of vs
 

@@ -12,7 +12,8 @@ pub fn one_state()
     ensures { OneState }
 {}
 
-/// Of writes that agree, neither their order nor how often each came decides.
+/// Where the writes agree, which means that no two of one time and kind differ, the state depends on the set of writes
+/// alone: neither their order nor how often each came decides. Where they don't agree, their order does.
 pub fn state_of_set()
     ensures { StateOfSet }
 {}

@@ -22,8 +22,6 @@ mod join;
 pub mod laws;
 mod object;
 mod state;
-#[cfg(test)]
-mod tests;
 mod write;
 
 pub use base::Base;

@@ -11,8 +11,6 @@
 pub mod laws;
 mod reading;
 mod tag;
-#[cfg(test)]
-mod tests;
 mod timestamp;
 mod writing;
 

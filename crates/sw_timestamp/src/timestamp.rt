@@ -24,9 +24,9 @@ impl Model for Timestamp {
 }
 
 impl Timestamp {
-    /// The time of this number of units, or `None` exactly above [`GREATEST`].
+    /// The time of this number of units, or `None` exactly above [`GREATEST`], which is 999,999,999,999,999.
     pub fn from_units(units: u64) -> Option<Timestamp>
-        ensures { result ≡ (if nat_le units GREATEST then Some units else None) }
+        ensures { result ≡ (if nat_le units 999999999999999 then Some units else None) }
     {
         if units <= GREATEST {
             Some(Timestamp { units })
@@ -38,7 +38,7 @@ impl Timestamp {
     /// The number of 10-microsecond units.
     pub fn units(&self) -> u64
         ensures same { result ≡ self.now }
-        ensures bound { result ≤ GREATEST }
+        ensures bound { result ≤ 999999999999999 }
     {
         self.units
     }

@@ -1,6 +1,5 @@
 ghost use Rattle.std.specs.Prelude.{◌≡◌, ℕ, ◌≤◌, ◌++◌, length, drop};
 ghost use Rattle.sw_timestamp.specs.TimeText.{last_digits, normal_text, text_of};
-ghost use Rattle.sw_timestamp.specs.declared.timestamp.TheConstants.{GREATEST};
 
 use crate::timestamp::Timestamp;
 
@@ -8,7 +7,7 @@ impl Timestamp {
     /// Writes the normal form: ten digits of seconds, a point and five decimals.
     pub fn write_normal(&self, out: &mut [u8; 16])
         ensures text { out.new ≡ normal_text self.now }
-        ensures bound { self.now ≤ GREATEST }
+        ensures bound { self.now ≤ 999999999999999 }
     {
         let units = self.units();
         write_last_digits(&mut out[..10], units / 100_000);
@@ -20,7 +19,7 @@ impl Timestamp {
     pub fn write_text(&self, out: &mut [u8; 33]) -> usize
         ensures count { result ≡ length (text_of self.now) }
         ensures text { out.new ≡ text_of self.now ++ drop result out.old }
-        ensures bound { self.now ≤ GREATEST }
+        ensures bound { self.now ≤ 999999999999999 }
     {
         let mut normal = [0; 16];
         self.write_normal(&mut normal);
