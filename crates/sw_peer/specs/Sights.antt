@@ -2,119 +2,136 @@
 --
 -- What was seen of a lock only grows, and is known over every door: by one that is alone, one that loses and repeats messages, and one
 -- that shares the nodes with others. What the devices hold is known only where the door is alone.
-use Rattle.std.specs.Prelude.{◌≡◌, ◌≢◌, ℕ, ◌≤◌, Bool, true, false, List, [], ◌∷◌, ◌++◌, Option, ◌⊎◌}
+use Rattle.std.specs.Prelude.{◌≡◌, ◌≢◌, ⊤, ℕ, ◌≤◌, Bool, true, false, List, [], ◌∷◌, ◌++◌, Option, ◌⊎◌, Result, Ok, Err}
 use Rattle.std.specs.Option.{option_map}
 use Rattle.sw_hashpath.specs.declared.name.Name.{Name}
+use Rattle.sw_hashpath.specs.declared.place.Place.{Place}
 use Rattle.sw_outside.specs.Faults.{HasRisen}
-use Rattle.sw_state.specs.States.{joined}
 use Rattle.sw_state.specs.declared.state.State.{State}
-use Rattle.sw_state.specs.declared.write.Write.{Write}
-use Rattle.sw_peer.specs.Histories.{History, Grows, Answered, Reads}
-use Rattle.sw_peer.specs.Steps.{Change, write_of}
-use Rattle.sw_peer.specs.Steps.Change.{Receive}
+use Rattle.sw_peer.specs.Halves.{Half, HalfMoves}
+use Rattle.sw_peer.specs.Histories.{History, Grows, StepChanges, StepReads}
+use Rattle.sw_peer.specs.Journals.{Hash}
 use Rattle.sw_peer.specs.declared.answer.Answer.{Answer}
 use Rattle.sw_peer.specs.declared.answer.Answer.TheVariants as answers
+use Rattle.sw_peer.specs.declared.change.Change.{Change}
+use Rattle.sw_peer.specs.declared.entry.ObjEntry.{ObjEntry}
 use Rattle.sw_peer.specs.declared.got.Got.{Got}
 use Rattle.sw_peer.specs.declared.got.Got.TheVariants as gots
+use Rattle.sw_peer.specs.declared.line.Event.{Event}
+use Rattle.sw_peer.specs.declared.line.Event.TheVariants.{Changed, Read}
+use Rattle.sw_peer.specs.declared.line.Line.{Line}
 use Rattle.sw_peer.specs.declared.link.Link.{Link}
-use Rattle.sw_peer.specs.declared.link.Link.TheVariants.{Sent}
+use Rattle.sw_peer.specs.declared.link.Link.TheVariants.{Local, Sent}
+use Rattle.sw_peer.specs.declared.link.Lost.{Lost}
 
--- what a call was answered
-pub data Reply : Type 0 where
-  Changed : (change : Change) (answer : Answer) → Reply
-  Read : (got : Got) → Reply
-
--- a call of a door that was answered
-pub record Call : Type 0 where
-  pub device : ℕ
-  pub name : Name
-  pub reply : Reply
-
-pub record Sight : Type 0 where
+-- what never changes
+pub record Nodes : Type 0 where
   pub devices : ℕ  -- how many nodes there are
   pub fits : Name → Bool  -- whether the name's hash is that of its path under the nodes' secrets
-  pub lock : ℕ → Name → ℕ  -- which lock of a device the name is under
-  pub seen : ℕ → History  -- what is known of each lock
-  pub holds : ℕ → Name → State  -- what each name stands for at each device, where the door is alone
+  pub lock : ℕ → Hash → ℕ  -- which lock of a device the hash is under: a number for objects, and one for containers
+
+pub record Sight : Type 0 where
+  pub nodes : Nodes
+  pub objects : Half Hash State ObjEntry
+  pub containers : Half Place ⊤ ⊥  -- no node keeps a container yet, so nothing stands for one and there are no entries
   pub alone : Bool  -- whether nobody else changes the nodes
   pub faults : ℕ  -- how many messages or answers were lost
   pub asks : ℕ  -- how many messages asked for hashes or files
-  pub calls : Option (List Call)  -- the calls that were answered, where the door keeps them; those that wanted memory may be missing
+  pub trail : Option (List Line)  -- the steps that were made, where the door keeps them
 
 -- ---- what every call keeps
 
--- a call of a name at a device
-pub record Moves (old new : Sight) (device : ℕ) (name : Name) : Type 0 where
-  pub devices : new.devices ≡ old.devices
-  pub fits : (other : Name) → new.fits other ≡ old.fits other
-  pub lock : (d : ℕ) (other : Name) → new.lock d other ≡ old.lock d other
-  pub grows : (l : ℕ) → Grows (old.seen l) (new.seen l)
-  pub elsewhere : (l : ℕ) → l ≢ old.lock device name → (new.seen l).entries ≡ (old.seen l).entries
+-- steps at these hashes of these devices
+pub record Moves (at : ℕ → Hash → Type 0) (old new : Sight) : Type 0 where
+  pub nodes : new.nodes ≡ old.nodes
+  pub objects : HalfMoves old.nodes.lock new.alone at old.objects new.objects
+  pub containers : new.containers ≡ old.containers
   pub alone : new.alone ≡ true → old.alone ≡ true
-  pub others : new.alone ≡ true → (d : ℕ) (other : Name)
-      → (d ≢ device) ⊎ ((old.seen (old.lock device name)).same name other ≡ false) → new.holds d other ≡ old.holds d other
   pub faults : old.faults ≤ new.faults
-  pub asks : new.asks ≡ old.asks
 
--- the calls, with one more
-abbrev pub Keeps : Option (List Call) → Option (List Call) → Call → Type 0
-Keeps old new call = new ≡ option_map (λ calls. calls ++ call ∷ []) old
+-- one hash of one device
+abbrev pub IsAt : ℕ → Hash → ℕ → Hash → Type 0
+IsAt device name d hash = (d ≡ device) × (hash ≡ name)
 
--- a call that wanted memory may be left out
-abbrev pub KeepsChange : Option (List Call) → Option (List Call) → ℕ → Name → Change → Answer → Type 0
-KeepsChange old new device name change answer =
-    Keeps old new (record { device = device; name = name; reply = Changed change answer }) ⊎ ((answer ≡ answers.NoMemory) × (new ≡ old))
+-- the trail has one line more; that of a step that wanted memory may be missing
+abbrev pub Trails : Option (List Line) → Line → Bool → Option (List Line) → Type 0
+Trails old line wanting new = (new ≡ option_map (λ lines. lines ++ line ∷ []) old) ⊎ ((wanting ≡ true) × (new ≡ old))
 
-abbrev pub KeepsRead : Option (List Call) → Option (List Call) → ℕ → Name → Got → Type 0
-KeepsRead old new device name got =
-    Keeps old new (record { device = device; name = name; reply = Read got }) ⊎ ((got ≡ gots.NoMemory) × (new ≡ old))
+abbrev pub is_wanting : Answer → Bool
+is_wanting (answers.Done front) = false
+is_wanting (answers.Buried front) = false
+is_wanting (answers.Conflict time) = false
+is_wanting (answers.NotFound time) = false
+is_wanting (answers.Mismatch second) = false
+is_wanting answers.Exists = false
+is_wanting answers.JournalFull = false
+is_wanting (answers.Damaged bad) = false
+is_wanting answers.Failed = false
+is_wanting answers.NoMemory = true
 
--- ---- a call that may change something
+abbrev pub is_wanting_read : Got → Bool
+is_wanting_read (gots.Found time content heads front) = false
+is_wanting_read (gots.NotFound time) = false
+is_wanting_read (gots.Damaged bad) = false
+is_wanting_read gots.Failed = false
+is_wanting_read gots.NoMemory = true
 
--- whether the answer says that the device's state has the write
-abbrev pub is_held : Change → Answer → Bool
-is_held change (answers.Done front) = true
-is_held change (answers.Buried front) = true
-is_held (Receive write) (answers.Conflict time) = true
-is_held change answer = false
+-- ---- one step, as it comes to a device and is answered there
 
--- a state became the one with the write where it is held, and else that or what it was
-abbrev pub Takes : State → State → Write → Bool → Type 0
-Takes old new w true = new ≡ joined old w
-Takes old new w false = (new ≡ old) ⊎ (new ≡ joined old w)
-
--- what the device holds under the name, and under those that are kept as one with it
-abbrev pub Holds : Sight → Sight → ℕ → Name → Write → Bool → Type 0
-Holds old new device name w held = new.alone ≡ true → (old.seen (old.lock device name)).told ≡ true → (other : Name)
-    → (old.seen (old.lock device name)).same name other ≡ true → Takes (old.holds device other) (new.holds device other) w held
-
-pub record IsChanged (old new : Sight) (device : ℕ) (name : Name) (change : Change) (answer : Answer) : Type 0 where
-  pub moves : Moves old new device name
-  pub answered : Answered (old.seen (old.lock device name)) name change answer (new.seen (old.lock device name))
-  pub holds : Holds old new device name (write_of change) (is_held change answer)
-  pub kept : KeepsChange old.calls new.calls device name change answer
-
--- no answer came: the step was made, or not
-pub record IsLost (old new : Sight) (link : Link) (device : ℕ) (name : Name) (change : Change) : Type 0 where
-  pub sent : link ≡ Sent
-  pub risen : HasRisen old.faults new.faults
-  pub moves : Moves old new device name
-  pub holds : Holds old new device name (write_of change) false
-
--- ---- a call that only reads
+-- a step that may change something
+pub record IsMade (link : Link) (device : ℕ) (name : Name) (change : Change) (old : Sight) (answer : Answer) (new : Sight) : Type 0 where
+  pub moves : Moves (IsAt device name.hash) old new
+  pub step : StepChanges new.alone (old.objects.seen (old.nodes.lock device name.hash)) (old.objects.holds device name.hash) name change answer
+      (new.objects.seen (old.nodes.lock device name.hash)) (new.objects.holds device name.hash)
+  pub trail : Trails old.trail (record { device = device; link = link; event = Changed name change answer; added = step.added }) (is_wanting answer) new.trail
 
 -- every device holds what it held
 abbrev pub HoldsAll : Sight → Sight → Type 0
-HoldsAll old new = new.alone ≡ true → (d : ℕ) (other : Name) → new.holds d other ≡ old.holds d other
+HoldsAll old new = new.alone ≡ true → (d : ℕ) (hash : Hash) → new.objects.holds d hash ≡ old.objects.holds d hash
 
-pub record IsRead (old new : Sight) (device : ℕ) (name : Name) (got : Got) : Type 0 where
-  pub moves : Moves old new device name
-  pub answered : Reads (old.seen (old.lock device name)) name got (new.seen (old.lock device name))
-  pub holds : HoldsAll old new
-  pub kept : KeepsRead old.calls new.calls device name got
+-- a step that reads one name
+pub record IsRead (link : Link) (device : ℕ) (name : Name) (old : Sight) (got : Got) (new : Sight) : Type 0 where
+  pub moves : Moves (IsAt device name.hash) old new
+  pub holds_all : HoldsAll old new
+  pub step : StepReads new.alone (old.objects.seen (old.nodes.lock device name.hash)) name.hash got
+      (new.objects.seen (old.nodes.lock device name.hash)) (new.objects.holds device name.hash)
+  pub trail : Trails old.trail (record { device = device; link = link; event = Read name got; added = step.added }) (is_wanting_read got) new.trail
 
-pub record IsReadLost (old new : Sight) (link : Link) (device : ℕ) (name : Name) : Type 0 where
-  pub sent : link ≡ Sent
-  pub risen : HasRisen old.faults new.faults
-  pub moves : Moves old new device name
-  pub holds : HoldsAll old new
+-- ---- a call of a door: its step comes once, several times or never
+
+-- only counts of the door changed
+pub record IsSame (old new : Sight) : Type 0 where
+  pub same : new ≡ record old { faults = new.faults; asks = new.asks }
+  pub faults : old.faults ≤ new.faults
+
+-- the step came as often as there are answers, and was answered so
+abbrev pub Comes : {A : Type 0} → (Sight → A → Sight → Type 0) → Sight → List A → Sight → Type 0
+Comes step old [] new = IsSame old new
+Comes step old (answer ∷ answers) new = (mid : Sight) × step old answer mid × Comes step mid answers new
+
+-- what a call makes: at the device itself its step comes once; in a message the last answer is heard, or no answer is
+abbrev pub Calls : {A : Type 0} → (Sight → A → Sight → Type 0) → Sight → Link → Result A Lost → Sight → Type 0
+Calls {A} step old link (Ok answer) new = (earlier : List A) × (link ≡ Local → earlier ≡ []) × Comes step old (earlier ++ answer ∷ []) new
+Calls {A} step old link (Err lost) new = (link ≡ Sent) × HasRisen old.faults new.faults × ((unheard : List A) × Comes step old unheard new)
+
+-- ---- a restart of a device, which is no call of a door
+
+-- Each lock of the device begins anew with what stands there, doubts that were made included. Where a lock told its contents, it tells
+-- them still, and what stands is what stood; a lock that told none may tell them from now on.
+pub record Restarts (device : ℕ) (old new : Sight) : Type 0 where
+  pub nodes : new.nodes ≡ old.nodes
+  pub others : (d : ℕ) (hash : Hash) → d ≢ device → new.objects.seen (old.nodes.lock d hash) ≡ old.objects.seen (old.nodes.lock d hash)
+  pub told : (hash : Hash) → (old.objects.seen (old.nodes.lock device hash)).told ≡ true → (new.objects.seen (old.nodes.lock device hash)).told ≡ true
+  pub opening : new.alone ≡ true → (hash : Hash) → (old.objects.seen (old.nodes.lock device hash)).told ≡ true
+      → (new.objects.seen (old.nodes.lock device hash)).opening hash ≡ old.objects.holds device hash
+  pub entries : (hash : Hash) → (new.objects.seen (old.nodes.lock device hash)).journal.entries ≡ []
+  pub doubts : (hash : Hash) → (new.objects.seen (old.nodes.lock device hash)).journal.doubts ≡ []
+  pub max_entries : (hash : Hash) → (new.objects.seen (old.nodes.lock device hash)).journal.max_entries ≡ (old.objects.seen (old.nodes.lock device hash)).journal.max_entries
+  pub max_bytes : (hash : Hash) → (new.objects.seen (old.nodes.lock device hash)).journal.max_bytes ≡ (old.objects.seen (old.nodes.lock device hash)).journal.max_bytes
+  pub faults : (hash : Hash) → (old.objects.seen (old.nodes.lock device hash)).faults ≤ (new.objects.seen (old.nodes.lock device hash)).faults
+  pub holds : new.alone ≡ true → (hash : Hash) → (old.objects.seen (old.nodes.lock device hash)).told ≡ true → new.objects.holds device hash ≡ old.objects.holds device hash
+  pub elsewhere : new.alone ≡ true → (d : ℕ) (hash : Hash) → d ≢ device → new.objects.holds d hash ≡ old.objects.holds d hash
+  pub alone : new.alone ≡ old.alone
+  pub containers : new.containers ≡ old.containers
+  pub counts : (new.faults ≡ old.faults) × (new.asks ≡ old.asks)
+  pub trail : new.trail ≡ old.trail

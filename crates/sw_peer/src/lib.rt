@@ -12,15 +12,22 @@
 #![tactic(auto)]
 
 mod answer;
+mod change;
 mod door;
 mod entry;
 mod got;
+pub mod laws;
+mod line;
 mod link;
-#[cfg(test)]
-mod tests;
+mod outline;
+mod refusing;
 
 pub use answer::Answer;
+pub use change::Change;
 pub use door::{Door, ObjectDoor};
-pub use entry::ObjEntry;
+pub use entry::{Added, ObjEntry};
 pub use got::Got;
+pub use line::{Event, Line};
 pub use link::{Link, Lost};
+pub use outline::{Mark, Outline, standing_expiry};
+pub use refusing::{made_answer, refusal};

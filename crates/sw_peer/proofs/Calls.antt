@@ -1,0 +1,236 @@
+-- Calls of a door, one after another, with messages that come several times or never.
+use Rattle.std.proofs.Common.{◌≡◌, ◌≢◌, ℕ, ◌+◌, ◌<◌, ◌≤◌, ◌^◌, ◌-◌, Bool, true, false, List, [], ◌∷◌, ◌++◌, refl, sym, ◌∙◌, ap, subst, arith, append_assoc, Option, Some, None, ◌⊎◌, inl, inr, Result, Ok, Err}
+use Rattle.std.proofs.lemmas.List.{append-nil}
+use Rattle.sw_hashpath.specs.declared.name.Name.{Name}
+use Rattle.sw_outside.specs.Faults.{HasRisen}
+use Rattle.sw_peer.specs.Halves.{GrowsOf, Half, HalfMoves, HistoryOf}
+use Rattle.sw_peer.specs.Histories.{Grows, History}
+use Rattle.sw_peer.specs.Journals.{Hash, Journal, Settles}
+use Rattle.sw_peer.specs.Sights.{Calls, Comes, IsAt, IsMade, IsRead, IsSame, Moves, Sight}
+use Rattle.sw_peer.specs.declared.answer.Answer.{Answer}
+use Rattle.sw_peer.specs.declared.answer.Answer.TheVariants as answers
+use Rattle.sw_peer.specs.declared.change.Change.{Change}
+use Rattle.sw_peer.specs.declared.entry.ObjEntry.{ObjEntry}
+use Rattle.sw_peer.specs.declared.got.Got.{Got}
+use Rattle.sw_peer.specs.declared.link.Link.{Link}
+use Rattle.sw_peer.specs.declared.link.Link.TheVariants.{Local, Sent}
+use Rattle.sw_peer.specs.declared.link.Lost.{Lost}
+
+module _ {K V E : Type 0} where
+  pub grows-refl : (h : HistoryOf K V E) → GrowsOf h h
+  grows-refl h = record { told = refl; opening = λ n. refl; entries = ([], sym (append-nil h.journal.entries)); max_entries = refl; max_bytes = refl; faults = omega arith }
+
+  pub grows-trans : (h i g : HistoryOf K V E) → GrowsOf h i → GrowsOf i g → GrowsOf h g
+  grows-trans h i g p q = record {
+    told = q.told ∙ p.told;
+    opening = λ n. q.opening n ∙ p.opening n;
+    entries = (p.entries.0 ++ q.entries.0, q.entries.1 ∙ (ap (λ (e : List E). e ++ q.entries.0) p.entries.1 ∙ append_assoc h.journal.entries p.entries.0 q.entries.0));
+    max_entries = q.max_entries ∙ p.max_entries;
+    max_bytes = q.max_bytes ∙ p.max_bytes;
+    faults = omega (arith, p.faults, q.faults);
+  }
+
+  pub half-refl : (lock : ℕ → K → ℕ) (alone : Bool) (at : ℕ → K → Type 0) (s : Half K V E) → HalfMoves lock alone at s s
+  half-refl lock alone at s = record { grows = λ l. grows-refl (s.seen l); elsewhere = λ l away. refl; others = λ x d key away. refl }
+
+  -- the locks of both are the same, and where the later is alone the earlier was
+  pub half-trans : (lock lock' : ℕ → K → ℕ) (alone alone' : Bool) (at : ℕ → K → Type 0) (a b c : Half K V E) → ((d : ℕ) (key : K) → lock' d key ≡ lock d key) → (alone' ≡ true → alone ≡ true)
+      → HalfMoves lock alone at a b → HalfMoves lock' alone' at b c → HalfMoves lock alone' at a c
+  half-trans lock lock' alone alone' at a b c locks earlier p q = record {
+    grows = λ l. grows-trans (a.seen l) (b.seen l) (c.seen l) (p.grows l) (q.grows l);
+    elsewhere = λ l away. q.elsewhere l (λ d key is same. away d key is (same ∙ locks d key)) ∙ p.elsewhere l away;
+    others = λ x d key away. q.others x d key away ∙ p.others (earlier x) d key away;
+  }
+
+  pub half-wider : (lock : ℕ → K → ℕ) (alone : Bool) (at more : ℕ → K → Type 0) (a b : Half K V E) → ((d : ℕ) (key : K) → at d key → more d key)
+      → HalfMoves lock alone at a b → HalfMoves lock alone more a b
+  half-wider lock alone at more a b wider p = record {
+    grows = p.grows;
+    elsewhere = λ l away. p.elsewhere l (λ d key is. away d key (wider d key is));
+    others = λ x d key away. p.others x d key (λ is. away (wider d key is));
+  }
+
+pub moves-trans : (at : ℕ → Hash → Type 0) (a b c : Sight) → Moves at a b → Moves at b c → Moves at a c
+moves-trans at a b c p q = record {
+  nodes = q.nodes ∙ p.nodes;
+  objects = half-trans a.nodes.lock b.nodes.lock b.alone c.alone at a.objects b.objects c.objects (λ d hash. ap (λ n. n.lock d hash) p.nodes) q.alone p.objects q.objects;
+  containers = q.containers ∙ p.containers;
+  alone = λ x. p.alone (q.alone x);
+  faults = omega (arith, p.faults, q.faults);
+}
+
+pub moves-refl : (at : ℕ → Hash → Type 0) (s : Sight) → Moves at s s
+moves-refl at s = record { nodes = refl; objects = half-refl s.nodes.lock s.alone at s.objects; containers = refl; alone = λ x. x; faults = omega arith }
+
+pub settles-none : (j : Journal) → Settles j [] j
+settles-none j = record { entered = sym (append-nil j.entries); count = omega arith; of_doubts = λ hash none. (refl, none); max_entries = refl; max_bytes = refl }
+
+-- a step that wanted memory at once is one that came and changed nothing
+pub wanting : (link : Link) (device : ℕ) (name : Name) (change : Change) (s : Sight) → IsMade link device name change s answers.NoMemory s
+wanting link device name change s = record {
+  moves = moves-refl (IsAt device name.hash) s;
+  step = record {
+    before = h;
+    made = false;
+    follows = grows-refl h;
+    settles = λ alone. ([], settles-none h.journal);
+    settled = λ is. absurd (never is);
+    answered = record { not_made = refl; same = refl };
+    after = grows-refl h;
+    failed = λ is. absurd (other is);
+    held = λ alone told is. absurd (never is);
+    leaves = λ alone told. refl;
+    added = [];
+    adds = λ alone. sym (append-nil h.journal.entries);
+  };
+  trail = inr (refl, refl);
+}
+  where
+    h : History
+    h = s.objects.seen (s.nodes.lock device name.hash)
+
+    never : false ≡ true → ⊥
+    never is = cc
+
+    other : answers.NoMemory ≡ answers.Failed → ⊥
+    other is = cc
+
+-- steps at fewer places are steps at more
+pub moves-wider : (at more : ℕ → Hash → Type 0) (a b : Sight) → ((d : ℕ) (hash : Hash) → at d hash → more d hash) → Moves at a b → Moves more a b
+moves-wider at more a b wider p = record {
+  nodes = p.nodes;
+  objects = half-wider a.nodes.lock b.alone at more a.objects b.objects wider p.objects;
+  containers = p.containers;
+  alone = p.alone;
+  faults = p.faults;
+}
+
+-- ---- counts of the door
+
+abbrev pub counted : Sight → ℕ → ℕ → Sight
+counted s faults asks = record s { faults = faults; asks = asks }
+
+-- a door around another, with its own count of faults beside the other's, and its own count of asking messages
+abbrev pub around : Sight → ℕ → ℕ → Sight
+around s faults asks = record s { faults = s.faults + faults; asks = asks }
+
+-- what a frame of steps has: it joins, and knows no counts of the door but that faults don't fall
+pub record IsFrame (frame : Sight → Sight → Type 0) : Type 0 where
+  pub same : (s t : Sight) → IsSame s t → frame s t
+  pub join : (a b c : Sight) → frame a b → frame b c → frame a c
+  pub recounts : (s t : Sight) (f f' k k' : ℕ) → f ≤ f' → frame s t → frame (counted s f k) (counted t f' k')
+  pub faults : (s t : Sight) → frame s t → s.faults ≤ t.faults
+
+-- what every step has: it keeps its frame, and knows no counts of the door but that faults don't fall
+pub record IsStep {A : Type 0} (frame : Sight → Sight → Type 0) (step : Sight → A → Sight → Type 0) : Type 0 where
+  pub frames : IsFrame frame
+  pub moves : (s t : Sight) (x : A) → step s x t → frame s t
+  pub recounts : (s t : Sight) (x : A) (f f' k k' : ℕ) → f ≤ f' → step s x t → step (counted s f k) x (counted t f' k')
+
+pub moves-counted : (at : ℕ → Hash → Type 0) (s t : Sight) (f f' k k' : ℕ) → f ≤ f' → Moves at s t → Moves at (counted s f k) (counted t f' k')
+moves-counted at s t f f' k k' later p = record { nodes = p.nodes; objects = p.objects; containers = p.containers; alone = p.alone; faults = later }
+
+pub frame-of : (at : ℕ → Hash → Type 0) → IsFrame (Moves at)
+frame-of at = record {
+  same = λ s t p. subst (λ (x : Sight). Moves at s x) (sym p.same) (moves-counted at s s s.faults t.faults s.asks t.asks p.faults (moves-refl at s));
+  join = moves-trans at;
+  recounts = moves-counted at;
+  faults = λ s t p. p.faults;
+}
+
+pub made-step : (link : Link) (device : ℕ) (name : Name) (change : Change) → IsStep (Moves (IsAt device name.hash)) (IsMade link device name change)
+made-step link device name change = record {
+  frames = frame-of (IsAt device name.hash);
+  moves = λ s t x step. step.moves;
+  recounts = λ s t x f f' k k' later step. record { moves = moves-counted (IsAt device name.hash) s t f f' k k' later step.moves; step = step.step; trail = step.trail };
+}
+
+pub read-step : (link : Link) (device : ℕ) (name : Name) → IsStep (Moves (IsAt device name.hash)) (IsRead link device name)
+read-step link device name = record {
+  frames = frame-of (IsAt device name.hash);
+  moves = λ s t x step. step.moves;
+  recounts = λ s t x f f' k k' later step. record { moves = moves-counted (IsAt device name.hash) s t f f' k k' later step.moves; holds_all = step.holds_all; step = step.step; trail = step.trail };
+}
+
+pub same-refl : (s : Sight) → IsSame s s
+same-refl s = record { same = refl; faults = omega arith }
+
+module _ {A : Type 0} (frame : Sight → Sight → Type 0) (step : Sight → A → Sight → Type 0) (is : IsStep frame step) where
+  -- a step that comes once
+  pub once : (s t : Sight) (x : A) → step s x t → Comes step s (x ∷ []) t
+  once s t x made = (t, made, same-refl t)
+
+  pub calls-once : (s t : Sight) (link : Link) (x : A) → step s x t → Calls step s link (Ok x) t
+  calls-once s t link x made = ([], (λ local. refl), once s t x made)
+
+  pub comes-moves : (s : Sight) (xs : List A) (t : Sight) → Comes step s xs t → frame s t
+  comes-moves s [] t p = is.frames.same s t p
+  comes-moves s (x ∷ xs) t p = is.frames.join s p.0 t (is.moves s p.0 x p.1) (comes-moves p.0 xs t p.2)
+
+  pub calls-moves : (s : Sight) (link : Link) (r : Result A Lost) (t : Sight) → Calls step s link r t → frame s t
+  calls-moves s link (Ok x) t p = comes-moves s (p.0 ++ x ∷ []) t p.2
+  calls-moves s link (Err lost) t p = comes-moves s p.2.0 t p.2.1
+
+  -- what came after a change of the counts could as well have come before it
+  from_same : (s : Sight) (f k : ℕ) (xs : List A) (t : Sight) → s.faults ≤ f → Comes step (counted s f k) xs t → Comes step s xs t
+  from_same s f k [] t later p = record { same = p.same; faults = omega (arith, later, p.faults) }
+  from_same s f k (x ∷ xs) t later p =
+      let mid : Sight = p.0 in
+      let up : f ≤ mid.faults = is.frames.faults (counted s f k) mid (is.moves (counted s f k) mid x p.1) in
+      (mid, is.recounts (counted s f k) mid x s.faults mid.faults s.asks mid.asks (omega (arith, later, up)) p.1, p.2)
+
+  pub comes-append : (s : Sight) (xs : List A) (t : Sight) (ys : List A) (u : Sight) → Comes step s xs t → Comes step t ys u → Comes step s (xs ++ ys) u
+  comes-append s [] t ys u p q = from_same s t.faults t.asks ys u p.faults (subst (λ (x : Sight). Comes step x ys u) p.same q)
+  comes-append s (x ∷ xs) t ys u p q = (p.0, p.1, comes-append p.0 xs t ys u p.2 q)
+
+  -- the same through a door around
+  pub comes-around : (s : Sight) (xs : List A) (t : Sight) (f f' k k' : ℕ) → f ≤ f' → Comes step s xs t → Comes step (around s f k) xs (around t f' k')
+  comes-around s [] t f f' k k' later p =
+      let up : s.faults ≤ t.faults = p.faults in
+      record { same = ap (λ (x : Sight). around x f' k') p.same; faults = omega (arith, up, later) }
+  comes-around s (x ∷ xs) t f f' k k' later p =
+      let up : s.faults ≤ (p.0).faults = is.frames.faults s p.0 (is.moves s p.0 x p.1) in (
+        around p.0 f k',
+        is.recounts s p.0 x (s.faults + f) ((p.0).faults + f) k k' (omega (arith, up)) p.1,
+        comes-around p.0 xs t f f' k' k' later p.2,
+      )
+
+  risen-around : (a b f f' : ℕ) → f ≤ f' → HasRisen a b → HasRisen (a + f) (b + f')
+  risen-around a b f f' later (inl up) = inl (omega (arith, up, later))
+  risen-around a b f f' later (inr end) = inr (omega (arith, end))
+
+  -- a message that goes through as it is
+  pub calls-around : (s : Sight) (link : Link) (r : Result A Lost) (t : Sight) (f k k' : ℕ) → Calls step s link r t → Calls step (around s f k) link r (around t f k')
+  calls-around s link (Ok x) t f k k' p = (p.0, p.1, comes-around s (p.0 ++ x ∷ []) t f f k k' (omega arith) p.2)
+  calls-around s link (Err lost) t f k k' p = (p.0, risen-around s.faults t.faults f f (omega arith) p.1, (p.2.0, comes-around s p.2.0 t f f k k' (omega arith) p.2.1))
+
+  -- what was heard of a call, or came unheard
+  came : (s : Sight) (link : Link) (r : Result A Lost) (t : Sight) → Calls step s link r t → (xs : List A) × Comes step s xs t
+  came s link (Ok x) t p = (p.0 ++ x ∷ [], p.2)
+  came s link (Err lost) t p = p.2
+
+  -- a message that is lost on its way
+  pub lost-before : (s : Sight) (f f' k k' : ℕ) (lost : Lost) → f ≤ f' → HasRisen (s.faults + f) (s.faults + f') → Calls step (around s f k) Sent (Err lost) (around s f' k')
+  lost-before s f f' k k' lost later up = (refl, up, ([], record { same = refl; faults = omega (arith, later) }))
+
+  -- a message whose answer is lost
+  pub lost-after : (s : Sight) (link : Link) (r : Result A Lost) (t : Sight) (f f' k k' : ℕ) (lost : Lost) → f ≤ f' → HasRisen (s.faults + f) (t.faults + f')
+      → Calls step s link r t → Calls step (around s f k) Sent (Err lost) (around t f' k')
+  lost-after s link r t f f' k k' lost later up p = let all = came s link r t p in (refl, up, (all.0, comes-around s all.0 t f f' k k' later all.1))
+
+  -- a message that comes twice
+  pub calls-twice : (s : Sight) (r : Result A Lost) (t : Sight) (q : Result A Lost) (u : Sight) → Calls step s Sent r t → Calls step t Sent q u → Calls step s Sent q u
+  calls-twice s r t (Ok y) u p q =
+      let all = came s Sent r t p in
+      (all.0 ++ q.0, (λ local. absurd (no local)), subst (λ (zs : List A). Comes step s zs u) (sym (append_assoc all.0 q.0 (y ∷ []))) (comes-append s all.0 t (q.0 ++ y ∷ []) u all.1 q.2))
+    where
+      no : Sent ≡ Local → ⊥
+      no same = cc
+  calls-twice s r t (Err lost) u p q =
+      let all = came s Sent r t p in
+      let up : s.faults ≤ t.faults = is.frames.faults s t (comes-moves s all.0 t all.1) in
+      (refl, risen_from s.faults t.faults u.faults up q.1, (all.0 ++ q.2.0, comes-append s all.0 t q.2.0 u all.1 q.2.1))
+    where
+      risen_from : (a b c : ℕ) → a ≤ b → HasRisen b c → HasRisen a c
+      risen_from a b c up (inl more) = inl (omega (arith, up, more))
+      risen_from a b c up (inr end) = inr end

@@ -1,0 +1,5 @@
+pub mod Answering
+pub mod Calls
+pub mod Hashes
+mod Lists
+mod Refusals

@@ -1,0 +1,34 @@
+-- What is refused, and what that says of what stands.
+use Rattle.std.proofs.Common.{◌≡◌, ◌≢◌, Bool, true, false, Option, Some, None, if◌then◌else◌, refl, sym, ◌∙◌}
+use Rattle.sw_state.proofs.StateTests.{new_changes}
+use Rattle.sw_state.specs.States.{is_new, joined}
+use Rattle.sw_state.specs.Writes.{tag_of}
+use Rattle.sw_state.specs.declared.state.State.{State}
+use Rattle.sw_state.specs.declared.write.Write.{Write}
+use Rattle.sw_peer.proofs.Answering.{allowed-new, outline-new, refused-held}
+use Rattle.sw_peer.specs.Laws.{AllowedChanges, OutlineTells, TransferIsRefused}
+use Rattle.sw_peer.specs.Outlines.{is_new_to, outline_of}
+use Rattle.sw_peer.specs.Steps.{latest_time, refusal_of, write_of}
+use Rattle.sw_peer.specs.declared.answer.Answer.{Answer}
+use Rattle.sw_peer.specs.declared.answer.Answer.TheVariants as answers
+use Rattle.sw_peer.specs.declared.change.Change.{Change}
+use Rattle.sw_peer.specs.declared.change.Change.TheVariants.{Receive}
+
+pub outline_tells : OutlineTells
+outline_tells s time tag = outline-new s time tag
+
+pub allowed_changes : AllowedChanges
+allowed_changes s change allowed same = apart (sym ((new_changes s (write_of change)).1 same) ∙ allowed-new s change allowed)
+  where
+    apart : false ≡ true → ⊥
+    apart is = cc
+
+pub transfer_is_refused : TransferIsRefused
+transfer_is_refused s w = ((λ refused. refused-held s w refused.0 refused.1), (λ same. by (is_new_to (outline_of s) w.time (tag_of w.kind)) (outline-new s w.time (tag_of w.kind) ∙ (new_changes s w).1 same)))
+  where
+    by : (b : Bool) → b ≡ false → (answer : Answer) × ((if b then None else Some (answers.Conflict (latest_time (outline_of s) (tag_of w.kind)))) ≡ Some answer)
+    by true is = absurd (apart is)
+      where
+        apart : true ≡ false → ⊥
+        apart same = cc
+    by false is = (answers.Conflict (latest_time (outline_of s) (tag_of w.kind)), refl)
