@@ -1,5 +1,5 @@
 -- How a step is answered by what stands.
-use Rattle.std.proofs.Common.{◌≡◌, ℕ, ◌+◌, Bool, true, false, ◌&&◌, List, length, Option, Some, None, ◌⊎◌, option_map, nat_lt, max, if◌then◌else◌, inl, inr, refl, sym, ap, ◌∙◌, subst, arith}
+use Rattle.std.proofs.Common.{◌≡◌, ℕ, Bool, true, false, ◌&&◌, length, Option, Some, None, ◌⊎◌, option_map, nat_lt, max, if◌then◌else◌, inl, inr, refl, sym, ap, ◌∙◌, subst, arith}
 use Rattle.std.proofs.lemmas.Bool.Decides.{nat_tests}
 use Rattle.sw_hashpath.specs.declared.name.Name.{Name}
 use Rattle.sw_state.proofs.StateTests.{new_changes}
@@ -10,7 +10,6 @@ use Rattle.sw_state.specs.Writes.{tag_of}
 use Rattle.sw_state.specs.declared.base.Base.{Base}
 use Rattle.sw_state.specs.declared.base.Base.TheVariants as bases
 use Rattle.sw_state.specs.declared.state.State.{State}
-use Rattle.sw_state.specs.declared.write.Kind.TheVariants as kinds
 use Rattle.sw_state.specs.declared.write.Write.{Write}
 use Rattle.sw_timestamp.specs.declared.tag.Tag.{Tag}
 use Rattle.sw_timestamp.specs.declared.tag.Tag.TheVariants as tags
@@ -20,7 +19,7 @@ use Rattle.sw_peer.specs.declared.outline.Outline.{Outline}
 use Rattle.sw_peer.specs.declared.outline.Mark.{Mark}
 use Rattle.sw_peer.specs.declared.outline.Mark.TheVariants.{Object, Tombstone}
 use Rattle.sw_peer.specs.Outlines.{burial_time, is_object, time_with, standing_expiry, has_object, is_before, is_below, is_new_to, mark_of, mark_time, outline_of, shown_time, standing_time, tombstone_time}
-use Rattle.sw_peer.specs.Steps.{asks_expiry, asks_expiry_after, burial_refusal, conflict, deletion_answer, deletion_refusal, expires_at, expiring_deletion_refusal, expiry_refusal, got_beside, got_of, latest_time, made_answer, refusal_by, refusal_of, transfer_refusal, write_of}
+use Rattle.sw_peer.specs.Steps.{asks_expiry, asks_expiry_after, burial_refusal, conflict, deletion_answer, deletion_refusal, expires_at, expiring_deletion_refusal, expiry_refusal, got_beside, got_of, latest_time, made_answer, refusal_by, refusal_of, write_of}
 use Rattle.sw_peer.specs.declared.answer.Answer.{Answer}
 use Rattle.sw_peer.specs.declared.answer.Answer.TheVariants as answers
 use Rattle.sw_peer.specs.declared.change.Change.{Change}

@@ -1,17 +1,16 @@
 -- Calls of a door, one after another, with messages that come several times or never.
-use Rattle.std.proofs.Common.{◌≡◌, ◌≢◌, ℕ, ◌+◌, ◌<◌, ◌≤◌, ◌^◌, ◌-◌, Bool, true, false, List, [], ◌∷◌, ◌++◌, refl, sym, ◌∙◌, ap, subst, arith, append_assoc, Option, Some, None, ◌⊎◌, inl, inr, Result, Ok, Err}
+use Rattle.std.proofs.Common.{◌≡◌, ℕ, ◌+◌, ◌≤◌, Bool, true, false, List, [], ◌∷◌, ◌++◌, refl, sym, ◌∙◌, ap, subst, arith, append_assoc, inl, inr, Result, Ok, Err}
 use Rattle.std.proofs.lemmas.List.{append-nil}
 use Rattle.sw_hashpath.specs.declared.name.Name.{Name}
 use Rattle.sw_outside.specs.Faults.{HasRisen}
 use Rattle.sw_peer.specs.Halves.{GrowsOf, Half, HalfMoves, HistoryOf}
-use Rattle.sw_peer.specs.Histories.{Grows, History}
+use Rattle.sw_peer.specs.Histories.{History}
 use Rattle.sw_peer.specs.Journals.{Hash, Journal, Settles}
-use Rattle.sw_peer.specs.Sights.{Calls, Comes, IsAt, IsMade, IsRead, IsSame, Moves, Sight}
-use Rattle.sw_peer.specs.declared.answer.Answer.{Answer}
+use Rattle.sw_peer.specs.Sights.{Calls, Comes, IsAt, IsMade, IsRead, IsSame, Moves, Sight, Trails, is_wanting, is_wanting_read}
 use Rattle.sw_peer.specs.declared.answer.Answer.TheVariants as answers
 use Rattle.sw_peer.specs.declared.change.Change.{Change}
-use Rattle.sw_peer.specs.declared.entry.ObjEntry.{ObjEntry}
-use Rattle.sw_peer.specs.declared.got.Got.{Got}
+use Rattle.sw_peer.specs.declared.line.Event.TheVariants.{Changed, Read}
+use Rattle.sw_peer.specs.declared.line.Line.{Line}
 use Rattle.sw_peer.specs.declared.link.Link.{Link}
 use Rattle.sw_peer.specs.declared.link.Link.TheVariants.{Local, Sent}
 use Rattle.sw_peer.specs.declared.link.Lost.{Lost}
@@ -65,6 +64,9 @@ moves-refl at s = record { nodes = refl; objects = half-refl s.nodes.lock s.alon
 pub settles-none : (j : Journal) → Settles j [] j
 settles-none j = record { entered = sym (append-nil j.entries); count = omega arith; of_doubts = λ hash none. (refl, none); max_entries = refl; max_bytes = refl }
 
+pub same-refl : (s : Sight) → IsSame s s
+same-refl s = record { same = refl; faults = omega arith }
+
 -- a step that wanted memory at once is one that came and changed nothing
 pub wanting : (link : Link) (device : ℕ) (name : Name) (change : Change) (s : Sight) → IsMade link device name change s answers.NoMemory s
 wanting link device name change s = record {
@@ -83,7 +85,7 @@ wanting link device name change s = record {
     added = [];
     adds = λ alone. sym (append-nil h.journal.entries);
   };
-  trail = inr (refl, refl);
+  trail = inr (refl, same-refl s);
 }
   where
     h : History
@@ -138,22 +140,23 @@ frame-of at = record {
   faults = λ s t p. p.faults;
 }
 
+trails-counted : (s t : Sight) (line : Line) (wanting : Bool) (f f' k k' : ℕ) → f ≤ f' → Trails s line wanting t → Trails (counted s f k) line wanting (counted t f' k')
+trails-counted s t line wanting f f' k k' later (inl kept) = inl kept
+trails-counted s t line wanting f f' k k' later (inr none) = inr (none.0, record { same = ap (λ (x : Sight). counted x f' k') none.1.same; faults = later })
+
 pub made-step : (link : Link) (device : ℕ) (name : Name) (change : Change) → IsStep (Moves (IsAt device name.hash)) (IsMade link device name change)
 made-step link device name change = record {
   frames = frame-of (IsAt device name.hash);
   moves = λ s t x step. step.moves;
-  recounts = λ s t x f f' k k' later step. record { moves = moves-counted (IsAt device name.hash) s t f f' k k' later step.moves; step = step.step; trail = step.trail };
+  recounts = λ s t x f f' k k' later step. record { moves = moves-counted (IsAt device name.hash) s t f f' k k' later step.moves; step = step.step; trail = trails-counted s t (record { device = device; link = link; event = Changed name change x; added = step.step.added }) (is_wanting x) f f' k k' later step.trail };
 }
 
 pub read-step : (link : Link) (device : ℕ) (name : Name) → IsStep (Moves (IsAt device name.hash)) (IsRead link device name)
 read-step link device name = record {
   frames = frame-of (IsAt device name.hash);
   moves = λ s t x step. step.moves;
-  recounts = λ s t x f f' k k' later step. record { moves = moves-counted (IsAt device name.hash) s t f f' k k' later step.moves; holds_all = step.holds_all; step = step.step; trail = step.trail };
+  recounts = λ s t x f f' k k' later step. record { moves = moves-counted (IsAt device name.hash) s t f f' k k' later step.moves; holds_all = step.holds_all; step = step.step; trail = trails-counted s t (record { device = device; link = link; event = Read name x; added = step.step.added }) (is_wanting_read x) f f' k k' later step.trail };
 }
-
-pub same-refl : (s : Sight) → IsSame s s
-same-refl s = record { same = refl; faults = omega arith }
 
 module _ {A : Type 0} (frame : Sight → Sight → Type 0) (step : Sight → A → Sight → Type 0) (is : IsStep frame step) where
   -- a step that comes once

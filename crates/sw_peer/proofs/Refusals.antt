@@ -1,18 +1,13 @@
 -- What is refused, and what that says of what stands.
-use Rattle.std.proofs.Common.{◌≡◌, ◌≢◌, Bool, true, false, Option, Some, None, if◌then◌else◌, refl, sym, ◌∙◌}
+use Rattle.std.proofs.Common.{◌≡◌, Bool, true, false, Some, None, if◌then◌else◌, refl, sym, ◌∙◌}
 use Rattle.sw_state.proofs.StateTests.{new_changes}
-use Rattle.sw_state.specs.States.{is_new, joined}
 use Rattle.sw_state.specs.Writes.{tag_of}
-use Rattle.sw_state.specs.declared.state.State.{State}
-use Rattle.sw_state.specs.declared.write.Write.{Write}
 use Rattle.sw_peer.proofs.Answering.{allowed-new, outline-new, refused-held}
 use Rattle.sw_peer.specs.Laws.{AllowedChanges, OutlineTells, TransferIsRefused}
 use Rattle.sw_peer.specs.Outlines.{is_new_to, outline_of}
-use Rattle.sw_peer.specs.Steps.{latest_time, refusal_of, write_of}
+use Rattle.sw_peer.specs.Steps.{latest_time, write_of}
 use Rattle.sw_peer.specs.declared.answer.Answer.{Answer}
 use Rattle.sw_peer.specs.declared.answer.Answer.TheVariants as answers
-use Rattle.sw_peer.specs.declared.change.Change.{Change}
-use Rattle.sw_peer.specs.declared.change.Change.TheVariants.{Receive}
 
 pub outline_tells : OutlineTells
 outline_tells s time tag = outline-new s time tag

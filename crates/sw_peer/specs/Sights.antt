@@ -9,7 +9,7 @@ use Rattle.sw_hashpath.specs.declared.place.Place.{Place}
 use Rattle.sw_outside.specs.Faults.{HasRisen}
 use Rattle.sw_state.specs.declared.state.State.{State}
 use Rattle.sw_peer.specs.Halves.{Half, HalfMoves}
-use Rattle.sw_peer.specs.Histories.{History, Grows, StepChanges, StepReads}
+use Rattle.sw_peer.specs.Histories.{StepChanges, StepReads}
 use Rattle.sw_peer.specs.Journals.{Hash}
 use Rattle.sw_peer.specs.declared.answer.Answer.{Answer}
 use Rattle.sw_peer.specs.declared.answer.Answer.TheVariants as answers
@@ -17,7 +17,6 @@ use Rattle.sw_peer.specs.declared.change.Change.{Change}
 use Rattle.sw_peer.specs.declared.entry.ObjEntry.{ObjEntry}
 use Rattle.sw_peer.specs.declared.got.Got.{Got}
 use Rattle.sw_peer.specs.declared.got.Got.TheVariants as gots
-use Rattle.sw_peer.specs.declared.line.Event.{Event}
 use Rattle.sw_peer.specs.declared.line.Event.TheVariants.{Changed, Read}
 use Rattle.sw_peer.specs.declared.line.Line.{Line}
 use Rattle.sw_peer.specs.declared.link.Link.{Link}
@@ -53,9 +52,14 @@ pub record Moves (at : ℕ → Hash → Type 0) (old new : Sight) : Type 0 where
 abbrev pub IsAt : ℕ → Hash → ℕ → Hash → Type 0
 IsAt device name d hash = (d ≡ device) × (hash ≡ name)
 
--- the trail has one line more; that of a step that wanted memory may be missing
-abbrev pub Trails : Option (List Line) → Line → Bool → Option (List Line) → Type 0
-Trails old line wanting new = (new ≡ option_map (λ lines. lines ++ line ∷ []) old) ⊎ ((wanting ≡ true) × (new ≡ old))
+-- only counts of the door changed
+pub record IsSame (old new : Sight) : Type 0 where
+  pub same : new ≡ record old { faults = new.faults; asks = new.asks }
+  pub faults : old.faults ≤ new.faults
+
+-- the trail has one line more; that of a step that wanted memory may be missing, and then the step changed nothing
+abbrev pub Trails : Sight → Line → Bool → Sight → Type 0
+Trails old line wanting new = (new.trail ≡ option_map (λ lines. lines ++ line ∷ []) old.trail) ⊎ ((wanting ≡ true) × IsSame old new)
 
 abbrev pub is_wanting : Answer → Bool
 is_wanting (answers.Done front) = false
@@ -83,7 +87,7 @@ pub record IsMade (link : Link) (device : ℕ) (name : Name) (change : Change) (
   pub moves : Moves (IsAt device name.hash) old new
   pub step : StepChanges new.alone (old.objects.seen (old.nodes.lock device name.hash)) (old.objects.holds device name.hash) name change answer
       (new.objects.seen (old.nodes.lock device name.hash)) (new.objects.holds device name.hash)
-  pub trail : Trails old.trail (record { device = device; link = link; event = Changed name change answer; added = step.added }) (is_wanting answer) new.trail
+  pub trail : Trails old (record { device = device; link = link; event = Changed name change answer; added = step.added }) (is_wanting answer) new
 
 -- every device holds what it held
 abbrev pub HoldsAll : Sight → Sight → Type 0
@@ -95,14 +99,9 @@ pub record IsRead (link : Link) (device : ℕ) (name : Name) (old : Sight) (got 
   pub holds_all : HoldsAll old new
   pub step : StepReads new.alone (old.objects.seen (old.nodes.lock device name.hash)) name.hash got
       (new.objects.seen (old.nodes.lock device name.hash)) (new.objects.holds device name.hash)
-  pub trail : Trails old.trail (record { device = device; link = link; event = Read name got; added = step.added }) (is_wanting_read got) new.trail
+  pub trail : Trails old (record { device = device; link = link; event = Read name got; added = step.added }) (is_wanting_read got) new
 
 -- ---- a call of a door: its step comes once, several times or never
-
--- only counts of the door changed
-pub record IsSame (old new : Sight) : Type 0 where
-  pub same : new ≡ record old { faults = new.faults; asks = new.asks }
-  pub faults : old.faults ≤ new.faults
 
 -- the step came as often as there are answers, and was answered so
 abbrev pub Comes : {A : Type 0} → (Sight → A → Sight → Type 0) → Sight → List A → Sight → Type 0

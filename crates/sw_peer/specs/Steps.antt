@@ -4,7 +4,6 @@
 -- All of it is told by an outline and the second of expiry, so a directory of file names and a whole state share it.
 use Rattle.std.specs.Prelude.{ℕ, Bool, true, false, not, ◌&&◌, max, nat_lt, if◌then◌else◌, Option, None, Some}
 use Rattle.std.specs.Option.{option_map_or}
-use Rattle.sw_state.specs.Bases.{base_time}
 use Rattle.sw_state.specs.Metas.{Meta}
 use Rattle.sw_state.specs.Writes.{tag_of}
 use Rattle.sw_state.specs.declared.base.Base.{Base}
