@@ -1,12 +1,4 @@
-pub mod SameNames
-pub mod PutAt
+pub mod Maps
+pub mod Reaching
 pub mod Standing
-pub mod Lines
-pub mod MachineLemmas
-pub mod MadeAnswers
-pub mod Kept
-pub mod Made
-pub mod Refusals
-pub mod Entries
-pub mod Sights
-pub mod Recorded
+pub mod Steps

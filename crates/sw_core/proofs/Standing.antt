@@ -1,45 +1,157 @@
--- What each name stands for after a write of one name.
-use Rattle.std.proofs.Common.{◌≡◌, ℕ, List, Bool, [], ◌∷◌, ◌&&◌, true, false, nat_eq, refl, ap, ◌∙◌}
-use Rattle.std.proofs.lemmas.Bool.{eqb-true, eq-eqb}
-use Rattle.sw_state.specs.States.{joined}
+-- Why a door that is alone runs the machine.
+use Rattle.std.proofs.Common.{◌≡◌, ◌≢◌, ℕ, ◌≤◌, Bool, true, false, ◌&&◌, nat_eq, List, [], ◌∷◌, ◌++◌, bytes_eq, refl, sym, ◌∙◌, ap, subst, if◌then◌else◌}
+use Rattle.std.proofs.lemmas.List.{append-nil}
+use Rattle.std.proofs.lemmas.Bool.{eq-eqb, eqb-true}
+use Rattle.sw_hashpath.specs.declared.name.Name.{Name}
+use Rattle.sw_outside.specs.Faults.{HasRisen}
+use Rattle.sw_peer.proofs.Hashes.{hash-same, hash-self}
+use Rattle.sw_peer.specs.Histories.{Grows, History, OnlySettles, StepChanges, StepReads}
+use Rattle.sw_peer.specs.Journals.{Hash, left_by}
+use Rattle.sw_peer.specs.Steps.{write_of}
+use Rattle.sw_peer.specs.Sights.{IsAt, IsMade, IsRead, Nodes, Restarts, Sight}
+use Rattle.sw_peer.specs.declared.answer.Answer.{Answer}
+use Rattle.sw_peer.specs.declared.change.Change.{Change}
+use Rattle.sw_peer.specs.declared.got.Got.{Got}
+use Rattle.sw_peer.specs.declared.link.Link.{Link}
+use Rattle.sw_state.proofs.StateLaws.{joins_one_more}
+use Rattle.sw_state.specs.States.{state_of}
+use Rattle.sw_state.specs.declared.state.State.{State}
 use Rattle.sw_state.specs.declared.write.Write.{Write}
-use Rattle.sw_core.proofs.SameNames.{and-left, and-right, and-both, same_is, same_self}
-use Rattle.sw_core.specs.Named.{Named, same}
-use Rattle.sw_core.specs.Stored.{is_at, new_at, put_at, state_at, stored_name}
-use Rattle.sw_core.specs.declared.names.Stored.{Stored}
+use Rattle.sw_core.specs.Doors.{ChangeRuns, ReadRuns, RestartRuns, StandsFor}
+use Rattle.sw_core.specs.Machine.{Machine, MachineMakes, MachineReads, MachineRestarts, made_writes, reached_with, state}
 
-pub put_here : (list : List Stored) (device : ℕ) (name : Named) (w : Write)
-    → state_at (put_at list device name w) device name ≡ joined (state_at list device name) w
-put_here [] device name w =
-    let there : is_at device name (new_at device name w) ≡ true = and-both (nat_eq device device) (same name name) (eq-eqb device device refl) (same_self name) in
-    rw there refl
-put_here (s ∷ ss) device name w = by_test (is_at device name s) refl (put_here ss device name w)
+-- the same step, of equal histories and states
+abbrev recast : (alone : Bool) (h i : History) (s u : State) (name : Name) (change : Change) (answer : Answer) (g : History) (t v : State) → alone ≡ true → h ≡ i → s ≡ u → t ≡ v
+    → StepChanges alone h s name change answer g t → StepChanges true i u name change answer g v
+recast alone h i s u name change answer g t v al hi su tv step = record {
+  before = step.before;
+  made = step.made;
+  follows = subst (λ (x : History). Grows x step.before) hi step.follows;
+  settles = λ is. subst (λ (x : History). OnlySettles x step.before) hi (step.settles al);
+  settled = step.settled;
+  answered = step.answered;
+  after = step.after;
+  failed = λ is. subst (λ (x : History). HasRisen x.faults g.faults) hi (step.failed is);
+  held = λ is told clean. step.held al told clean ∙ su;
+  leaves = λ is told. sym tv ∙ (step.leaves al told ∙ ap (λ (x : State). left_by x change step.made) su);
+  added = step.added;
+  adds = λ is. subst (λ (x : History). g.journal.entries ≡ x.journal.entries ++ step.added) hi (step.adds al);
+}
+
+abbrev recast-read : (alone : Bool) (h i : History) (hash : Hash) (got : Got) (g : History) (t v : State) → alone ≡ true → h ≡ i → t ≡ v
+    → StepReads alone h hash got g t → StepReads true i hash got g v
+recast-read alone h i hash got g t v al hi tv step = record {
+  follows = subst (λ (x : History). Grows x g) hi step.follows;
+  settles = λ is. subst (λ (x : History). OnlySettles x g) hi (step.settles al);
+  settled = step.settled;
+  shown = step.shown;
+  failed = λ is. subst (λ (x : History). HasRisen x.faults g.faults) hi (step.failed is);
+  held = λ is told clean. step.held al told clean ∙ tv;
+  added = step.added;
+  adds = λ is. subst (λ (x : History). g.journal.entries ≡ x.journal.entries ++ step.added) hi (step.adds al);
+}
+
+-- what told goes on telling
+told-on : (s t : Sight) → t.nodes ≡ s.nodes → ((l : ℕ) → (t.objects.seen l).told ≡ (s.objects.seen l).told) → ((d : ℕ) (k : Hash) → (s.objects.seen (s.nodes.lock d k)).told ≡ true)
+    → (d : ℕ) (k : Hash) → (t.objects.seen (t.nodes.lock d k)).told ≡ true
+told-on s t nodes same told d k = subst (λ (n : Nodes). (t.objects.seen (n.lock d k)).told ≡ true) (sym nodes) (same (s.nodes.lock d k) ∙ told d k)
+
+state-made : (ws : List Write) (change : Change) (made : Bool) → state_of (ws ++ made_writes change made) ≡ left_by (state_of ws) change made
+state-made ws change true = sym (joins_one_more ws (write_of change))
+state-made ws change false = ap state_of (append-nil ws)
+
+module _ (link : Link) (device : ℕ) (name : Name) (change : Change) (s : Sight) (answer : Answer) (t : Sight) (m : Machine) (stands : StandsFor s m) (alone : t.alone ≡ true)
+    (made : IsMade link device name change s answer t) where
+  abbrev after : Machine
+  after = record { reached = reached_with m.reached device name.hash (made_writes change made.step.made); seen = t.objects.seen; sent = m.sent }
+
+  told_before : made.step.before.told ≡ true
+  told_before = made.step.follows.told ∙ stands.told device name.hash
+
+  here : t.objects.holds device name.hash ≡ state_of (m.reached device name.hash ++ made_writes change made.step.made)
+  here = made.step.leaves alone told_before
+      ∙ (ap (λ (x : State). left_by x change made.step.made) (stands.states device name.hash) ∙ sym (state-made (m.reached device name.hash) change made.step.made))
+
+  at : (d : ℕ) (k : Hash) (p q : Bool) → nat_eq device d ≡ p → bytes_eq name.hash k ≡ q
+      → t.objects.holds d k ≡ state_of (if p && q then m.reached d k ++ made_writes change made.step.made else m.reached d k)
+  at d k true true p q =
+      let same_device : device ≡ d = eqb-true device d p in
+      let same_hash : name.hash ≡ k = hash-same name.hash k q in
+      subst (λ (e : ℕ). t.objects.holds e k ≡ state_of (m.reached e k ++ made_writes change made.step.made)) same_device
+      (subst (λ (x : Hash). t.objects.holds device x ≡ state_of (m.reached device x ++ made_writes change made.step.made)) same_hash here)
+  at d k true false p q = made.moves.objects.others alone d k (λ is. absurd (clash is.1)) ∙ stands.states d k
+    where
+      clash : k ≡ name.hash → ⊥
+      clash same = let both : bytes_eq name.hash k ≡ true = subst (λ (x : Hash). bytes_eq name.hash x ≡ true) (sym same) (hash-self name.hash) in cc
+  at d k false q p is_q = made.moves.objects.others alone d k (λ is. absurd (clash is.0)) ∙ stands.states d k
+    where
+      clash : d ≡ device → ⊥
+      clash same = let both : nat_eq device d ≡ true = eq-eqb device d (sym same) in cc
+
+  states : (d : ℕ) (k : Hash) → t.objects.holds d k ≡ state after d k
+  states d k = at d k (nat_eq device d) (bytes_eq name.hash k) refl refl
+
+  now : StandsFor t after
+  now = record { states = states; seen = λ x. refl; told = told-on s t made.moves.nodes (λ x. (made.moves.objects.grows x).told) stands.told }
+
+  makes : MachineMakes s.nodes.lock m device name change answer made.step.added after
+  makes = record {
+    step = recast t.alone (s.objects.seen (s.nodes.lock device name.hash)) (m.seen (s.nodes.lock device name.hash)) (s.objects.holds device name.hash) (state m device name.hash) name change answer
+        (t.objects.seen (s.nodes.lock device name.hash)) (t.objects.holds device name.hash) (state after device name.hash) alone (stands.seen (s.nodes.lock device name.hash)) (stands.states device name.hash) (states device name.hash) made.step;
+    added_is = refl;
+    reached = λ d k. refl;
+    elsewhere = λ x away. made.moves.objects.elsewhere x (λ d hash is same. away (same ∙ lock-at d hash is)) ∙ stands.seen x;
+    sent = refl;
+  }
+    where
+      lock-at : (d : ℕ) (hash : Hash) → IsAt device name.hash d hash → s.nodes.lock d hash ≡ s.nodes.lock device name.hash
+      lock-at d hash is = ap (λ (e : ℕ). s.nodes.lock e hash) is.0 ∙ ap (λ (x : Hash). s.nodes.lock device x) is.1
+
+pub change_runs : ChangeRuns
+change_runs link device name change s answer t m stands alone made =
+    (after link device name change s answer t m stands alone made, makes link device name change s answer t m stands alone made, now link device name change s answer t m stands alone made)
+
+pub read_runs : ReadRuns
+read_runs link device name s got t m stands alone read = (
+  record { reached = m.reached; seen = t.objects.seen; sent = m.sent },
+  record {
+    step = recast-read t.alone (s.objects.seen (s.nodes.lock device name.hash)) (m.seen (s.nodes.lock device name.hash)) name.hash got (t.objects.seen (s.nodes.lock device name.hash)) (t.objects.holds device name.hash) (state m device name.hash)
+        alone (stands.seen (s.nodes.lock device name.hash)) (read.holds_all alone device name.hash ∙ stands.states device name.hash) read.step;
+    added_is = refl;
+    reached = λ d k. refl;
+    elsewhere = λ x away. read.moves.objects.elsewhere x (λ d hash is same. away (same ∙ (ap (λ (e : ℕ). s.nodes.lock e hash) is.0 ∙ ap (λ (y : Hash). s.nodes.lock device y) is.1))) ∙ stands.seen x;
+    sent = refl;
+  },
+  record { states = λ d k. read.holds_all alone d k ∙ stands.states d k; seen = λ x. refl; told = told-on s t read.moves.nodes (λ x. (read.moves.objects.grows x).told) stands.told },
+)
+
+pub restart_runs : RestartRuns
+restart_runs device s t m stands alone r = (
+  record { reached = m.reached; seen = t.objects.seen; sent = m.sent },
+  record {
+    told = λ k. r.told k (stands.told device k) ∙ sym (ap (λ (h : History). h.told) (sym (stands.seen (s.nodes.lock device k))) ∙ stands.told device k);
+    opening = λ k. r.opening alone k (stands.told device k) ∙ stands.states device k;
+    entries = r.entries;
+    doubts = r.doubts;
+    max_entries = λ k. r.max_entries k ∙ ap (λ (h : History). h.journal.max_entries) (stands.seen (s.nodes.lock device k));
+    max_bytes = λ k. r.max_bytes k ∙ ap (λ (h : History). h.journal.max_bytes) (stands.seen (s.nodes.lock device k));
+    faults = λ k. subst (λ (h : History). h.faults ≤ (t.objects.seen (s.nodes.lock device k)).faults) (stands.seen (s.nodes.lock device k)) (r.faults k);
+    elsewhere = λ d k away. r.others d k away ∙ stands.seen (s.nodes.lock d k);
+    reached = λ d k. refl;
+    sent = refl;
+  },
+  record { states = λ d k. held d k (nat_eq d device) refl ∙ stands.states d k; seen = λ x. refl; told = λ d k. subst (λ (n : Nodes). (t.objects.seen (n.lock d k)).told ≡ true) (sym r.nodes) (still d k (nat_eq d device) refl) },
+)
   where
-    by_test : (b : Bool) → is_at device name s ≡ b → state_at (put_at ss device name w) device name ≡ joined (state_at ss device name) w
-        → state_at (put_at (s ∷ ss) device name w) device name ≡ joined (state_at (s ∷ ss) device name) w
-    by_test true here rest = simp here
-    by_test false elsewhere rest = simp elsewhere rest
+    apart : (d : ℕ) → nat_eq d device ≡ false → d ≢ device
+    apart d no_match equal = let yes_match : nat_eq d device ≡ true = eq-eqb d device equal in cc
 
--- what is stored under one name isn't stored under another
-other_name : (s : Stored) (device other : ℕ) (name n : Named) → is_at device name s ≡ true → nat_eq device other && same name n ≡ false
-    → is_at other n s ≡ false
-other_name s device other name n here differs =
-    let device_is : s.device ≡ device = eqb-true _ _ (and-left (nat_eq s.device device) _ here) in
-    let name_is : stored_name s ≡ name = same_is _ _ (and-right (nat_eq s.device device) _ here) in
-    ap (λ (k : ℕ). nat_eq k other && same (stored_name s) n) device_is ∙ (ap (λ (m : Named). nat_eq device other && same m n) name_is ∙ differs)
+    held : (d : ℕ) (k : Hash) (b : Bool) → nat_eq d device ≡ b → t.objects.holds d k ≡ s.objects.holds d k
+    held d k true is = let at : d ≡ device = eqb-true d device is in
+        subst (λ (e : ℕ). t.objects.holds e k ≡ s.objects.holds e k) (sym at) (r.holds alone k (stands.told device k))
+    held d k false is = r.elsewhere alone d k (apart d is)
 
-pub put_elsewhere : (list : List Stored) (device : ℕ) (name : Named) (w : Write) (other : ℕ) (n : Named) → nat_eq device other && same name n ≡ false
-    → state_at (put_at list device name w) other n ≡ state_at list other n
-put_elsewhere [] device name w other n differs = rw differs refl
-put_elsewhere (s ∷ ss) device name w other n differs = by_test (is_at device name s) refl (put_elsewhere ss device name w other n differs)
-  where
-    by_other : (b : Bool) → is_at other n s ≡ b → state_at (put_at ss device name w) other n ≡ state_at ss other n
-        → state_at (s ∷ put_at ss device name w) other n ≡ state_at (s ∷ ss) other n
-    by_other true there rest = simp there
-    by_other false elsewhere rest = simp elsewhere rest
-
-    by_test : (b : Bool) → is_at device name s ≡ b → state_at (put_at ss device name w) other n ≡ state_at ss other n
-        → state_at (put_at (s ∷ ss) device name w) other n ≡ state_at (s ∷ ss) other n
-    by_test true here rest =
-        let absent : is_at other n s ≡ false = other_name s device other name n here differs in simp (here, absent)
-    by_test false elsewhere rest = simp elsewhere (by_other (is_at other n s) refl rest)
+    still : (d : ℕ) (k : Hash) (b : Bool) → nat_eq d device ≡ b → (t.objects.seen (s.nodes.lock d k)).told ≡ true
+    still d k true is = let at : d ≡ device = eqb-true d device is in
+        subst (λ (e : ℕ). (t.objects.seen (s.nodes.lock e k)).told ≡ true) (sym at) (r.told k (stands.told device k))
+    still d k false is = ap (λ (h : History). h.told) (r.others d k (apart d is)) ∙ stands.told d k

@@ -1,34 +1,91 @@
 -- What is promised of runs. (This project's own.)
-use Rattle.std.specs.Prelude.{◌≡◌, ℕ, ◌+◌, List, [], ◌++◌}
-use Rattle.sw_hashpath.specs.declared.name.Name.{Name}
+use Rattle.std.specs.Prelude.{◌≡◌, ⊤, ℕ, Bool, true, false, List, [], ◌∷◌, ◌++◌, nat_eq, if◌then◌else◌}
+use Rattle.sw_peer.specs.Journals.{Hash, written}
+use Rattle.sw_peer.specs.declared.answer.Answer.{Answer}
+use Rattle.sw_peer.specs.declared.answer.Answer.TheVariants as answers
+use Rattle.sw_peer.specs.declared.entry.ObjEntry.{ObjEntry}
+use Rattle.sw_peer.specs.declared.line.Event.{Event}
+use Rattle.sw_peer.specs.declared.line.Event.TheVariants.{Changed, Read}
+use Rattle.sw_peer.specs.declared.line.Line.{Line}
 use Rattle.sw_state.specs.States.{state_of}
-use Rattle.sw_core.specs.Machine.{Machine, Runs, empty_machine}
-use Rattle.sw_core.specs.Named.{Named}
-use Rattle.sw_core.specs.Runs.{Opens}
-use Rattle.sw_core.specs.Trails.{front_by, reached_by}
-use Rattle.sw_core.specs.World.{World, history_of}
-use Rattle.sw_core.specs.declared.step_line.StepLine.{StepLine}
+use Rattle.sw_state.specs.declared.write.Write.{Write}
+use Rattle.sw_core.specs.Machine.{Came, Machine, Restarted, RunLine, Runs, Went, empty_machine, state}
 
--- after a run there have reached what had reached before it, and then what its lines tell
+-- the writes of a hash that reached a device, as the entries of the lines tell
+abbrev pub told_by : List RunLine → ℕ → Hash → List Write
+told_by [] device hash = []
+told_by (Came line ∷ lines) device hash = (if nat_eq line.device device then written hash line.added else []) ++ told_by lines device hash
+told_by (Went from message ∷ lines) device hash = told_by lines device hash
+told_by (Restarted d ∷ lines) device hash = told_by lines device hash
+
+abbrev pub is_failed : Answer → Bool
+is_failed (answers.Done front) = false
+is_failed (answers.Buried front) = false
+is_failed (answers.Conflict time) = false
+is_failed (answers.NotFound time) = false
+is_failed (answers.Mismatch second) = false
+is_failed answers.Exists = false
+is_failed answers.JournalFull = false
+is_failed (answers.Damaged bad) = false
+is_failed answers.Failed = true
+is_failed answers.NoMemory = false
+
+-- the hash of the name that the step is of
+abbrev pub hash_in : Event → Hash
+hash_in (Changed name change answer) = name.hash
+hash_in (Read name got) = name.hash
+
+-- whether a changing step failed
+abbrev pub has_failed : Event → Bool
+has_failed (Changed name change answer) = is_failed answer
+has_failed (Read name got) = false
+
+-- no changing step failed
+abbrev pub NoneFailed : List RunLine → Type 0
+NoneFailed [] = ⊤
+NoneFailed (Came line ∷ lines) = (has_failed line.event ≡ false) × NoneFailed lines
+NoneFailed (Went from message ∷ lines) = NoneFailed lines
+NoneFailed (Restarted d ∷ lines) = NoneFailed lines
+
+-- no lock has a doubt
+abbrev pub NoDoubts : (ℕ → Hash → ℕ) → Machine → Type 0
+NoDoubts lock m = (device : ℕ) (hash : Hash) → (m.seen (lock device hash)).journal.doubts ≡ []
+
+-- where no step failed, there has reached what had reached before the run, and then what the entries of its lines tell
 abbrev pub RunReaches : Type 0
-RunReaches = (m : Machine) (lines : List StepLine) (after : Machine) → Runs m lines after → (device : ℕ) (name : Named)
-    → after.reached device name ≡ m.reached device name ++ reached_by lines device name
+RunReaches = (lock : ℕ → Hash → ℕ) (m : Machine) (lines : List RunLine) (after : Machine) → Runs lock m lines after → NoDoubts lock m → NoneFailed lines
+    → (device : ℕ) (hash : Hash) → after.reached device hash ≡ m.reached device hash ++ told_by lines device hash
 
--- after a run from nothing there has reached what its lines tell, and nothing else
+-- and the device stands for the state of that
+abbrev pub RunStands : Type 0
+RunStands = (lock : ℕ → Hash → ℕ) (m : Machine) (lines : List RunLine) (after : Machine) → Runs lock m lines after → NoDoubts lock m → NoneFailed lines
+    → (device : ℕ) (hash : Hash) → state after device hash ≡ state_of (m.reached device hash ++ told_by lines device hash)
+
+-- after a run from nothing without failures there has reached what its lines tell, and nothing else
 abbrev pub RunFromNothing : Type 0
-RunFromNothing = (lines : List StepLine) (after : Machine) → Runs empty_machine lines after → (device : ℕ) (name : Named)
-    → after.reached device name ≡ reached_by lines device name
+RunFromNothing = (lock : ℕ → Hash → ℕ) (lines : List RunLine) (after : Machine) → Runs lock empty_machine lines after → NoneFailed lines
+    → (device : ℕ) (hash : Hash) → after.reached device hash ≡ told_by lines device hash
 
--- a front grows by the writes that the lines added
-abbrev pub RunCounts : Type 0
-RunCounts = (m : Machine) (lines : List StepLine) (after : Machine) → Runs m lines after → (device : ℕ)
-    → after.fronts device ≡ m.fronts device + front_by lines device
+-- the entries that the lines added to a lock's journal
+abbrev pub entered_by : (ℕ → Hash → ℕ) → List RunLine → ℕ → List ObjEntry
+entered_by lock [] l = []
+entered_by lock (Came line ∷ lines) l = (if nat_eq (lock line.device (hash_in line.event)) l then line.added else []) ++ entered_by lock lines l
+entered_by lock (Went from message ∷ lines) l = entered_by lock lines l
+entered_by lock (Restarted d ∷ lines) l = entered_by lock lines l
+
+abbrev pub NoneRestarted : List RunLine → Type 0
+NoneRestarted [] = ⊤
+NoneRestarted (Came line ∷ lines) = NoneRestarted lines
+NoneRestarted (Went from message ∷ lines) = NoneRestarted lines
+NoneRestarted (Restarted d ∷ lines) = ⊥
+
+-- where no device was restarted, a journal grows by the entries that the lines added to it, failed steps or not: so its front is the
+-- number of those
+abbrev pub RunEnters : Type 0
+RunEnters = (lock : ℕ → Hash → ℕ) (m : Machine) (lines : List RunLine) (after : Machine) → Runs lock m lines after → NoneRestarted lines
+    → (l : ℕ) → (after.seen l).journal.entries ≡ (m.seen l).journal.entries ++ entered_by lock lines l
 
 -- two runs, one after the other, are one
 abbrev pub RunsJoin : Type 0
-RunsJoin = (m : Machine) (lines : List StepLine) (mid : Machine) (more : List StepLine) (after : Machine) → Runs m lines mid → Runs mid more after
-    → Runs m (lines ++ more) after
-
--- a world whose journals began where nothing stood opens the machine in which nothing has happened
-abbrev pub OpensNothing : Type 0
-OpensNothing = (w : World) → ((device : ℕ) (name : Name) → (history_of w device).opening name ≡ state_of []) → Opens w.began empty_machine
+RunsJoin = (lock : ℕ → Hash → ℕ) (m : Machine) (lines : List RunLine) (mid : Machine) (more : List RunLine) (after : Machine) → Runs lock m lines mid → Runs lock mid more after
+    → Runs lock m (lines ++ more) after

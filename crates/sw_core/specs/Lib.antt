@@ -1,9 +1,6 @@
-pub mod Asked
+pub mod Doors
 pub mod Laws
+pub mod Limits
 pub mod Machine
-pub mod Named
-pub mod Recording
-pub mod Runs
-pub mod Stored
-pub mod Trails
-pub mod World
+pub mod Nodes
+pub mod Shelves

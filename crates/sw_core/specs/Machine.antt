@@ -1,70 +1,116 @@
--- The machine: all devices and the writes that reached them, and the step that a call makes of it. (This project's own; the answers are
--- those of OpenStack Swift's object server, as `sw_peer` has them.)
-use Rattle.std.specs.Prelude.{◌≡◌, ℕ, ◌+◌, Bool, true, false, ◌&&◌, List, [], ◌∷◌, ◌++◌, Option, None, Some, nat_eq, if◌then◌else◌, ◌⊎◌}
-use Rattle.sw_peer.specs.Steps.{Change, got_of, made_answer, refusal_of, write_of}
+-- The machine: what reached every device, what the journals of its locks have, and the messages that were ever sent. (This project's
+-- own; the answers are those of OpenStack Swift's object server, as `sw_peer` has them.)
+use Rattle.std.specs.Prelude.{◌≡◌, ◌≢◌, ⊤, ℕ, ◌≤◌, Bool, true, false, ◌&&◌, List, [], ◌∷◌, ◌++◌, nat_eq, if◌then◌else◌, Contains}
+use Rattle.std.specs.Str.{bytes_eq}
+use Rattle.sw_core.specs.Limits.{empty_journal}
+use Rattle.sw_hashpath.specs.declared.name.Name.{Name}
+use Rattle.sw_peer.specs.Histories.{History, StepChanges, StepReads}
+use Rattle.sw_peer.specs.Journals.{Hash}
+use Rattle.sw_peer.specs.Steps.{write_of}
 use Rattle.sw_peer.specs.declared.answer.Answer.{Answer}
+use Rattle.sw_peer.specs.declared.change.Change.{Change}
+use Rattle.sw_peer.specs.declared.change.Change.TheVariants.{Receive}
+use Rattle.sw_peer.specs.declared.entry.ObjEntry.{ObjEntry}
 use Rattle.sw_peer.specs.declared.got.Got.{Got}
-use Rattle.sw_state.specs.States.{state_of}
+use Rattle.sw_peer.specs.declared.line.Event.{Event}
+use Rattle.sw_peer.specs.declared.line.Event.TheVariants.{Changed, Read}
+use Rattle.sw_peer.specs.declared.line.Line.{Line}
+use Rattle.sw_peer.specs.declared.link.Link.{Link}
+use Rattle.sw_peer.specs.declared.link.Link.TheVariants.{Local, Sent}
+use Rattle.sw_state.specs.States.{state_of, writes_of}
 use Rattle.sw_state.specs.declared.state.State.{State}
 use Rattle.sw_state.specs.declared.write.Write.{Write}
-use Rattle.sw_core.specs.Asked.{change_of}
-use Rattle.sw_core.specs.Named.{Named, named, same}
-use Rattle.sw_core.specs.declared.step_line.StepAnswer.{StepAnswer}
-use Rattle.sw_core.specs.declared.step_line.StepAnswer.TheVariants.{Object, Read}
-use Rattle.sw_core.specs.declared.step_line.StepLine.{StepLine}
+
+-- a write on its way to a device
+pub record Message : Type 0 where
+  pub to : ℕ
+  pub name : Name
+  pub write : Write
 
 pub record Machine : Type 0 where
-  pub reached : ℕ → Named → List Write  -- the writes of a name that reached a device, in the order in which they came
-  pub fronts : ℕ → ℕ  -- how many entries a device's journal has
+  pub reached : ℕ → Hash → List Write  -- the writes of a hash that reached a device, in order. Of a step that failed: where it was made
+  pub seen : ℕ → History  -- each lock: its journal, and what it began from. Its front is the number of entries
+  pub sent : List Message  -- all messages that were ever sent
+
+-- the history of a lock where nothing has happened
+abbrev pub empty_history : History
+empty_history = record { told = true; opening = λ hash. state_of []; journal = empty_journal; faults = 0 }
 
 -- the machine in which nothing has happened
 abbrev pub empty_machine : Machine
-empty_machine = record { reached = λ device name. []; fronts = λ device. 0 }
+empty_machine = record { reached = λ device hash. []; seen = λ l. empty_history; sent = [] }
 
--- what a name stands for at a device
-abbrev pub state : Machine → ℕ → Named → State
-state m device name = state_of (m.reached device name)
+-- what a hash stands for at a device
+abbrev pub state : Machine → ℕ → Hash → State
+state m device hash = state_of (m.reached device hash)
 
--- the machine after a write of a name has reached a device
-abbrev pub with_write : Machine → ℕ → Named → Write → Machine
-with_write m device name w = record {
-  reached = λ d n. if nat_eq device d && same name n then m.reached d n ++ w ∷ [] else m.reached d n;
-  fronts = λ d. if nat_eq device d then m.fronts d + 1 else m.fronts d;
-}
+-- what reached, with these writes of a hash at a device
+abbrev pub reached_with : (ℕ → Hash → List Write) → ℕ → Hash → List Write → ℕ → Hash → List Write
+reached_with reached device hash ws d k = if nat_eq device d && bytes_eq hash k then reached d k ++ ws else reached d k
 
--- ---- a step at a device, of a name: its answer, whether it added its write, and the machine after it
+abbrev pub made_writes : Change → Bool → List Write
+made_writes change made = if made then write_of change ∷ [] else []
 
--- what stands refuses the change
-pub record Refuses (m : Machine) (device : ℕ) (name : Named) (change : Change) (answer : Answer) (changed : Bool) (after : Machine) : Type 0 where
-  pub refused : refusal_of (state m device name) change ≡ Some answer
-  pub not_changed : changed ≡ false
-  pub same_machine : after ≡ m
+-- a line of a run: a step that came to a device, a message that was sent, or a restart
+pub data RunLine : Type 0 where
+  Came : (line : Line) → RunLine
+  Went : (from : ℕ) (message : Message) → RunLine
+  Restarted : (device : ℕ) → RunLine
 
--- the write of the change is added
-pub record Makes (m : Machine) (device : ℕ) (name : Named) (change : Change) (answer : Answer) (changed : Bool) (after : Machine) : Type 0 where
-  pub not_refused : refusal_of (state m device name) change ≡ None
-  pub answer_is : answer ≡ made_answer (state m device name) change (m.fronts device + 1)
-  pub is_changed : changed ≡ true
-  pub added : after ≡ with_write m device name (write_of change)
+module _ (lock : ℕ → Hash → ℕ) where
+  -- a step that may change something: that of the lock's history, with what reached in place of what is held
+  pub record MachineMakes (m : Machine) (device : ℕ) (name : Name) (change : Change) (answer : Answer) (added : List ObjEntry) (after : Machine) : Type 0 where
+    pub step : StepChanges true (m.seen (lock device name.hash)) (state m device name.hash) name change answer (after.seen (lock device name.hash)) (state after device name.hash)
+    pub added_is : added ≡ step.added
+    pub reached : (d : ℕ) (k : Hash) → after.reached d k ≡ reached_with m.reached device name.hash (made_writes change step.made) d k
+    pub elsewhere : (l : ℕ) → l ≢ lock device name.hash → after.seen l ≡ m.seen l
+    pub sent : after.sent ≡ m.sent
 
--- what stands is read
-pub record Reads (m : Machine) (device : ℕ) (name : Named) (got : Got) (changed : Bool) (after : Machine) : Type 0 where
-  pub got_is : got ≡ got_of (state m device name) (m.fronts device)
-  pub not_changed : changed ≡ false
-  pub same_machine : after ≡ m
+  -- a read
+  pub record MachineReads (m : Machine) (device : ℕ) (name : Name) (got : Got) (added : List ObjEntry) (after : Machine) : Type 0 where
+    pub step : StepReads true (m.seen (lock device name.hash)) name.hash got (after.seen (lock device name.hash)) (state m device name.hash)
+    pub added_is : added ≡ step.added
+    pub reached : (d : ℕ) (k : Hash) → after.reached d k ≡ m.reached d k
+    pub elsewhere : (l : ℕ) → l ≢ lock device name.hash → after.seen l ≡ m.seen l
+    pub sent : after.sent ≡ m.sent
 
-abbrev pub Answers : Machine → ℕ → Named → Option Change → StepAnswer → Bool → Machine → Type 0
-Answers m device name (Some change) (Object answer) changed after =
-    Refuses m device name change answer changed after ⊎ Makes m device name change answer changed after
-Answers m device name None (Read got) changed after = Reads m device name got changed after
-Answers m device name (Some change) (Read got) changed after = ⊥
-Answers m device name None (Object answer) changed after = ⊥
+  -- a message that was sent may arrive at any later step, any number of times
+  abbrev pub MayCome : Machine → Link → ℕ → Name → Change → Type 0
+  MayCome m Local device name change = ⊤
+  MayCome m Sent device name change = (w : Write) × (change ≡ Receive w) × Contains m.sent (record { to = device; name = name; write = w })
 
--- a step of the machine, as its line tells it
-abbrev pub Steps : Machine → StepLine → Machine → Type 0
-Steps m line after = Answers m line.step.device (named line.step) (change_of line.step.call) line.answer line.changed after
+  -- a step that comes to a device over this link
+  abbrev pub MachineComes : Machine → Link → ℕ → Event → List ObjEntry → Machine → Type 0
+  MachineComes m link device (Changed name change answer) added after = MayCome m link device name change × MachineMakes m device name change answer added after
+  MachineComes m link device (Read name got) added after = MachineReads m device name got added after
 
--- the steps of these lines, one after the other
-abbrev pub Runs : Machine → List StepLine → Machine → Type 0
-Runs m [] after = after ≡ m
-Runs m (line ∷ lines) after = (mid : Machine) × Steps m line mid × Runs mid lines after
+  -- each lock of a device begins anew with what reached
+  pub record MachineRestarts (m : Machine) (device : ℕ) (after : Machine) : Type 0 where
+    pub told : (k : Hash) → (after.seen (lock device k)).told ≡ (m.seen (lock device k)).told
+    pub opening : (k : Hash) → (after.seen (lock device k)).opening k ≡ state m device k
+    pub entries : (k : Hash) → (after.seen (lock device k)).journal.entries ≡ []
+    pub doubts : (k : Hash) → (after.seen (lock device k)).journal.doubts ≡ []
+    pub max_entries : (k : Hash) → (after.seen (lock device k)).journal.max_entries ≡ (m.seen (lock device k)).journal.max_entries
+    pub max_bytes : (k : Hash) → (after.seen (lock device k)).journal.max_bytes ≡ (m.seen (lock device k)).journal.max_bytes
+    pub faults : (k : Hash) → (m.seen (lock device k)).faults ≤ (after.seen (lock device k)).faults
+    pub elsewhere : (d : ℕ) (k : Hash) → d ≢ device → after.seen (lock d k) ≡ m.seen (lock d k)
+    pub reached : (d : ℕ) (k : Hash) → after.reached d k ≡ m.reached d k
+    pub sent : after.sent ≡ m.sent
+
+  -- a device sends a write that it stands for
+  pub record MachineSends (m : Machine) (from : ℕ) (message : Message) (after : Machine) : Type 0 where
+    pub carried : Contains (writes_of (state m from message.name.hash)) message.write
+    pub reached : (d : ℕ) (k : Hash) → after.reached d k ≡ m.reached d k
+    pub seen : (l : ℕ) → after.seen l ≡ m.seen l
+    pub sent : after.sent ≡ m.sent ++ message ∷ []
+
+  -- a step of the machine, as its line tells it
+  abbrev pub Steps : Machine → RunLine → Machine → Type 0
+  Steps m (Came line) after = MachineComes m line.link line.device line.event line.added after
+  Steps m (Went from message) after = MachineSends m from message after
+  Steps m (Restarted device) after = MachineRestarts m device after
+
+  -- the steps of these lines, one after another
+  abbrev pub Runs : Machine → List RunLine → Machine → Type 0
+  Runs m [] after = after ≡ m
+  Runs m (line ∷ lines) after = (mid : Machine) × Steps m line mid × Runs mid lines after

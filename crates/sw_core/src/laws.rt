@@ -1,20 +1,26 @@
 //! Laws of runs. Each function does nothing: its clause is the law.
 
-ghost use Rattle.sw_core.specs.Laws.{OpensNothing, RunCounts, RunFromNothing, RunReaches, RunsJoin};
+ghost use Rattle.sw_core.specs.Doors.{ChangeRuns, ReadRuns, RestartRuns};
+ghost use Rattle.sw_core.specs.Laws.{RunEnters, RunFromNothing, RunReaches, RunStands, RunsJoin};
 
-/// After a run there have reached what had reached before it, and then what its lines tell.
+/// After a run in which no step failed, there have reached what had reached before it, and then what its lines tell.
 pub fn run_reaches()
     ensures { RunReaches }
 {}
 
-/// After a run from nothing there has reached what its lines tell, and nothing else.
+/// And each device stands for the state of that.
+pub fn run_stands()
+    ensures { RunStands }
+{}
+
+/// After such a run from nothing there has reached what its lines tell, and nothing else.
 pub fn run_from_nothing()
     ensures { RunFromNothing }
 {}
 
-/// A front grows by the writes that the lines added.
-pub fn run_counts()
-    ensures { RunCounts }
+/// A journal grows by the entries that the lines added to it.
+pub fn run_enters()
+    ensures { RunEnters }
 {}
 
 /// Two runs, one after the other, are one.
@@ -22,7 +28,17 @@ pub fn runs_join()
     ensures { RunsJoin }
 {}
 
-/// A world whose journals began where nothing stood opens the machine in which nothing has happened.
-pub fn opens_nothing()
-    ensures { OpensNothing }
+/// A changing step of a door that is alone is one of the machine.
+pub fn change_runs()
+    ensures { ChangeRuns }
+{}
+
+/// So is a read.
+pub fn read_runs()
+    ensures { ReadRuns }
+{}
+
+/// So is a restart.
+pub fn restart_runs()
+    ensures { RestartRuns }
 {}

@@ -1,6 +1,5 @@
-use Rattle.sw_core.proofs.MachineLemmas.{run_reached}
-use Rattle.sw_core.specs.Machine.{empty_machine}
+use Rattle.sw_core.proofs.Reaching.{from_nothing}
 use Rattle.sw_core.proofs.laws.run_from_nothing.Goals as goal
 
 pub returns : goal.returns
-returns c = λ lines after run device name. run_reached empty_machine lines after run device name
+returns c = from_nothing

@@ -1,5 +1,5 @@
-use Rattle.sw_core.proofs.MachineLemmas.{run_reached}
+use Rattle.sw_core.proofs.Reaching.{reaches}
 use Rattle.sw_core.proofs.laws.run_reaches.Goals as goal
 
 pub returns : goal.returns
-returns c = run_reached
+returns c = reaches

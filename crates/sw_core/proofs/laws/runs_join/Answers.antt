@@ -1,5 +1,5 @@
-use Rattle.sw_core.proofs.MachineLemmas.{runs_join}
+use Rattle.sw_core.proofs.Reaching.{joins}
 use Rattle.sw_core.proofs.laws.runs_join.Goals as goal
 
 pub returns : goal.returns
-returns c = runs_join
+returns c = joins

@@ -1,5 +1,0 @@
-use Rattle.std.proofs.Common.{refl}
-use Rattle.sw_core.proofs.door.PlainWorldObjectDoor.put.Goals as goal
-
-pub returns-clause-changed : goal.returns-clause-changed
-returns-clause-changed c = c.change.ensures _ refl

@@ -1,0 +1,33 @@
+-- How a door that is alone stands for the machine: each of its steps is one of the machine's. (This project's own.)
+use Rattle.std.specs.Prelude.{◌≡◌, ℕ, Bool, true}
+use Rattle.sw_hashpath.specs.declared.name.Name.{Name}
+use Rattle.sw_peer.specs.Journals.{Hash}
+use Rattle.sw_peer.specs.Sights.{IsMade, IsRead, Restarts, Sight}
+use Rattle.sw_peer.specs.declared.answer.Answer.{Answer}
+use Rattle.sw_peer.specs.declared.change.Change.{Change}
+use Rattle.sw_peer.specs.declared.got.Got.{Got}
+use Rattle.sw_peer.specs.declared.link.Link.{Link}
+use Rattle.sw_core.specs.Machine.{Machine, MachineMakes, MachineReads, MachineRestarts, state}
+
+-- the devices hold what reached, and their journals are the machine's
+pub record StandsFor (s : Sight) (m : Machine) : Type 0 where
+  pub states : (device : ℕ) (hash : Hash) → s.objects.holds device hash ≡ state m device hash
+  pub seen : (l : ℕ) → s.objects.seen l ≡ m.seen l
+  pub told : (device : ℕ) (hash : Hash) → (s.objects.seen (s.nodes.lock device hash)).told ≡ true
+
+-- a changing step of a door that is alone is one of the machine, with its answer and the entries that it added
+abbrev pub ChangeRuns : Type 0
+ChangeRuns = (link : Link) (device : ℕ) (name : Name) (change : Change) (s : Sight) (answer : Answer) (t : Sight) (m : Machine)
+    → StandsFor s m → t.alone ≡ true → (made : IsMade link device name change s answer t)
+    → (after : Machine) × MachineMakes s.nodes.lock m device name change answer made.step.added after × StandsFor t after
+
+-- so is a read
+abbrev pub ReadRuns : Type 0
+ReadRuns = (link : Link) (device : ℕ) (name : Name) (s : Sight) (got : Got) (t : Sight) (m : Machine)
+    → StandsFor s m → t.alone ≡ true → (read : IsRead link device name s got t)
+    → (after : Machine) × MachineReads s.nodes.lock m device name got read.step.added after × StandsFor t after
+
+-- so is a restart
+abbrev pub RestartRuns : Type 0
+RestartRuns = (device : ℕ) (s t : Sight) (m : Machine) → StandsFor s m → t.alone ≡ true → Restarts device s t
+    → (after : Machine) × MachineRestarts s.nodes.lock m device after × StandsFor t after
