@@ -1,7 +1,9 @@
 pub mod Asking
 pub mod Contents
+pub mod Laws
 pub mod Places
 pub mod Replies
 pub mod Serving
 pub mod Showing
 pub mod Targets
+pub mod Tests

@@ -8,7 +8,7 @@ use Rattle.sw_hashpath.specs.declared.bad_name.BadName.{BadName}
 use Rattle.sw_hashpath.specs.declared.name.Name.{Name}
 use Rattle.sw_ring.specs.declared.ring.Ring.{Ring}
 use Rattle.sw_object_server.specs.declared.asked.Asked.{Asked}
-use Rattle.sw_object_server.specs.declared.asked.Asked.TheVariants.{Refused, Step}
+use Rattle.sw_object_server.specs.declared.asked.Asked.TheVariants.{Refused, Change, Read}
 use Rattle.sw_object_server.specs.declared.target.Parts.{Parts}
 
 -- the first thing that is wrong with the names of a target
@@ -44,4 +44,5 @@ IsPlace ring device name = (device < length ring.devices) × IsHashed ring name
 -- a step that is asked for has such a place
 abbrev pub IsPlaced : Ring → Asked → Type 0
 IsPlaced ring (Refused status) = ⊤
-IsPlaced ring (Step device name step) = IsPlace ring device name
+IsPlaced ring (Change device name change) = IsPlace ring device name
+IsPlaced ring (Read device name head_only) = IsPlace ring device name

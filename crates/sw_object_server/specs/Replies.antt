@@ -1,5 +1,5 @@
 -- The replies of the object server to what a step is answered. (OpenStack Swift's object server, in the profile of this product.)
-use Rattle.std.specs.Prelude.{ℕ, false, List, [], ◌∷◌, codes, decimal, Option, None, Some}
+use Rattle.std.specs.Prelude.{ℕ, Bool, true, false, List, [], ◌∷◌, codes, decimal, Option, None, Some, is_some}
 use Rattle.hex.specs.Hex.{encode_lower}
 use Rattle.sw_hashpath.specs.BadFiles.{bad_file_number}
 use Rattle.sw_hashpath.specs.declared.decode_error.BadFile.{BadFile}
@@ -58,3 +58,17 @@ reply_to made answers.JournalFull = bare 503
 reply_to made (answers.Damaged bad) = damaged bad
 reply_to made answers.Failed = bare 507
 reply_to made answers.NoMemory = bare 500
+
+-- Whether this reply shows what stands or what is damaged. The step has changed nothing then, and nothing was made ready for the reply: no
+-- other one can find no memory
+abbrev pub shows_field : Answer → Bool
+shows_field (answers.Conflict time) = true
+shows_field (answers.NotFound time) = is_some time
+shows_field (answers.Damaged bad) = true
+shows_field (answers.Done front) = false
+shows_field (answers.Buried front) = false
+shows_field (answers.Mismatch second) = false
+shows_field answers.Exists = false
+shows_field answers.JournalFull = false
+shows_field answers.Failed = false
+shows_field answers.NoMemory = false

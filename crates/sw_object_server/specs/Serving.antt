@@ -1,47 +1,46 @@
--- What becomes of a request over a door: the one step that it asks for is called there, and its answer replied. (This project's own.)
-use Rattle.std.specs.Prelude.{◌≡◌, ℕ, Bool, false, None, ◌⊎◌}
+-- What becomes of a request over a door: the one step that it asks for comes once to the device, and its answer is replied. (This project's
+-- own.)
+--
+-- The states of the door are of any type D: they are looked at through its sight alone.
+use Rattle.std.specs.Prelude.{◌≡◌, ℕ, Bool, true, ◌⊎◌, Ok}
 use Rattle.sw_hashpath.specs.declared.name.Name.{Name}
 use Rattle.sw_http.specs.declared.request.Request.{Request}
 use Rattle.sw_http.specs.declared.response.Response.{Response}
-use Rattle.sw_peer.specs.Sights.{Sight, IsChanged, IsRead}
-use Rattle.sw_peer.specs.Steps.{Change, is_entered, write_of}
-use Rattle.sw_peer.specs.Steps.Change.{Put, Post, Delete, Receive}
+use Rattle.sw_peer.specs.Sights.{Calls, IsMade, IsRead, Sight}
+use Rattle.sw_peer.specs.Steps.{write_of}
 use Rattle.sw_peer.specs.declared.answer.Answer.{Answer}
+use Rattle.sw_peer.specs.declared.change.Change.{Change}
 use Rattle.sw_peer.specs.declared.got.Got.{Got}
+use Rattle.sw_peer.specs.declared.link.Link.TheVariants.{Local}
 use Rattle.sw_ring.specs.declared.ring.Ring.{Ring}
 use Rattle.sw_object_server.specs.Asking.{IsAsked}
-use Rattle.sw_object_server.specs.Replies.{bare, made_reply, reply_to}
-use Rattle.sw_object_server.specs.Showing.{IsShown}
+use Rattle.sw_object_server.specs.Replies.{bare, made_reply, reply_to, shows_field}
+use Rattle.sw_object_server.specs.Showing.{IsShown, shows_fields}
 use Rattle.sw_object_server.specs.declared.asked.Asked.{Asked}
 use Rattle.sw_object_server.specs.declared.asked.Asked.TheVariants as asks
-use Rattle.sw_object_server.specs.declared.asked.Step.{Step}
-use Rattle.sw_object_server.specs.declared.asked.Step.TheVariants as steps
+
+-- the step came once, said at the device itself, and was answered so; it asks for no hashes and no files
+pub record IsStepped {A : Type 0} (step : Sight → A → Sight → Type 0) (old : Sight) (answer : A) (new : Sight) : Type 0 where
+  pub called : Calls step old Local (Ok answer) new
+  pub asks : new.asks ≡ old.asks
 
 -- ---- a reply
 
--- the change was called for, and its answer is replied
+-- the change came, and its answer is replied
 abbrev pub IsChangeServed : Sight → Sight → ℕ → Name → Change → Response → Type 0
 IsChangeServed old new device name change response =
-    (answer : Answer) × IsChanged old new device name change answer × (response ≡ reply_to (made_reply (write_of change).kind) answer)
+    (answer : Answer) × IsStepped (IsMade Local device name change) old answer new × (response ≡ reply_to (made_reply (write_of change).kind) answer)
 
 -- the object was read, and what was got is replied
-abbrev pub IsReadServed : Sight → Sight → ℕ → Name → ℕ → Bool → Response → Type 0
-IsReadServed old new device name moment head_only response =
-    (got : Got) × IsRead old new device name got × IsShown got moment head_only response
-
--- the step was called for, and its answer is replied
-abbrev pub IsStepServed : Sight → Sight → ℕ → Name → ℕ → Step → Response → Type 0
-IsStepServed old new device name moment (steps.Put time content none_match) response =
-    IsChangeServed old new device name (Put time content none_match) response
-IsStepServed old new device name moment (steps.Post time heads) response = IsChangeServed old new device name (Post time heads) response
-IsStepServed old new device name moment (steps.Delete time) response = IsChangeServed old new device name (Delete time None) response
-IsStepServed old new device name moment (steps.Receive write) response = IsChangeServed old new device name (Receive write) response
-IsStepServed old new device name moment (steps.Get head_only) response = IsReadServed old new device name moment head_only response
+abbrev pub IsReadServed : Sight → Sight → ℕ → Name → Bool → ℕ → Response → Type 0
+IsReadServed old new device name head_only moment response =
+    (got : Got) × IsStepped (IsRead Local device name) old got new × IsShown got moment head_only response
 
 -- what was asked for was done. A refused request leaves the door as it was
 abbrev pub IsServed : {D : Type 0} → (D → Sight) → D → D → ℕ → Asked → Response → Type 0
 IsServed sight old new moment (asks.Refused status) response = (new ≡ old) × (response ≡ bare status)
-IsServed sight old new moment (asks.Step device name step) response = IsStepServed (sight old) (sight new) device name moment step response
+IsServed sight old new moment (asks.Change device name change) response = IsChangeServed (sight old) (sight new) device name change response
+IsServed sight old new moment (asks.Read device name head_only) response = IsReadServed (sight old) (sight new) device name head_only moment response
 
 -- the request was answered, by what it asks for
 abbrev pub IsAnswered : {D : Type 0} → (D → Sight) → D → D → Ring → Request → ℕ → Response → Type 0
@@ -49,26 +48,22 @@ IsAnswered sight old new ring r moment response = (asked : Asked) × IsAsked rin
 
 -- ---- want of memory
 
--- the change was called for, and it wasn't entered
+-- the change came and was refused, or met a damaged file: it changed nothing
 abbrev pub IsChangeLeft : Sight → Sight → ℕ → Name → Change → Type 0
-IsChangeLeft old new device name change = (answer : Answer) × IsChanged old new device name change answer × (is_entered answer ≡ false)
+IsChangeLeft old new device name change =
+    (answer : Answer) × IsStepped (IsMade Local device name change) old answer new × (shows_field answer ≡ true)
 
 -- the object was read
-abbrev pub IsReadLeft : Sight → Sight → ℕ → Name → Type 0
-IsReadLeft old new device name = (got : Got) × IsRead old new device name got
+abbrev pub IsReadLeft : Sight → Sight → ℕ → Name → ℕ → Type 0
+IsReadLeft old new device name moment = (got : Got) × IsStepped (IsRead Local device name) old got new × (shows_fields got moment ≡ true)
 
--- the step was called for, and changed nothing
-abbrev pub IsStepLeft : Sight → Sight → ℕ → Name → Step → Type 0
-IsStepLeft old new device name (steps.Put time content none_match) = IsChangeLeft old new device name (Put time content none_match)
-IsStepLeft old new device name (steps.Post time heads) = IsChangeLeft old new device name (Post time heads)
-IsStepLeft old new device name (steps.Delete time) = IsChangeLeft old new device name (Delete time None)
-IsStepLeft old new device name (steps.Receive write) = IsChangeLeft old new device name (Receive write)
-IsStepLeft old new device name (steps.Get head_only) = IsReadLeft old new device name
+-- the step that was asked for came, and changed nothing. A refused request has none
+abbrev pub IsLeft : Sight → Sight → ℕ → Asked → Type 0
+IsLeft old new moment (asks.Refused status) = ⊥
+IsLeft old new moment (asks.Change device name change) = IsChangeLeft old new device name change
+IsLeft old new moment (asks.Read device name head_only) = IsReadLeft old new device name moment
 
-abbrev pub IsLeft : Sight → Sight → Asked → Type 0
-IsLeft old new (asks.Refused status) = ⊥
-IsLeft old new (asks.Step device name step) = IsStepLeft old new device name step
-
--- no reply was made: the door wasn't called, or the one step that the request asks for was, and changed nothing
-abbrev pub IsGivenUp : {D : Type 0} → (D → Sight) → D → D → Ring → Request → Type 0
-IsGivenUp sight old new ring r = (new ≡ old) ⊎ ((asked : Asked) × IsAsked ring r asked × IsLeft (sight old) (sight new) asked)
+-- No reply was made. No step came, and the door is as it was; or the one step came that the request asks for, and changed nothing: then it
+-- was its reply that found no memory
+abbrev pub IsGivenUp : {D : Type 0} → (D → Sight) → D → D → Ring → Request → ℕ → Type 0
+IsGivenUp sight old new ring r moment = (new ≡ old) ⊎ ((asked : Asked) × IsAsked ring r asked × IsLeft (sight old) (sight new) moment asked)

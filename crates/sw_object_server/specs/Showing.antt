@@ -1,5 +1,5 @@
 -- The replies of the object server to GET and HEAD. (OpenStack Swift's object server, in the profile of this product.)
-use Rattle.std.specs.Prelude.{◌≡◌, ℕ, ◌*◌, Bool, List, [], ◌∷◌, ◌++◌, length, map, take, codes, Option, None, Some, MatchBool, if◌then◌else◌}
+use Rattle.std.specs.Prelude.{◌≡◌, ℕ, ◌*◌, Bool, true, false, not, List, [], ◌∷◌, ◌++◌, length, map, take, codes, Option, None, Some, is_some, MatchBool, if◌then◌else◌}
 use Rattle.std.specs.Int.{div_ceil}
 use Rattle.hex.specs.Hex.{encode_lower}
 use Rattle.httpdate.specs.Date.{unix_secs, date_text}
@@ -77,3 +77,11 @@ IsShown (gots.NotFound time) moment head_only response = response ≡ not_found 
 IsShown (gots.Damaged bad) moment head_only response = response ≡ damaged bad
 IsShown gots.Failed moment head_only response = response ≡ bare 507
 IsShown gots.NoMemory moment head_only response = response ≡ bare 500
+
+-- whether the reply has fields of its own: no other one can find no memory
+abbrev pub shows_fields : Got → ℕ → Bool
+shows_fields (gots.Found time content heads front) moment = not (is_expired heads moment)
+shows_fields (gots.NotFound time) moment = is_some time
+shows_fields (gots.Damaged bad) moment = true
+shows_fields gots.Failed moment = false
+shows_fields gots.NoMemory moment = false

@@ -1,40 +1,21 @@
 use sw_hashpath::Name;
-use sw_state::{Content, Heads, Write};
-use sw_timestamp::Timestamp;
+use sw_peer::Change;
 
-/// What a request asks the nodes for.
+/// What a request asks the nodes for. A device is its place in the ring's list of devices.
 #[derive(Debug, Drop)]
 pub enum Asked {
     /// Nothing: it is refused with this status.
     Refused(u16),
-    /// A step of this name at this device, which is its place in the ring's list of devices.
-    Step { device: u8, name: Name, step: Step },
-}
-
-/// A step of a name at a node.
-#[derive(Debug, Drop)]
-pub enum Step {
-    /// The name gets this content. With `none_match` that is refused where an object stands.
-    Put {
-        time: Timestamp,
-        content: Content,
-        none_match: bool,
+    /// A step that may change the object of this name at this device.
+    Change {
+        device: u8,
+        name: Name,
+        change: Change,
     },
-    /// The object gets this metadata.
-    Post {
-        time: Timestamp,
-        heads: Heads,
-    },
-    /// The name is deleted.
-    Delete {
-        time: Timestamp,
-    },
-    /// A write that another node has is taken over.
-    Receive {
-        write: Write,
-    },
-    /// The object is read, for its head alone or with its body.
-    Get {
+    /// A read of that object, for its head alone or with its body.
+    Read {
+        device: u8,
+        name: Name,
         head_only: bool,
     },
 }

@@ -1,8 +1,8 @@
 //! The object server: what a request asks the nodes for, and what is replied.
 //!
-//! [`answer`] is one request over any door. It has two halves. [`read_request`] is pure: a ring and a request alone decide which one step
-//! is [`Asked`] for, or with which status the request is refused; `specs/Asking.antt` has the tests in their order. The other half calls
-//! the door for that step and replies to its answer, by `specs/Replies.antt` and `specs/Showing.antt`.
+//! [`answer`] is one request over any door. It has two halves. [`read_request`] is pure: a ring and a request alone decide what is
+//! [`Asked`] for, which is one step at most, or with which status the request is refused; `specs/Asking.antt` has the tests in their order.
+//! The other half calls the door for that step and replies to its answer, by `specs/Replies.antt` and `specs/Showing.antt`.
 //!
 //! The body of a PUT is moved into the content that is written, and the body of what a GET finds into its reply: neither is copied.
 //!
@@ -12,7 +12,8 @@
 #![tactic(auto)]
 
 mod asked;
-mod changing;
+pub mod laws;
+mod making;
 mod posting;
 mod putting;
 mod reading;
@@ -20,13 +21,12 @@ mod replies;
 mod serving;
 mod showing;
 mod target;
-#[cfg(test)]
-mod tests;
 mod verb;
 mod verdict;
 
-pub use asked::{Asked, Step};
+pub use asked::Asked;
 pub use reading::read_request;
-pub use replies::bare;
+pub use replies::{bare, made_reply, reply_to};
 pub use serving::answer;
+pub use showing::shown;
 pub use target::{at_slash, decoded, slash_count};

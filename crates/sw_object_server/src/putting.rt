@@ -1,9 +1,8 @@
 ghost use Rattle.std.specs.Prelude.{◌≡◌, true, IfOk};
 ghost use Rattle.std.specs.Str.{is_utf8 as is_utf8_text};
-ghost use Rattle.sw_object_server.specs.Asking.{Puts, PutsBody, PutsType, put_content as put_content_of, put_step as put_step_of};
+ghost use Rattle.sw_object_server.specs.Asking.{Puts, PutsBody, PutsType, put_content as put_content_of, put_change as put_change_of};
 ghost use Rattle.sw_object_server.specs.Contents.{IsContent};
 
-use crate::asked::Step;
 use crate::verdict::Verdict;
 use md5::{Digest, Md5};
 use std::alloc::Global;
@@ -11,6 +10,7 @@ use sw_fields::{agrees_with, asks_for_none, heads_of, is_replicated, type_of};
 use sw_hashpath::Name;
 use sw_http::{Body, FieldList, Request};
 use sw_outside::{Bytes, NoMemory};
+use sw_peer::Change;
 use sw_state::{Content, Heads, Kind, Write};
 use sw_timestamp::Timestamp;
 
@@ -21,7 +21,7 @@ pub(crate) fn read_put(
     name: &Name,
     request: Request,
 ) -> Result<Verdict, NoMemory>
-    ensures { IfOk result (λ verdict. Puts name.now request verdict time) }
+    ensures { IfOk result (Puts name.now request time) }
 {
     let Request {
         method: _,
@@ -67,7 +67,7 @@ fn read_typed(
     fields: &FieldList,
 ) -> Result<Verdict, NoMemory>
     requires { is_utf8_text content_type.now ≡ true }
-    ensures { IfOk result (λ verdict. PutsType time name.now body fields.now verdict content_type.now) }
+    ensures { IfOk result (PutsType time name.now body fields.now content_type.now) }
 {
     match heads_of(alloc, time, name, fields)? {
         Some(heads) => {
@@ -83,7 +83,7 @@ fn put_content(time: Timestamp, content: Content, fields: &FieldList) -> Verdict
     ensures { result ≡ put_content_of time fields.now content }
 {
     if agrees_with(&content.etag, fields) {
-        Verdict::Made(put_step(time, content, fields))
+        Verdict::Change(put_change(time, content, fields))
     } else {
         Verdict::Refused(422)
     }
@@ -109,18 +109,18 @@ fn content_of(
     })
 }
 
-fn put_step(time: Timestamp, content: Content, fields: &FieldList) -> Step
-    ensures { result ≡ put_step_of time content fields.now }
+fn put_change(time: Timestamp, content: Content, fields: &FieldList) -> Change
+    ensures { result ≡ put_change_of time content fields.now }
 {
     if is_replicated(fields) {
-        return Step::Receive {
+        return Change::Receive {
             write: Write {
                 time,
                 kind: Kind::Put(content),
             },
         };
     }
-    Step::Put {
+    Change::Put {
         time,
         content,
         none_match: asks_for_none(fields),

@@ -1,10 +1,10 @@
 ghost use Rattle.std.specs.Prelude.{◌≡◌, decimal, IfOk};
 ghost use Rattle.std.specs.Str.{bytes_eq};
 ghost use Rattle.sw_object_server.specs.Targets.{parts_of as parts_of_path};
-ghost use Rattle.sw_object_server.specs.Asking.{AsksDevice, AsksName, IsAsked, IsTimed, IsVerdict, Posts, Puts, delete as delete_verdict};
+ghost use Rattle.sw_object_server.specs.Asking.{AsksDevice, AsksName, Deletes, IsAsked, IsTimed, IsVerdict, Posts, Puts};
 ghost use Rattle.sw_object_server.specs.Places.{IsHashed, IsPlaced};
 
-use crate::asked::{Asked, Step};
+use crate::asked::Asked;
 use crate::posting::{read_delete, read_post};
 use crate::putting::read_put;
 use crate::target::{Parts, is_for_objects, parts_of};
@@ -36,7 +36,7 @@ pub fn read_request(alloc: Global, ring: &Ring, request: Request) -> Result<Aske
 
 /// A request with this verb.
 fn read_target(alloc: Global, ring: &Ring, verb: Verb, request: Request) -> Result<Asked, NoMemory>
-    ensures asked { IfOk result (λ asked. AsksName ring.now (parts_of_path request.path) request asked verb) }
+    ensures asked { IfOk result (AsksName ring.now (parts_of_path request.path) request verb) }
     ensures placed { IfOk result (IsPlaced ring.now) }
 {
     let parts = parts_of(alloc, request.path.as_slice())?;
@@ -78,7 +78,16 @@ fn read_name(
     }
     match read_verb(alloc, verb, &name, request)? {
         Verdict::Refused(status) => Ok(Asked::Refused(status)),
-        Verdict::Made(step) => Ok(Asked::Step { device, name, step }),
+        Verdict::Change(change) => Ok(Asked::Change {
+            device,
+            name,
+            change,
+        }),
+        Verdict::Read { head_only } => Ok(Asked::Read {
+            device,
+            name,
+            head_only,
+        }),
     }
 }
 
@@ -87,8 +96,8 @@ fn read_verb(alloc: Global, verb: Verb, name: &Name, request: Request) -> Result
     ensures { IfOk result (IsVerdict verb name.now request) }
 {
     match verb {
-        Verb::Get => Ok(Verdict::Made(Step::Get { head_only: false })),
-        Verb::Head => Ok(Verdict::Made(Step::Get { head_only: true })),
+        Verb::Get => Ok(Verdict::Read { head_only: false }),
+        Verb::Head => Ok(Verdict::Read { head_only: true }),
         Verb::Put => timed_put(alloc, name, request),
         Verb::Post => timed_post(alloc, name, &request),
         Verb::Delete => Ok(timed_delete(&request)),
@@ -96,7 +105,7 @@ fn read_verb(alloc: Global, verb: Verb, name: &Name, request: Request) -> Result
 }
 
 fn timed_put(alloc: Global, name: &Name, request: Request) -> Result<Verdict, NoMemory>
-    ensures { IfOk result (λ verdict. IsTimed request.fields verdict (Puts name.now request verdict)) }
+    ensures { IfOk result (IsTimed request.fields (Puts name.now request)) }
 {
     match time_of(&request.fields) {
         Some(time) => read_put(alloc, time, name, request),
@@ -105,7 +114,7 @@ fn timed_put(alloc: Global, name: &Name, request: Request) -> Result<Verdict, No
 }
 
 fn timed_post(alloc: Global, name: &Name, request: &Request) -> Result<Verdict, NoMemory>
-    ensures { IfOk result (λ verdict. IsTimed request.now.fields verdict (Posts name.now request.now verdict)) }
+    ensures { IfOk result (IsTimed request.now.fields (Posts name.now request.now)) }
 {
     match time_of(&request.fields) {
         Some(time) => read_post(alloc, time, name, request),
@@ -114,7 +123,7 @@ fn timed_post(alloc: Global, name: &Name, request: &Request) -> Result<Verdict, 
 }
 
 fn timed_delete(request: &Request) -> Verdict
-    ensures { IsTimed request.now.fields result (λ time. result ≡ delete_verdict request.now.fields time) }
+    ensures { IsTimed request.now.fields (Deletes request.now) result }
 {
     match time_of(&request.fields) {
         Some(time) => read_delete(time, request),

@@ -1,15 +1,15 @@
-ghost use Rattle.std.specs.Prelude.{◌≡◌, [], ◌∷◌, false, decimal, IfOk, OnErr};
+ghost use Rattle.std.specs.Prelude.{◌≡◌, [], ◌∷◌, true, decimal, is_some, IfOk, OnErr};
 ghost use Rattle.sw_hashpath.specs.BadFiles.{bad_file_number as bad_file_number_of};
-ghost use Rattle.sw_peer.specs.Steps.{is_entered};
+ghost use Rattle.sw_peer.specs.Steps.{write_of};
 ghost use Rattle.sw_timestamp.specs.TimeText.{normal_text};
-ghost use Rattle.sw_object_server.specs.Replies.{at_time as at_time_reply, bare as bare_reply, created as created_reply, damaged as damaged_reply, made_reply as made_reply_to, not_found as not_found_reply, reply_to as reply_to_answer, with_field as with_field_reply};
+ghost use Rattle.sw_object_server.specs.Replies.{at_time as at_time_reply, bare as bare_reply, created as created_reply, damaged as damaged_reply, made_reply as made_reply_to, not_found as not_found_reply, reply_to as reply_to_answer, shows_field, with_field as with_field_reply};
 
 use itoa::Buffer;
 use std::alloc::Global;
 use sw_hashpath::{BadFile, hex_text};
 use sw_http::{Field, FieldList, Response};
 use sw_outside::{Bytes, NoMemory};
-use sw_peer::Answer;
+use sw_peer::{Answer, Change};
 use sw_state::Kind;
 use sw_timestamp::Timestamp;
 
@@ -26,8 +26,20 @@ pub fn bare(alloc: Global, status: u16) -> Response
     }
 }
 
-/// The reply to a write of this kind that was made.
-pub(crate) fn made_reply(alloc: Global, kind: &Kind) -> Result<Response, NoMemory>
+/// The reply to a change that was made.
+pub fn made_reply(alloc: Global, change: &Change) -> Result<Response, NoMemory>
+    ensures { IfOk result (λ response. response ≡ made_reply_to (write_of change.now).kind) }
+{
+    match change {
+        Change::Put { content, .. } => created(alloc, &content.etag),
+        Change::Post { .. } => Ok(bare(alloc, 202)),
+        Change::Delete { .. } => Ok(bare(alloc, 204)),
+        Change::Receive { write } => received(alloc, &write.kind),
+    }
+}
+
+/// The reply to a write of this kind that was taken over.
+fn received(alloc: Global, kind: &Kind) -> Result<Response, NoMemory>
     ensures { IfOk result (λ response. response ≡ made_reply_to kind.now) }
 {
     match kind {
@@ -38,16 +50,16 @@ pub(crate) fn made_reply(alloc: Global, kind: &Kind) -> Result<Response, NoMemor
 }
 
 /// The reply to a PUT that was taken: 201 with the ETag.
-pub(crate) fn created(alloc: Global, etag: &[u8; 16]) -> Result<Response, NoMemory>
+fn created(alloc: Global, etag: &[u8; 16]) -> Result<Response, NoMemory>
     ensures { IfOk result (λ response. response ≡ created_reply etag.now) }
 {
     with_field(alloc, 201, b"ETag", &hex_text(etag))
 }
 
-/// The reply to a write whose step had this answer. `made` is the reply where it was made, so that this one needs no memory.
-pub(crate) fn reply_to(alloc: Global, made: Response, answer: Answer) -> Result<Response, NoMemory>
+/// The reply to a change that was answered so. `made` is the reply where it was made. Only a reply that shows a field of its own needs memory.
+pub fn reply_to(alloc: Global, made: Response, answer: Answer) -> Result<Response, NoMemory>
     ensures ok { IfOk result (λ response. response ≡ reply_to_answer made answer) }
-    ensures err { OnErr result (is_entered answer ≡ false) }
+    ensures err { OnErr result (shows_field answer ≡ true) }
 {
     match answer {
         Answer::Done(_) => Ok(made),
@@ -64,7 +76,8 @@ pub(crate) fn reply_to(alloc: Global, made: Response, answer: Answer) -> Result<
 
 /// The reply where no object is, with the time of the tombstone, where one stands.
 pub(crate) fn not_found(alloc: Global, time: Option<Timestamp>) -> Result<Response, NoMemory>
-    ensures { IfOk result (λ response. response ≡ not_found_reply time) }
+    ensures ok { IfOk result (λ response. response ≡ not_found_reply time) }
+    ensures err { OnErr result (is_some time ≡ true) }
 {
     match time {
         Some(time) => at_time(alloc, 404, time),

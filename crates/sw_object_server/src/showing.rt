@@ -1,5 +1,5 @@
-ghost use Rattle.std.specs.Prelude.{◌≡◌, ◌++◌, ◌≤◌, map, IfOk, OnOk, if◌then◌else◌, []};
-ghost use Rattle.sw_object_server.specs.Showing.{IsDate, IsFound, IsShown, expiry_fields, field_of as field_of_item, fixed_fields as fixed_fields_of, found as found_reply, found_fields, second_text as second_text_of};
+ghost use Rattle.std.specs.Prelude.{◌≡◌, ◌++◌, ◌≤◌, map, true, IfOk, OnOk, OnErr, if◌then◌else◌, []};
+ghost use Rattle.sw_object_server.specs.Showing.{IsDate, IsFound, IsShown, expiry_fields, field_of as field_of_item, fixed_fields as fixed_fields_of, found as found_reply, found_fields, second_text as second_text_of, shows_fields};
 
 use crate::replies::{bare, damaged, field, not_found, time_text};
 use httpdate::HttpDate;
@@ -16,13 +16,9 @@ use sw_timestamp::Timestamp;
 const UNITS: u64 = 100_000;
 
 /// The reply to a GET that got this, at this second since the epoch, or with `head_only` to a HEAD. The body is moved into it.
-pub(crate) fn shown(
-    alloc: Global,
-    got: Got,
-    now: u64,
-    head_only: bool,
-) -> Result<Response, NoMemory>
-    ensures { IfOk result (IsShown got now head_only) }
+pub fn shown(alloc: Global, got: Got, now: u64, head_only: bool) -> Result<Response, NoMemory>
+    ensures ok { IfOk result (IsShown got now head_only) }
+    ensures err { OnErr result (shows_fields got now ≡ true) }
 {
     match got {
         Got::Found {

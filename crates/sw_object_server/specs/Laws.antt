@@ -1,0 +1,21 @@
+-- What is promised of the definitions of this server. (This project's own.)
+use Rattle.std.specs.Prelude.{◌≡◌, ℕ, Bool, List}
+use Rattle.sw_http.specs.declared.request.Request.{Request}
+use Rattle.sw_http.specs.declared.response.Response.{Response}
+use Rattle.sw_peer.specs.declared.got.Got.{Got}
+use Rattle.sw_ring.specs.declared.ring.Ring.{Ring}
+use Rattle.sw_object_server.specs.Asking.{IsAsked}
+use Rattle.sw_object_server.specs.Showing.{IsDate, IsShown}
+use Rattle.sw_object_server.specs.declared.asked.Asked.{Asked}
+
+-- a request asks the nodes of a ring for one thing
+abbrev pub AsksForOne : Type 0
+AsksForOne = (ring : Ring) (r : Request) (a b : Asked) → IsAsked ring r a → IsAsked ring r b → a ≡ b
+
+-- a time has one date
+abbrev pub HasOneDate : Type 0
+HasOneDate = (time : ℕ) (text other : List ℕ) → IsDate time text → IsDate time other → text ≡ other
+
+-- what was got has one reply
+abbrev pub HasOneReply : Type 0
+HasOneReply = (got : Got) (moment : ℕ) (head_only : Bool) (a b : Response) → IsShown got moment head_only a → IsShown got moment head_only b → a ≡ b
