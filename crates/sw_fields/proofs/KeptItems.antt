@@ -6,7 +6,7 @@ use Rattle.std.specs.Str.{bytes_eq, str_to_ascii_lowercase}
 use Rattle.std.proofs.lemmas.List.{reverse-append}
 use Rattle.std.proofs.lemmas.List.Folds.{find-append}
 use Rattle.std.proofs.lemmas.Slice.Eq.{bytes_eq-Decides}
-use Rattle.sw_http.specs.declared.fields.Field.{Field}
+use Rattle.sw_message.specs.declared.fields.Field.{Field}
 use Rattle.sw_state.proofs.NameOrder.{before-asym, before-itself, before-other}
 use Rattle.sw_state.specs.HeadNames.{is_before, value_of, with_head}
 use Rattle.sw_state.specs.declared.head.Head.{Head}

@@ -2,8 +2,8 @@
 use Rattle.std.proofs.Common.{◌≡◌, ℕ, List, Some, subst}
 use Rattle.std.specs.Prelude.{codes}
 use Rattle.sw_timestamp.specs.TimeText.{IsTimeText}
-use Rattle.sw_http.specs.Fields.{field_value_of}
-use Rattle.sw_http.specs.declared.fields.Field.{Field}
+use Rattle.sw_message.specs.Fields.{field_value_of}
+use Rattle.sw_message.specs.declared.fields.Field.{Field}
 use Rattle.sw_fields.specs.Fields.{IsTimeOf}
 
 -- a value that is no time gives none

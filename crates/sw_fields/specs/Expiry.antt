@@ -5,8 +5,8 @@ use Rattle.std.specs.List.{list_all}
 use Rattle.std.specs.Option.{option_map_or}
 use Rattle.std.specs.Str.Parse.{digits_value}
 use Rattle.sw_hashpath.specs.declared.name.Name.{Name}
-use Rattle.sw_http.specs.Fields.{field_value_of}
-use Rattle.sw_http.specs.declared.fields.Field.{Field}
+use Rattle.sw_message.specs.Fields.{field_value_of}
+use Rattle.sw_message.specs.declared.fields.Field.{Field}
 use Rattle.sw_state.specs.declared.heads.Heads.{Heads}
 use Rattle.sw_timestamp.specs.TimeText.{units_of_second}
 

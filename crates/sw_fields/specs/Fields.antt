@@ -4,8 +4,8 @@ use Rattle.std.specs.List.{prefix_len, suffix_len}
 use Rattle.std.specs.Option.{option_and_then, option_map_or}
 use Rattle.std.specs.Str.{bytes_eq, is_utf8, str_eq_ignore_ascii_case}
 use Rattle.hex.specs.Hex.{encode_lower}
-use Rattle.sw_http.specs.Fields.{field_value_of}
-use Rattle.sw_http.specs.declared.fields.Field.{Field}
+use Rattle.sw_message.specs.Fields.{field_value_of}
+use Rattle.sw_message.specs.declared.fields.Field.{Field}
 use Rattle.sw_timestamp.specs.TimeText.{IsTimeText}
 
 -- whether the field of this name has this value

@@ -4,8 +4,8 @@ use Rattle.std.specs.Prelude.{ℕ, ◌+◌, ◌-◌, Bool, ◌&&◌, ◌||◌, L
 use Rattle.std.specs.List.{list_all, starts_with}
 use Rattle.std.specs.Option.{option_and_then}
 use Rattle.std.specs.Str.{str_eq_ignore_ascii_case, str_to_ascii_lowercase}
-use Rattle.sw_http.specs.Fields.{is_named}
-use Rattle.sw_http.specs.declared.fields.Field.{Field}
+use Rattle.sw_message.specs.Fields.{is_named}
+use Rattle.sw_message.specs.declared.fields.Field.{Field}
 use Rattle.sw_state.specs.HeadNames.{is_name, with_head}
 use Rattle.sw_state.specs.declared.head.Head.{Head}
 

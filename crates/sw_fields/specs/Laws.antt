@@ -2,7 +2,7 @@
 use Rattle.std.specs.Prelude.{◌≡◌, ℕ, Bool, ◌&&◌, List, find, reverse}
 use Rattle.std.specs.Option.{option_map}
 use Rattle.std.specs.Str.{bytes_eq, str_to_ascii_lowercase}
-use Rattle.sw_http.specs.declared.fields.Field.{Field}
+use Rattle.sw_message.specs.declared.fields.Field.{Field}
 use Rattle.sw_state.specs.HeadNames.{value_of}
 use Rattle.sw_fields.specs.Items.{is_item_field, kept_items}
 

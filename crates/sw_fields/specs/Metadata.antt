@@ -2,7 +2,7 @@
 use Rattle.std.specs.Prelude.{◌≡◌, ℕ, List, Option}
 use Rattle.std.specs.Option.{option_map, option_zip}
 use Rattle.sw_hashpath.specs.declared.name.Name.{Name}
-use Rattle.sw_http.specs.declared.fields.Field.{Field}
+use Rattle.sw_message.specs.declared.fields.Field.{Field}
 use Rattle.sw_state.specs.declared.head.Head.{Head}
 use Rattle.sw_state.specs.declared.heads.Heads.{Heads}
 use Rattle.sw_fields.specs.Expiry.{expiry_of}

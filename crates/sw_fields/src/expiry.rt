@@ -7,7 +7,7 @@ ghost use Rattle.sw_fields.specs.Expiry.{checked_second as checked_second_at, ex
 
 use crate::limits::MAX_EXPIRING_NAME;
 use sw_hashpath::Name;
-use sw_http::FieldList;
+use sw_message::FieldList;
 use sw_state::Heads;
 use sw_timestamp::Timestamp;
 use thiserror::Error;

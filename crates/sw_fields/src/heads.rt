@@ -5,7 +5,7 @@ use crate::expiry::expiry_of;
 use crate::items::items_of;
 use std::alloc::Global;
 use sw_hashpath::Name;
-use sw_http::FieldList;
+use sw_message::FieldList;
 use sw_outside::NoMemory;
 use sw_state::Heads;
 use sw_timestamp::Timestamp;

@@ -5,7 +5,7 @@ use crate::{expiry_of, heads_of, is_expired, items_of, time_of};
 use std::alloc::Global;
 use std::test::Fail;
 use sw_hashpath::Name;
-use sw_http::{Field, FieldList};
+use sw_message::{Field, FieldList};
 use sw_outside::Bytes;
 use sw_timestamp::Timestamp;
 

@@ -7,9 +7,9 @@ use Rattle.httparse.specs.Ascii.{crlf_bytes}
 use Rattle.sw_http.specs.Body.{Plain, Chunks, BodyText, IsBody, print_body, body_of, extended, IsWithinLimit}
 use Rattle.sw_http.specs.ChunkSteps.{TakesBytes, TakesData, HasNoData, TakesChunked, HasNoChunked, IsUnread, TakesBody, HasNoBody}
 use Rattle.sw_http.specs.Input.{HasNoLineEnd}
-use Rattle.sw_http.specs.declared.framing.Framing.TheVariants.{Unframed, Length, Chunked}
-use Rattle.sw_http.specs.declared.request.Body.{Body}
-use Rattle.sw_http.specs.declared.request.Body.TheVariants.{Whole, TooLarge}
+use Rattle.sw_message.specs.declared.framing.Framing.TheVariants.{Unframed, Length, Chunked}
+use Rattle.sw_message.specs.declared.request.Body.{Body}
+use Rattle.sw_message.specs.declared.request.Body.TheVariants.{Whole, TooLarge}
 use Rattle.sw_http.proofs.InputLemmas.{front_taken, if_behind}
 use Rattle.sw_http.proofs.ListLemmas.{fronts_same}
 

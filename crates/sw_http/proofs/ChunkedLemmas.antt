@@ -13,7 +13,7 @@ use Rattle.sw_http.specs.Body.{extended, IsWithinLimit}
 use Rattle.sw_http.specs.Chunked.{Chunk, IsChunk, print_chunk, chunk_bytes, ChunkedText, IsChunked, print_chunked, IsLast, IsTrailer}
 use Rattle.sw_http.specs.ChunkSteps.{HasNoLineWithin, HasNoData, TakesData, TakesLine, TakesChunk, TakesLast, HasNoChunked, TakesChunks, TakesChunked, TakesTrailer, HasNoTrailerWithin}
 use Rattle.sw_http.specs.declared.chunk_line.SizeLine.{SizeLine}
-use Rattle.sw_http.specs.declared.request.Body.{Body}
+use Rattle.sw_message.specs.declared.request.Body.{Body}
 use Rattle.sw_http.proofs.BodyLemmas.{extended_none, extended_twice, extended_within}
 use Rattle.sw_http.proofs.InputLemmas.{if_behind, if_taken}
 use Rattle.sw_http.proofs.ListLemmas.{fronts_same, same_rest}

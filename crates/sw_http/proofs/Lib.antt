@@ -1,15 +1,10 @@
 pub mod BodyLemmas
 pub mod ChunkedLemmas
-pub mod Digits
-pub mod HeadLemmas
 pub mod InputLemmas
 pub mod LineLemmas
 pub mod ListLemmas
 pub mod OpeningLemmas
 pub mod ReadingLemmas
-pub mod ReplyLemmas
 pub mod RequestLemmas
 pub mod SizeLemmas
-pub mod TextLemmas
-pub mod Tokens
 pub mod TrailerLemmas

@@ -16,7 +16,8 @@ use Rattle.httparse.proofs.RunLemmas.{run_unique, run_unstopped, Stops-append}
 use Rattle.sw_http.specs.ChunkSteps.{HasNoLine, HasDigits, is_semicolon, EndsExtension, TakesExtension, HasNoExtension, print_tail, TakesTail, HasNoTail, TakesLine, HasNoLineWithin}
 use Rattle.sw_http.specs.Input.{TakesRun, HasNoRun, HasNoLineEnd}
 use Rattle.sw_http.specs.declared.chunk_line.SizeLine.{SizeLine}
-use Rattle.sw_http.proofs.ListLemmas.{same_rest, take_every}
+use Rattle.sw_http.proofs.ListLemmas.{same_rest}
+use Rattle.sw_message.proofs.ListLemmas.{take_every}
 use Rattle.sw_http.proofs.InputLemmas.{if_behind, if_kept, if_some_map, longer_run, run_passes, run_stops, run_within}
 
 -- ---- the digits

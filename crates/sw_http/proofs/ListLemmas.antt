@@ -1,11 +1,7 @@
 -- Lists that are read into, and cut.
 use Rattle.std.proofs.Common.{◌≡◌, ℕ, ◌+◌, ◌≤◌, List, [], ◌∷◌, ◌++◌, length, take, refl, ap, ◌∙◌, arith, append_assoc}
-use Rattle.std.proofs.Math.Seq.{take-add}
-use Rattle.std.proofs.lemmas.List.{take-take, take_at, drop_at, take-append-le}
-
--- the first bytes, and some behind them
-pub take_past : (a b : List ℕ) (had given : ℕ) → length a ≡ had → take (had + given) (a ++ b) ≡ a ++ take given b
-take_past a b had given size = rw (take-add, take_at a b had size, drop_at a b had size)
+use Rattle.std.proofs.lemmas.List.{take-take, take-append-le}
+use Rattle.sw_message.proofs.ListLemmas.{take_past}
 
 -- what was read into the back of a buffer, which was then cut behind it
 pub read_in : (a into post tail : List ℕ) (had given len : ℕ) → length a ≡ had → given ≤ length into → had + given ≤ len
@@ -30,7 +26,3 @@ fronts_same (x ∷ a) [] r q size e = absurd (omega arith)
 fronts_same (x ∷ a) (y ∷ b) r q size e =
     let tails = fronts_same a b r q (omega arith) (cc) in
     (cc, tails.1)
-
-pub take_every : (xs : List ℕ) → take (length xs) xs ≡ xs
-take_every [] = refl
-take_every (x ∷ xs) = ap (λ (l : List ℕ). x ∷ l) (take_every xs)

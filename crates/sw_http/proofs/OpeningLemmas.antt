@@ -11,12 +11,14 @@ use Rattle.httparse.specs.declared.spans.HeaderSpan.{HeaderSpan}
 use Rattle.httparse.specs.declared.spans.RequestSpans.{RequestSpans}
 use Rattle.httparse.proofs.RunLemmas.{run_unique, run_unstopped, Stops-append}
 use Rattle.sw_http.specs.Continue.{Skips}
-use Rattle.sw_http.specs.Head.{HasNoHead, IsHeadAt, IsHeadless, TakesHead, Opens, field_at}
+use Rattle.sw_message.specs.Head.{HasNoHead, IsHeadAt, field_at}
+use Rattle.sw_http.specs.Opening.{IsHeadless, TakesHead, Opens}
 use Rattle.sw_http.specs.Input.{TakesRun, TakesFew, IsAllRun, IsLongRun}
-use Rattle.sw_http.specs.Request.{IsSkipped, field_of, is_question_mark}
-use Rattle.sw_http.specs.declared.fields.Field.{Field}
-use Rattle.sw_http.specs.declared.open_request.OpenRequest.{OpenRequest}
-use Rattle.sw_http.proofs.HeadLemmas.{head_stops}
+use Rattle.sw_http.specs.Request.{IsSkipped}
+use Rattle.sw_message.specs.Head.{field_of, is_question_mark}
+use Rattle.sw_message.specs.declared.fields.Field.{Field}
+use Rattle.sw_message.specs.declared.parts.OpenRequest.{OpenRequest}
+use Rattle.sw_message.proofs.HeadLemmas.{head_stops}
 use Rattle.sw_http.proofs.InputLemmas.{kept_consumes, text_taken, if_some_map, longer_run}
 
 -- ---- the head that was found

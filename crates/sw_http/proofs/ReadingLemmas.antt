@@ -7,13 +7,14 @@ use Rattle.httparse.specs.Pieces.{is_newline}
 use Rattle.httparse.proofs.GrammarLemmas.{request_unique}
 use Rattle.httparse.proofs.RunLemmas.{run_unique, run_unstopped}
 use Rattle.sw_http.specs.Body.{Plain, Chunks, BodyText, IsBody, IsFramedBody, print_body}
-use Rattle.sw_http.specs.Framing.{framing_of}
-use Rattle.sw_http.specs.declared.framing.Framing.{Framing}
-use Rattle.sw_http.specs.declared.framing.Framing.TheVariants.{Unframed, Length, Chunked}
+use Rattle.sw_message.specs.Framing.{framing_of}
+use Rattle.sw_message.specs.declared.framing.Framing.{Framing}
+use Rattle.sw_message.specs.declared.framing.Framing.TheVariants.{Unframed, Length, Chunked}
 use Rattle.sw_http.specs.Reading.{IsEnd, OneReading, OneRequest}
-use Rattle.sw_http.specs.Request.{Parts, AreParts, IsHead, IsSkipped, fields_of, text_of}
+use Rattle.sw_http.specs.Request.{Parts, AreParts, IsSkipped, text_of}
+use Rattle.sw_message.specs.Head.{IsHead, fields_of}
 use Rattle.sw_http.proofs.ChunkedLemmas.{chunked_same}
-use Rattle.sw_http.proofs.HeadLemmas.{head_stops}
+use Rattle.sw_message.proofs.HeadLemmas.{head_stops}
 use Rattle.sw_http.proofs.ListLemmas.{fronts_same}
 
 pub text_split : (p : Parts) (rest : List ℕ) → text_of p ++ rest ≡ p.skipped ++ (print_request p.head ++ (print_body p.body ++ rest))

@@ -12,17 +12,18 @@ use Rattle.sw_http.specs.Continue.{Takes, HasHead, BeginsNone, Refuses, IsToldPa
 use Rattle.std.specs.Prelude.{codes}
 use Rattle.std.proofs.lemmas.Bool.{cond-true}
 use Rattle.httparse.specs.Ascii.{crlf_bytes}
-use Rattle.sw_http.specs.Framing.{framing_of, is_framed}
-use Rattle.sw_http.specs.Head.{Opens, IsHeadless}
-use Rattle.sw_http.specs.Request.{Parts, AreParts, IsNoRequest, IsSkipped, fields_of, text_of}
-use Rattle.sw_http.specs.declared.fields.Field.{Field}
-use Rattle.sw_http.specs.declared.framing.Framing.{Framing}
-use Rattle.sw_http.specs.declared.open_request.OpenRequest.{OpenRequest}
-use Rattle.sw_http.specs.declared.request.Body.{Body}
-use Rattle.sw_http.specs.declared.request.Request.{Request}
-use Rattle.sw_http.proofs.HeadLemmas.{head_stops}
+use Rattle.sw_message.specs.Framing.{framing_of, is_framed}
+use Rattle.sw_http.specs.Opening.{Opens, IsHeadless}
+use Rattle.sw_http.specs.Request.{Parts, AreParts, IsNoRequest, IsSkipped, text_of}
+use Rattle.sw_message.specs.Head.{fields_of}
+use Rattle.sw_message.specs.declared.fields.Field.{Field}
+use Rattle.sw_message.specs.declared.framing.Framing.{Framing}
+use Rattle.sw_message.specs.declared.parts.OpenRequest.{OpenRequest}
+use Rattle.sw_message.specs.declared.request.Body.{Body}
+use Rattle.sw_message.specs.declared.request.Request.{Request}
+use Rattle.sw_message.proofs.HeadLemmas.{head_stops}
 use Rattle.sw_http.proofs.InputLemmas.{if_behind, if_some_map}
-use Rattle.sw_http.proofs.ListLemmas.{take_every}
+use Rattle.sw_message.proofs.ListLemmas.{take_every}
 use Rattle.sw_http.proofs.ReadingLemmas.{text_split, start_same}
 
 -- ---- the head

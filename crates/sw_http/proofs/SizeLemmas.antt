@@ -5,7 +5,7 @@ use Rattle.std.proofs.Math.ListN.{set}
 use Rattle.std.proofs.Math.Seq.{drop-cons, set-append_seam}
 use Rattle.std.proofs.lemmas.Bool.{agree_below, agree_below_at}
 use Rattle.httparse.specs.Ascii.{crlf_bytes}
-use Rattle.sw_http.proofs.ListLemmas.{take_past}
+use Rattle.sw_message.proofs.ListLemmas.{take_past}
 
 -- the room, full of line feeds
 abbrev pub feeds : List ℕ

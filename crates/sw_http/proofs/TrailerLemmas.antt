@@ -10,7 +10,7 @@ use Rattle.httparse.specs.declared.spans.HeaderSpan.{HeaderSpan}
 use Rattle.httparse.proofs.GrammarLemmas.{section_unique, ReadsSection-append}
 use Rattle.sw_http.specs.ChunkSteps.{HasNoTrailer, IsTrailerAt, TakesTrailer, HasNoTrailerWithin}
 use Rattle.sw_http.proofs.InputLemmas.{kept_consumes, text_taken, if_kept, if_always, if_some_map}
-use Rattle.sw_http.proofs.TextLemmas.{section_ends, no_new_text, short_text}
+use Rattle.sw_message.proofs.TextLemmas.{section_ends, no_new_text, short_text}
 
 few_fields : (bytes : List ℕ) (headers : List HeaderSpan) (len count : ℕ) (fields : List Field) (last : LineEnd) → IsSectionAt bytes 0 headers len count fields last
     → length headers ≤ 128 → length fields ≤ 128

@@ -2,11 +2,10 @@
 use Rattle.std.specs.Prelude.{◌≡◌, ℕ, ◌≤◌, ⊤, List, [], ◌++◌, length, Option, None, Some, nat_le, if◌then◌else◌}
 use Rattle.std.specs.List.{flat_map}
 use Rattle.sw_http.specs.Chunked.{ChunkedText, IsChunked, print_chunked, chunk_bytes}
-use Rattle.sw_http.specs.declared.framing.Framing.{Framing}
-use Rattle.sw_http.specs.declared.framing.Framing.TheVariants.{Unframed, Length, Chunked}
-use Rattle.sw_http.specs.declared.request.Body.{Body}
-use Rattle.sw_http.specs.declared.request.Body.TheVariants.{Whole, TooLarge}
-use Rattle.sw_http.specs.declared.limits.TheConstants.{MAX_BODY}
+use Rattle.sw_message.specs.declared.framing.Framing.{Framing}
+use Rattle.sw_message.specs.declared.framing.Framing.TheVariants.{Unframed, Length, Chunked}
+use Rattle.sw_message.specs.declared.request.Body.{Body}
+use Rattle.sw_message.specs.declared.request.Body.TheVariants.{Whole, TooLarge}
 
 -- a body as it stands in a message: its bytes alone, or chunks
 pub data BodyText : Type 0 where
@@ -39,7 +38,7 @@ IsFramedBody (Some framing) text = IsBody framing text
 
 -- what is handed out of a body with these bytes: all of them, or that they are too many
 abbrev pub body_of : List ℕ → Body
-body_of bytes = if nat_le (length bytes) MAX_BODY then Whole bytes else TooLarge
+body_of bytes = if nat_le (length bytes) 5242880 then Whole bytes else TooLarge
 
 -- what is handed out once these bytes came behind it
 abbrev pub extended : Body → List ℕ → Body
@@ -48,5 +47,5 @@ extended TooLarge more = TooLarge
 
 -- a body that is kept is no larger than it may be
 abbrev pub IsWithinLimit : Body → Type 0
-IsWithinLimit (Whole bytes) = length bytes ≤ MAX_BODY
+IsWithinLimit (Whole bytes) = length bytes ≤ 5242880
 IsWithinLimit TooLarge = ⊤

@@ -11,8 +11,8 @@ use Rattle.sw_http.specs.Chunked.{Chunk, IsChunk, print_chunk, chunk_bytes, Chun
 use Rattle.sw_http.specs.declared.chunk_line.SizeLine.{SizeLine}
 use Rattle.sw_http.specs.declared.chunk.Step.{Step}
 use Rattle.sw_http.specs.declared.chunk.Step.TheVariants.{More, Last, Bad}
-use Rattle.sw_http.specs.declared.framing.Framing.{Framing}
-use Rattle.sw_http.specs.declared.request.Body.{Body}
+use Rattle.sw_message.specs.declared.framing.Framing.{Framing}
+use Rattle.sw_message.specs.declared.request.Body.{Body}
 
 -- ---- the line that tells a chunk's size
 

@@ -3,7 +3,6 @@ use Rattle.std.specs.Prelude.{◌≡◌, ℕ, ◌<◌, ◌≤◌, List, ◌++◌
 use Rattle.std.specs.List.{flat_map}
 use Rattle.httparse.specs.Ascii.{crlf_bytes}
 use Rattle.httparse.specs.Grammar.{ChunkLine, IsChunkLine, chunk_size, print_chunk_line, Field, IsField, LineEnd, print_section}
-use Rattle.sw_http.specs.declared.limits.TheConstants.{MAX_HEAD, MAX_FIELDS}
 
 -- a chunk: the line that tells its size, and its bytes
 pub record Chunk : Type 0 where
@@ -43,8 +42,8 @@ pub record IsLast (line : ChunkLine) : Type 0 where
 -- a trailer is within the limits of a head
 pub record IsTrailer (fields : List Field) (end : LineEnd) : Type 0 where
   pub are_fields : All IsField fields
-  pub size : length (print_section fields end) ≤ MAX_HEAD
-  pub few_fields : length fields ≤ MAX_FIELDS
+  pub size : length (print_section fields end) ≤ 65536
+  pub few_fields : length fields ≤ 128
 
 -- the parts are those of a chunked body
 pub record IsChunked (b : ChunkedText) : Type 0 where

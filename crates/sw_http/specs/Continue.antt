@@ -4,10 +4,11 @@ use Rattle.std.specs.Io.KnownBytes.{Consumes, Appends}
 use Rattle.httparse.specs.Ascii.{crlf_bytes}
 use Rattle.httparse.specs.Grammar.{RequestHead, print_request}
 use Rattle.sw_outside.specs.Taken.{AppendsPart}
-use Rattle.sw_http.specs.Framing.{framing_of, is_framed, says}
-use Rattle.sw_http.specs.Request.{IsHead, IsSkipped, IsNoRequest, Parts, AreParts, text_of, request_of, fields_of}
-use Rattle.sw_http.specs.declared.fields.Field.{Field}
-use Rattle.sw_http.specs.declared.request.Request.{Request}
+use Rattle.sw_message.specs.Framing.{framing_of, is_framed, says}
+use Rattle.sw_message.specs.Head.{IsHead, fields_of}
+use Rattle.sw_http.specs.Request.{IsSkipped, IsNoRequest, Parts, AreParts, text_of, request_of}
+use Rattle.sw_message.specs.declared.fields.Field.{Field}
+use Rattle.sw_message.specs.declared.request.Request.{Request}
 
 -- whether the client waits to be told: there is a body, its framing is good, and the last Expect field says so
 abbrev pub asks_continue : List Field → Bool

@@ -6,8 +6,8 @@ use Rattle.httparse.specs.Grammar.{AllPass, is_ows, is_extension_byte}
 use Rattle.httparse.specs.Pieces.{Stops, is_newline}
 use Rattle.sw_http.specs.declared.input.ReadError.{ReadError}
 use Rattle.sw_http.specs.declared.input.ReadError.TheVariants.{Failed, NoMemory}
-use Rattle.sw_http.specs.declared.look.Look.{Look}
-use Rattle.sw_http.specs.declared.look.Look.TheVariants as looks
+use Rattle.sw_message.specs.declared.look.Look.{Look}
+use Rattle.sw_message.specs.declared.look.Look.TheVariants as looks
 use Rattle.sw_http.specs.declared.reader.HttpFault.{HttpFault}
 use Rattle.sw_http.specs.declared.reader.HttpFault.TheVariants as faults
 use Rattle.sw_http.specs.declared.run.Class.{Class}
@@ -76,13 +76,7 @@ pub record HasNoRun (test : ℕ → Bool) (limit : ℕ) (bytes : List ℕ) : Typ
 pub record HasNoLineEnd (bytes : List ℕ) : Type 0 where
   pub none : (rest : List ℕ) → ¬ (bytes ≡ crlf_bytes ++ rest)
 
--- ---- looks and errors
-
--- what one look at bytes says: what was found there, that nothing is there so far, or that nothing will be
-abbrev pub IsLook : {A : Type 0} → (A → Type 0) → (List ℕ → Type 0) → List ℕ → Look A → Type 0
-IsLook found none bytes (looks.Whole a) = found a
-IsLook found none bytes looks.NotYet = none bytes
-IsLook found none bytes looks.Never = (more : List ℕ) → none (bytes ++ more)
+-- ---- errors
 
 -- how an error of a read is told
 abbrev pub fault_of : ReadError → HttpFault

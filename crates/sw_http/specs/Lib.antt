@@ -2,10 +2,7 @@ pub mod Body
 pub mod ChunkSteps
 pub mod Chunked
 pub mod Continue
-pub mod Fields
-pub mod Framing
-pub mod Head
 pub mod Input
+pub mod Opening
 pub mod Reading
-pub mod Reply
 pub mod Request

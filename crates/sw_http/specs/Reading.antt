@@ -3,7 +3,7 @@ use Rattle.std.specs.Prelude.{◌≡◌, ℕ, List, ◌++◌, map, All, Option, 
 use Rattle.std.specs.List.{flat_map}
 use Rattle.std.specs.Io.KnownBytes.{Consumes}
 use Rattle.sw_http.specs.Request.{Parts, AreParts, Reads, text_of, request_of, IsSkipped, IsNoRequest}
-use Rattle.sw_http.specs.declared.request.Request.{Request}
+use Rattle.sw_message.specs.declared.request.Request.{Request}
 
 -- the input begins with the texts of these requests, one after the other, and rest follows
 pub record BeginsWith (input : Option (List ℕ)) (requests : List Request) (rest : Option (List ℕ)) : Type 0 where

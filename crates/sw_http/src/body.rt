@@ -2,17 +2,15 @@ ghost use Rattle.std.specs.Prelude.{◌≡◌, ℕ, ◌≤◌, None, Some, Ok, E
 ghost use Rattle.std.specs.Io.KnownBytes.{prepend_known};
 ghost use Rattle.sw_outside.specs.Faults.{HasRisen};
 ghost use Rattle.sw_http.specs.ChunkSteps.{IsUnread, TakesBody, HasNoBody};
-ghost use Rattle.sw_http.specs.declared.framing.Framing.TheVariants.{Length, Chunked};
-ghost use Rattle.sw_http.specs.declared.limits.TheConstants.{MAX_REQUEST};
+ghost use Rattle.sw_message.specs.declared.framing.Framing.TheVariants.{Length, Chunked};
 
 use crate::chunk::take_chunked;
 use crate::content::take_content;
-use crate::framing::Framing;
 use crate::held::Held;
 use crate::input::ReadError;
-use crate::limits::{MAX_BODY, MAX_REQUEST};
-use crate::request::Body;
+use crate::limits::MAX_BODY;
 use std::alloc::Global;
+use sw_message::{Body, Framing};
 use sw_outside::{Bytes, NoMemory, Source};
 
 /// A body of which nothing was read yet, with room for `len` bytes. Of one that is too large nothing is kept.
@@ -34,7 +32,7 @@ fn take_plain<R: Source>(
     len: usize,
     room: usize,
 ) -> Result<Option<Body>, ReadError>
-    requires { room ≤ MAX_REQUEST }
+    requires { room ≤ 1_073_741_824 }
     ensures taken { IfOk result (λ found. IfSome found (TakesBody (prepend_known held.old (R.left source.old)) (prepend_known held.new (R.left source.new)) (Some (Length len)) room)) }
     ensures none { result ≡ Ok None → IfSome (prepend_known held.old (R.left source.old)) (HasNoBody (Some (Length len)) room) }
     ensures later { R.faults source.old ≤ R.faults source.new }
@@ -58,7 +56,7 @@ fn take_chunks<R: Source>(
     source: &mut R,
     room: usize,
 ) -> Result<Option<Body>, ReadError>
-    requires { room ≤ MAX_REQUEST }
+    requires { room ≤ 1_073_741_824 }
     ensures taken { IfOk result (λ found. IfSome found (TakesBody (prepend_known held.old (R.left source.old)) (prepend_known held.new (R.left source.new)) (Some Chunked) room)) }
     ensures none { result ≡ Ok None → IfSome (prepend_known held.old (R.left source.old)) (HasNoBody (Some Chunked) room) }
     ensures later { R.faults source.old ≤ R.faults source.new }
@@ -81,7 +79,7 @@ pub(crate) fn take_body<R: Source>(
     framing: Framing,
     room: usize,
 ) -> Result<Option<Body>, ReadError>
-    requires { room ≤ MAX_REQUEST }
+    requires { room ≤ 1_073_741_824 }
     ensures taken { IfOk result (λ found. IfSome found (TakesBody (prepend_known held.old (R.left source.old)) (prepend_known held.new (R.left source.new)) (Some framing) room)) }
     ensures none { result ≡ Ok None → IfSome (prepend_known held.old (R.left source.old)) (HasNoBody (Some framing) room) }
     ensures later { R.faults source.old ≤ R.faults source.new }

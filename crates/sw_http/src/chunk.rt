@@ -4,16 +4,14 @@ ghost use Rattle.std.specs.Io.KnownBytes.{prepend_known};
 ghost use Rattle.sw_outside.specs.Faults.{HasRisen};
 ghost use Rattle.sw_http.specs.Body.{IsWithinLimit};
 ghost use Rattle.sw_http.specs.ChunkSteps.{TakesData, HasNoData, IsStep, TakesChunked, HasNoChunked};
-ghost use Rattle.sw_http.specs.declared.limits.TheConstants.{MAX_REQUEST};
 
 use crate::chunk_line::{SizeLine, take_chunk_line};
 use crate::content::take_content;
 use crate::held::Held;
 use crate::input::ReadError;
-use crate::limits::MAX_REQUEST;
-use crate::line_end::{CRLF, take_line_end};
-use crate::request::Body;
+use crate::line_end::take_line_end;
 use crate::trailer::take_trailer;
+use sw_message::{Body, CRLF};
 use sw_outside::Source;
 
 /// What one step through the chunks took.
@@ -28,7 +26,7 @@ pub(crate) enum Step {
 
 /// Whether a chunk with this line has at most `room` bytes.
 fn fits(line: SizeLine, room: usize) -> bool
-    requires { room ≤ MAX_REQUEST }
+    requires { room ≤ 1_073_741_824 }
     ensures { IsTrue result ↔ (line.len + line.size + 2 ≤ room) }
 {
     line.len <= room && line.size <= room && line.len + line.size + CRLF.len() <= room
@@ -62,7 +60,7 @@ fn take_sized<R: Source>(
     room: usize,
     body: &mut Body,
 ) -> Result<bool, ReadError>
-    requires limit { room ≤ MAX_REQUEST }
+    requires limit { room ≤ 1_073_741_824 }
     requires body { IsWithinLimit body.old }
     ensures taken { result ≡ Ok true → TakesData (prepend_known held.old (R.left source.old)) (prepend_known held.new (R.left source.new)) body.old body.new line.size }
     ensures fits { result ≡ Ok true → line.len + line.size + 2 ≤ room }
@@ -84,7 +82,7 @@ fn take_chunk<R: Source>(
     room: usize,
     body: &mut Body,
 ) -> Result<Step, ReadError>
-    requires limit { room ≤ MAX_REQUEST }
+    requires limit { room ≤ 1_073_741_824 }
     requires body { IsWithinLimit body.old }
     ensures step { IfOk result (IsStep room (prepend_known held.old (R.left source.old)) (prepend_known held.new (R.left source.new)) body.old body.new) }
     ensures later { R.faults source.old ≤ R.faults source.new }
@@ -114,7 +112,7 @@ pub(crate) fn take_chunked<R: Source>(
     room: usize,
     body: &mut Body,
 ) -> Result<bool, ReadError>
-    requires limit { room ≤ MAX_REQUEST }
+    requires limit { room ≤ 1_073_741_824 }
     requires body { IsWithinLimit body.old }
     ensures taken { result ≡ Ok true → TakesChunked (prepend_known held.old (R.left source.old)) (prepend_known held.new (R.left source.new)) body.old body.new room }
     ensures none { result ≡ Ok false → IfSome (prepend_known held.old (R.left source.old)) (HasNoChunked room) }

@@ -9,14 +9,13 @@ ghost use Rattle.httparse.specs.Grammar.{AllPass, is_ows};
 ghost use Rattle.httparse.specs.Pieces.{Stops};
 ghost use Rattle.sw_outside.specs.Faults.{HasRisen};
 ghost use Rattle.sw_http.specs.ChunkSteps.{HasNoLine, HasDigits, TakesExtension, HasNoExtension, TakesTail, HasNoTail, TakesLine, HasNoLineWithin};
-ghost use Rattle.sw_http.specs.declared.limits.TheConstants.{MAX_REQUEST};
 
 use crate::held::Held;
 use crate::input::ReadError;
-use crate::limits::MAX_REQUEST;
-use crate::line_end::{CRLF, begins_with, take_line_end};
+use crate::line_end::take_line_end;
 use crate::run::{Class, take_run};
 use httparse::{Status, parse_chunk_size};
+use sw_message::{CRLF, begins_with};
 use sw_outside::Source;
 
 /// The greatest number of digits in the size of a chunk.
@@ -87,7 +86,7 @@ fn take_extension<R: Source>(
     room: usize,
 ) -> Result<Option<usize>, ReadError>
     requires begun { 0 < length held.old }
-    requires limit { room ≤ MAX_REQUEST }
+    requires limit { room ≤ 1_073_741_824 }
     ensures taken { IfOk result (λ found. IfSome found (TakesExtension (prepend_known held.old (R.left source.old)) (prepend_known held.new (R.left source.new)) held.new)) }
     ensures bound { IfOk result (λ found. IfSome found (λ len. len ≤ room + 1)) }
     ensures none { result ≡ Ok None → IfSome (prepend_known held.old (R.left source.old)) (HasNoExtension room) }
@@ -110,7 +109,7 @@ fn take_tail<R: Source>(
     source: &mut R,
     room: usize,
 ) -> Result<Option<usize>, ReadError>
-    requires { room ≤ MAX_REQUEST }
+    requires { room ≤ 1_073_741_824 }
     ensures taken { IfOk result (λ found. IfSome found (TakesTail (prepend_known held.old (R.left source.old)) (prepend_known held.new (R.left source.new)))) }
     ensures bound { IfOk result (λ found. IfSome found (λ len. len ≤ room + room + 3)) }
     ensures none { result ≡ Ok None → IfSome (prepend_known held.old (R.left source.old)) (HasNoTail room) }
@@ -136,7 +135,7 @@ pub(crate) fn take_chunk_line<R: Source>(
     source: &mut R,
     room: usize,
 ) -> Result<Option<SizeLine>, ReadError>
-    requires { room ≤ MAX_REQUEST }
+    requires { room ≤ 1_073_741_824 }
     ensures taken { IfOk result (λ found. IfSome found (TakesLine (prepend_known held.old (R.left source.old)) (prepend_known held.new (R.left source.new)))) }
     ensures none { result ≡ Ok None → IfSome (prepend_known held.old (R.left source.old)) (HasNoLineWithin room) }
     ensures later { R.faults source.old ≤ R.faults source.new }

@@ -8,8 +8,8 @@ ghost use Rattle.sw_http.specs.ChunkSteps.{TakesBytes};
 use crate::held::Held;
 use crate::input::ReadError;
 use crate::limits::MAX_BODY;
-use crate::request::Body;
 use std::mem;
+use sw_message::Body;
 use sw_outside::{Bytes, NoMemory, Source};
 
 /// Puts bytes behind those of a body.

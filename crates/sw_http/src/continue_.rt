@@ -4,10 +4,9 @@ ghost use Rattle.std.specs.Io.KnownBytes.{Appends};
 ghost use Rattle.sw_outside.specs.Faults.{HasCause};
 ghost use Rattle.sw_outside.specs.Taken.{AppendsPart};
 ghost use Rattle.sw_http.specs.Continue.{asks_continue, continue_text};
-ghost use Rattle.sw_http.specs.Framing.{framing_of};
+ghost use Rattle.sw_message.specs.Framing.{framing_of};
 
-use crate::fields::FieldList;
-use crate::framing::{is_framed, says};
+use sw_message::{FieldList, is_framed, says};
 use sw_outside::{Failed, Sink};
 
 /// What tells a client to go on.

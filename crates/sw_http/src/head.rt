@@ -2,59 +2,20 @@ ghost use Rattle.std.specs.Prelude.{◌≡◌, ◌↔◌, ℕ, ◌≤◌, IsTrue
 ghost use Rattle.std.specs.Io.KnownBytes.{Keeps, prepend_known};
 ghost use Rattle.httparse.specs.Pieces.{Stops, is_newline};
 ghost use Rattle.sw_outside.specs.Faults.{HasRisen};
-ghost use Rattle.sw_http.specs.Head.{IsHeadAt, HasNoHead};
-ghost use Rattle.sw_http.specs.Input.{IsLook};
-ghost use Rattle.sw_http.specs.Request.{IsPath};
+ghost use Rattle.sw_message.specs.Head.{IsHeadAt, HasNoHead};
+ghost use Rattle.sw_message.specs.Look.{IsLook};
+ghost use Rattle.sw_message.specs.Head.{IsPath};
 
 use crate::held::Held;
 use crate::input::ReadError;
-use crate::limits::{MAX_FIELDS, MAX_HEAD};
-use crate::line_end::begins_with;
-use crate::look::Look;
-use httparse::Status;
-use httparse::spans::{HeaderSpan, RequestSpans, parse_request};
+use httparse::spans::{HeaderSpan, RequestSpans};
+use sw_message::{Look, MAX_FIELDS, MAX_HEAD, find_head};
 use sw_outside::Source;
-
-/// The minor version of HTTP/1.1.
-const MINOR_VERSION: u8 = 1;
-
-/// Whether a head of this size and this minor version is one that this server takes.
-fn is_taken(len: usize, version: u8) -> bool
-    ensures { IsTrue result ↔ ((len ≤ MAX_HEAD) × (version ≡ MINOR_VERSION)) }
-{
-    len <= MAX_HEAD && version == MINOR_VERSION
-}
-
-/// Whether a target begins with a slash.
-fn is_path(target: &[u8]) -> bool
-    ensures { IsTrue result ↔ IsPath target.now }
-{
-    begins_with(target, b"/")
-}
-
-/// Looks for a head in front of bytes that don't begin with a line end.
-pub(crate) fn find_head(bytes: &[u8], headers: &mut [HeaderSpan]) -> Look<RequestSpans>
-    requires room { length headers.old ≡ MAX_FIELDS }
-    requires begins { Stops is_newline bytes.now }
-    ensures { IsLook (IsHeadAt bytes.now headers.new) HasNoHead bytes.now result }
-{
-    match parse_request(bytes, headers) {
-        Ok(Status::Complete(spans)) => {
-            if is_taken(spans.len, spans.version) && is_path(spans.path.of(bytes)) {
-                Look::Whole(spans)
-            } else {
-                Look::Never
-            }
-        }
-        Ok(Status::Partial) => Look::NotYet,
-        Err(_) => Look::Never,
-    }
-}
 
 /// The same, where no head stands in front of the first `seen` bytes. A head ends with a line feed, so without a new one there is no
 /// need to look.
 fn find_new_head(bytes: &[u8], seen: usize, headers: &mut [HeaderSpan]) -> Look<RequestSpans>
-    requires room { length headers.old ≡ MAX_FIELDS }
+    requires room { length headers.old ≡ 128 }
     requires begins { Stops is_newline bytes.now }
     requires within { seen ≤ length bytes.now }
     requires none_seen { HasNoHead (take seen bytes.now) }
@@ -75,7 +36,7 @@ pub(crate) fn read_head<R: Source>(
     source: &mut R,
     headers: &mut [HeaderSpan],
 ) -> Result<Option<RequestSpans>, ReadError>
-    requires room { length headers.old ≡ MAX_FIELDS }
+    requires room { length headers.old ≡ 128 }
     requires begins { Stops is_newline held.old }
     ensures kept { Keeps (prepend_known held.old (R.left source.old)) (prepend_known held.new (R.left source.new)) }
     ensures found { IfOk result (λ found. IfSome found (IsHeadAt held.new headers.new)) }

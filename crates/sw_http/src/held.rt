@@ -54,9 +54,9 @@ impl Held {
 
     /// Reads one piece more.
     pub(crate) fn read_more<R: Source>(&mut self, source: &mut R) -> Result<usize, ReadError>
-        requires { length self.old + PIECE < 2 ^ 64 }
+        requires { length self.old + 8_192 < 2 ^ 64 }
         ensures read { ReadsBehind self.old self.new (R.left source.old) (R.left source.new) result }
-        ensures bound { IfOk result (λ n. n ≤ PIECE) }
+        ensures bound { IfOk result (λ n. n ≤ 8_192) }
         ensures later { R.faults source.old ≤ R.faults source.new }
         ensures read_fault { result ≡ Err ReadError.Failed → HasRisen (R.faults source.old) (R.faults source.new) }
     {

@@ -44,7 +44,7 @@ pub(crate) fn read_behind<R: Source>(
     room: usize,
 ) -> Result<usize, ReadError>
     requires some { 0 < room }
-    requires piece { room ≤ PIECE }
+    requires piece { room ≤ 8_192 }
     requires fits { vec_len bytes.old + room < 2 ^ 64 }
     ensures read { ReadsBehind bytes.old.items bytes.new.items (R.left source.old) (R.left source.new) result }
     ensures bound { IfOk result (λ n. n ≤ room) }

@@ -6,18 +6,8 @@ ghost use Rattle.sw_http.specs.Input.{HasNoLineEnd};
 
 use crate::held::Held;
 use crate::input::ReadError;
+use sw_message::{CRLF, begins_with};
 use sw_outside::Source;
-
-/// What ends a line.
-pub(crate) const CRLF: &[u8] = b"\r\n";
-
-/// Whether this text stands in front of bytes.
-pub(crate) fn begins_with(bytes: &[u8], text: &[u8]) -> bool
-    ensures found { IsTrue result → bytes.now ≡ text.now ++ drop (length text.now) bytes.now }
-    ensures all { (rest : List ℕ) → bytes.now ≡ text.now ++ rest → IsTrue result }
-{
-    bytes.starts_with(text)
-}
 
 /// Reads until two bytes are held. It answers `false` where the input ends before.
 fn hold_two<R: Source>(held: &mut Held, source: &mut R) -> Result<bool, ReadError>

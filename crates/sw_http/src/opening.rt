@@ -4,16 +4,17 @@ ghost use Rattle.std.specs.Io.KnownBytes.{Keeps, prepend_known};
 ghost use Rattle.httparse.specs.Pieces.{Stops, is_newline};
 ghost use Rattle.sw_outside.specs.Faults.{HasRisen};
 ghost use Rattle.sw_http.specs.Continue.{Skips};
-ghost use Rattle.sw_http.specs.Head.{IsOpening, TakesHead, HasNoHead};
+ghost use Rattle.sw_http.specs.Opening.{IsOpening, TakesHead};
+ghost use Rattle.sw_message.specs.Head.{HasNoHead};
 
 use crate::head::read_head;
 use crate::held::Held;
 use crate::input::ReadError;
-use crate::limits::{MAX_FIELDS, MAX_REQUEST, MAX_SKIPPED};
-use crate::open_request::{OpenRequest, open_request};
+use crate::limits::{MAX_REQUEST, MAX_SKIPPED};
 use crate::run::{Class, Run, skip_run};
 use httparse::spans::EMPTY_HEADER_SPAN;
 use std::alloc::Global;
+use sw_message::{MAX_FIELDS, OpenRequest, open_request};
 use sw_outside::Source;
 
 /// What stands in front of the input.

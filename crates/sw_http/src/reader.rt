@@ -4,23 +4,18 @@ ghost use Rattle.sw_outside.specs.Faults.{HasRisen};
 ghost use Rattle.sw_outside.specs.Taken.{AppendsPart};
 ghost use Rattle.sw_http.specs.Continue.{Takes, Refuses, MayContinue, IsToldPart, IsCut, continue_text};
 ghost use Rattle.sw_http.specs.ChunkSteps.{TakesBody, HasNoBody};
-ghost use Rattle.sw_http.specs.Framing.{framing_of, is_framed};
+ghost use Rattle.sw_message.specs.Framing.{framing_of, is_framed};
 ghost use Rattle.sw_http.specs.Input.{fault_of};
 ghost use Rattle.sw_http.specs.Request.{IsSkipped};
-ghost use Rattle.sw_http.specs.declared.limits.TheConstants.{MAX_REQUEST};
 ghost use Rattle.sw_http.specs.declared.reader.HttpFault.TheVariants as faults;
 
 use crate::body::take_body;
 use crate::continue_::send_continue;
-use crate::fields::FieldList;
-use crate::framing::{framing_of, is_framed};
 use crate::held::Held;
 use crate::input::ReadError;
-use crate::limits::MAX_REQUEST;
-use crate::open_request::OpenRequest;
 use crate::opening::{Opening, take_opening};
-use crate::request::{Body, Request};
 use std::alloc::Global;
+use sw_message::{Body, FieldList, OpenRequest, Request, framing_of, is_framed};
 use sw_outside::{Failed, Sink, Source};
 use thiserror::Error;
 
@@ -126,7 +121,7 @@ fn read_body<R: Source, W: Sink>(
     fields: &FieldList,
     room: usize,
 ) -> Result<Option<Body>, HttpFault>
-    requires { room ≤ MAX_REQUEST }
+    requires { room ≤ 1_073_741_824 }
     ensures taken { IfOk result (λ found. IfSome found (TakesBody (prepend_known held.old (R.left source.old)) (prepend_known held.new (R.left source.new)) (framing_of fields.now) room)) }
     ensures none { result ≡ Ok None → IfSome (prepend_known held.old (R.left source.old)) (HasNoBody (framing_of fields.now) room) }
     ensures told { OnOk result (Appends (W.taken out.old) (W.taken out.new) (continue_text fields.now)) }

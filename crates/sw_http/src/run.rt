@@ -5,11 +5,9 @@ ghost use Rattle.std.specs.Io.KnownBytes.{prepend_known};
 ghost use Rattle.httparse.specs.Pieces.{Stops};
 ghost use Rattle.sw_outside.specs.Faults.{HasRisen};
 ghost use Rattle.sw_http.specs.Input.{IsRun, TakesRun, TakesFew, HasNoRun, test_of};
-ghost use Rattle.sw_http.specs.declared.limits.TheConstants.{MAX_REQUEST};
 
 use crate::held::Held;
 use crate::input::ReadError;
-use crate::limits::MAX_REQUEST;
 use sw_outside::Source;
 
 /// The bytes that a run is made of.
@@ -57,7 +55,7 @@ pub(crate) fn skip_run<R: Source>(
     held: &mut Held,
     source: &mut R,
 ) -> Result<Run, ReadError>
-    requires { limit ≤ MAX_REQUEST }
+    requires { limit ≤ 1_073_741_824 }
     ensures run { IfOk result (IsRun (test_of class) limit (prepend_known held.old (R.left source.old)) (prepend_known held.new (R.left source.new)) held.new (R.left source.new)) }
     ensures kept { OnErr result (TakesFew (test_of class) limit (prepend_known held.old (R.left source.old)) (prepend_known held.new (R.left source.new))) }
     ensures later { R.faults source.old ≤ R.faults source.new }
@@ -87,7 +85,7 @@ pub(crate) fn take_run<R: Source>(
     held: &mut Held,
     source: &mut R,
 ) -> Result<Option<usize>, ReadError>
-    requires { limit ≤ MAX_REQUEST }
+    requires { limit ≤ 1_073_741_824 }
     ensures taken { IfOk result (λ found. IfSome found (TakesRun (test_of class) (prepend_known held.old (R.left source.old)) (prepend_known held.new (R.left source.new)))) }
     ensures few { IfOk result (λ found. IfSome found (λ count. count ≤ limit)) }
     ensures stops { IfOk result (λ found. IfSome found (λ _. Stops (test_of class) held.new)) }

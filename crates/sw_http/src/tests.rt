@@ -1,11 +1,9 @@
 use crate::laws::{one_reading, one_request};
-use crate::{
-    Body, Field, FieldList, Held, HttpFault, Request, Response, WriteFault, next_request,
-    write_response,
-};
+use crate::{Held, HttpFault, next_request};
 use std::alloc::{AllocError, Global};
 use std::process::Abort;
 use std::test::Fail;
+use sw_message::{Body, Field, FieldList, Request, Response, WriteFault, write_response};
 use sw_outside::{Bytes, FailingPut, MemSink, MemSource, NoMemory};
 
 const PUT: &[u8] =

@@ -3,19 +3,18 @@ ghost use Rattle.std.specs.Prelude.{◌≡◌, ◌↔◌, ℕ, ◌≤◌, IsTrue
 ghost use Rattle.std.specs.Io.KnownBytes.{Keeps, prepend_known};
 ghost use Rattle.sw_outside.specs.Faults.{HasRisen};
 ghost use Rattle.sw_http.specs.ChunkSteps.{HasNoTrailer, IsTrailerAt, TakesTrailer, HasNoTrailerWithin};
-ghost use Rattle.sw_http.specs.Input.{IsLook};
+ghost use Rattle.sw_message.specs.Look.{IsLook};
 
 use crate::held::Held;
 use crate::input::ReadError;
-use crate::limits::{MAX_FIELDS, MAX_HEAD};
-use crate::look::Look;
 use httparse::Status;
 use httparse::spans::{EMPTY_HEADER_SPAN, HeaderSpan, parse_headers};
+use sw_message::{Look, MAX_FIELDS, MAX_HEAD};
 use sw_outside::Source;
 
 /// Looks for a trailer in front of bytes.
 fn find_trailer(bytes: &[u8], headers: &mut [HeaderSpan]) -> Look<usize>
-    requires room { length headers.old ≡ MAX_FIELDS }
+    requires room { length headers.old ≡ 128 }
     ensures { IsLook (IsTrailerAt bytes.now) HasNoTrailer bytes.now result }
 {
     match parse_headers(bytes, headers) {
@@ -34,7 +33,7 @@ fn find_trailer(bytes: &[u8], headers: &mut [HeaderSpan]) -> Look<usize>
 /// The same, where no trailer stands in front of the first `seen` bytes. A trailer ends with a line feed, so without a new one there is
 /// no need to look.
 fn find_new_trailer(bytes: &[u8], seen: usize, headers: &mut [HeaderSpan]) -> Look<usize>
-    requires room { length headers.old ≡ MAX_FIELDS }
+    requires room { length headers.old ≡ 128 }
     requires within { seen ≤ length bytes.now }
     requires none_seen { HasNoTrailer (take seen bytes.now) }
     ensures { IsLook (IsTrailerAt bytes.now) HasNoTrailer bytes.now result }

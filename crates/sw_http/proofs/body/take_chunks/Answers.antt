@@ -1,6 +1,6 @@
 use Rattle.std.proofs.Common.{Ok, ap, Some}
 use Rattle.sw_http.specs.ChunkSteps.{HasNoBody, HasNoChunked}
-use Rattle.sw_http.specs.declared.framing.Framing.TheVariants.{Chunked}
+use Rattle.sw_message.specs.declared.framing.Framing.TheVariants.{Chunked}
 use Rattle.sw_http.proofs.BodyLemmas.{chunks_taken, no_chunks}
 use Rattle.sw_http.proofs.InputLemmas.{if_some_map}
 use Rattle.sw_http.proofs.body.take_chunks.Goals as goal

@@ -1,6 +1,6 @@
 use Rattle.std.proofs.Common.{ℕ, List, ◌<◌, length, Ok, ap, arith, Some}
 use Rattle.sw_http.specs.ChunkSteps.{HasNoBody}
-use Rattle.sw_http.specs.declared.framing.Framing.TheVariants.{Length}
+use Rattle.sw_message.specs.declared.framing.Framing.TheVariants.{Length}
 use Rattle.sw_http.proofs.BodyLemmas.{plain_taken, no_plain}
 use Rattle.sw_http.proofs.InputLemmas.{if_some_map}
 use Rattle.sw_http.proofs.body.take_plain.Goals as goal

@@ -1,6 +1,6 @@
 use Rattle.std.proofs.Common.{sym, ◌∙◌}
 use Rattle.std.proofs.lemmas.List.{take_rest}
-use Rattle.sw_http.proofs.HeadLemmas.{not_yet}
+use Rattle.sw_message.proofs.HeadLemmas.{not_yet}
 use Rattle.sw_http.proofs.head.find_new_head.Goals as goal
 
 pub returns-else-contains : goal.returns-else-contains

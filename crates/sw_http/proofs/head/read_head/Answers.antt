@@ -1,7 +1,7 @@
 use Rattle.std.proofs.Common.{ℕ, ◌≤◌, List, length, refl, arith, sym, subst, ◌∙◌}
 use Rattle.std.proofs.KnownBytes.{Keeps-refl, Keeps-trans}
-use Rattle.sw_http.specs.Head.{HasNoHead}
-use Rattle.sw_http.proofs.HeadLemmas.{no_head_in_none, never_long}
+use Rattle.sw_message.specs.Head.{HasNoHead}
+use Rattle.sw_message.proofs.HeadLemmas.{no_head_in_none, never_long}
 use Rattle.sw_http.proofs.InputLemmas.{kept_read, read_none, if_kept, if_always, if_ended}
 use Rattle.sw_http.proofs.head.read_head.Goals as goal
 

@@ -1,7 +1,7 @@
 use Rattle.std.proofs.Common.{◌≡◌, ◌≤◌, ◌+◌, ◌-◌, length, take}
 use Rattle.std.specs.Io.KnownBytes.{Keeps, prepend_known}
 use Rattle.httparse.specs.Pieces.{Stops, is_newline}
-use Rattle.sw_http.specs.Head.{HasNoHead}
+use Rattle.sw_message.specs.Head.{HasNoHead}
 use Rattle.sw_http.proofs.head.read_head.Given as goal
 
 -- the bytes were only read, and no head stands in front of those that were looked at

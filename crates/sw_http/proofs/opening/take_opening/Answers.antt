@@ -1,6 +1,6 @@
 use Rattle.std.proofs.Common.{Ok, ap, refl}
 use Rattle.httparse.specs.Pieces.{is_newline}
-use Rattle.sw_http.specs.Head.{IsHeadless}
+use Rattle.sw_http.specs.Opening.{IsHeadless}
 use Rattle.sw_http.specs.Input.{IsLongRun}
 use Rattle.sw_http.proofs.InputLemmas.{if_some_map}
 use Rattle.sw_http.proofs.OpeningLemmas.{opened, headless, headless_run}

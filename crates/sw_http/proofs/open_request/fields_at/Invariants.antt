@@ -1,6 +1,0 @@
-use Rattle.std.proofs.Common.{◌≡◌, map, take}
-use Rattle.sw_http.specs.Head.{field_at}
-use Rattle.sw_http.proofs.open_request.fields_at.Given as goal
-
-abbrev pub invariant-loop-header : goal.invariant-loop-header
-invariant-loop-header l = l.fields.items ≡ map (field_at l.bytes) (take l.header-index l.covered)

@@ -1,7 +1,0 @@
-use Rattle.std.proofs.Common.{◌≡◌, ◌++◌, take}
-use Rattle.std.specs.List.{flat_map}
-use Rattle.sw_http.specs.Reply.{field_line}
-use Rattle.sw_http.proofs.reply_text.push_fields.Given as goal
-
-abbrev pub invariant-loop-field : goal.invariant-loop-field
-invariant-loop-field l = l.text.items ≡ l.initial.text.items ++ flat_map field_line (take l.field-index l.fields)
