@@ -6,11 +6,11 @@ use Rattle.std.proofs.lemmas.Bool.{cases_lt, cond-true, cond-false, le-leb, lt-l
 use Rattle.httparse.specs.Ascii.{crlf_bytes}
 use Rattle.sw_http.specs.Body.{Plain, Chunks, BodyText, IsBody, print_body, body_of, extended, IsWithinLimit}
 use Rattle.sw_http.specs.ChunkSteps.{TakesBytes, TakesData, HasNoData, TakesChunked, HasNoChunked, IsUnread, TakesBody, HasNoBody}
-use Rattle.sw_http.specs.Input.{HasNoLineEnd}
+use Rattle.sw_http.specs.Input.{IfSeen, IsShort, HasNoLineEnd}
 use Rattle.sw_message.specs.declared.framing.Framing.TheVariants.{Unframed, Length, Chunked}
 use Rattle.sw_message.specs.declared.request.Body.{Body}
 use Rattle.sw_message.specs.declared.request.Body.TheVariants.{Whole, TooLarge}
-use Rattle.sw_http.proofs.InputLemmas.{front_taken, if_behind}
+use Rattle.sw_http.proofs.InputLemmas.{front_taken, if_behind, no_end_short, seen_behind, seen_map}
 use Rattle.sw_http.proofs.ListLemmas.{fronts_same}
 
 -- ---- what is kept
@@ -152,3 +152,25 @@ no_framing room bytes = record { none = λ text rest is fits e. is }
 pub data_none : (a b : Option (List ℕ)) (body now : Body) (len : ℕ) → TakesBytes a b body now len → IfSome b HasNoLineEnd → IfSome a (HasNoData len)
 data_none a b body now len takes none_there =
     if_behind a b takes.bytes (HasNoData len) HasNoLineEnd takes.taken (λ rest holds. no_data_end len takes.bytes rest takes.size holds) none_there
+
+-- ---- a read failed in a body
+
+pub content_cut : (a b left : Option (List ℕ)) (body now : Body) (count len : ℕ) → TakesBytes a b body now count → count < len → IfSeen b left (λ (s : List ℕ). length s ≡ 0)
+    → IfSeen a left (λ (s : List ℕ). length s < len)
+content_cut a b left body now count len takes short none_there =
+    seen_behind a b left takes.bytes (λ (s : List ℕ). length s < len) (λ (s : List ℕ). length s ≡ 0) takes.taken
+    (λ rest none. omega (arith, short, none, takes.size, length-append takes.bytes rest)) none_there
+
+pub data_cut_short : (a left : Option (List ℕ)) (len : ℕ) → IfSeen a left (λ (s : List ℕ). length s < len) → IfSeen a left (HasNoData len)
+data_cut_short a left len = seen_map a left (λ (s : List ℕ). length s < len) (HasNoData len) (no_data_short len)
+
+pub data_cut_end : (a b left : Option (List ℕ)) (held : List ℕ) (body now : Body) (len : ℕ) → TakesBytes a b body now len → IfSeen b left (IsShort held) → IfSeen a left (HasNoData len)
+data_cut_end a b left held body now len takes cut =
+    seen_behind a b left takes.bytes (HasNoData len) (IsShort held) takes.taken
+    (λ rest short. no_data_end len takes.bytes rest takes.size (no_end_short rest short.0)) cut
+
+pub plain_cut : (a left : Option (List ℕ)) (len room : ℕ) → IfSeen a left (λ (s : List ℕ). length s < len) → IfSeen a left (HasNoBody (Some (Length len)) room)
+plain_cut a left len room = seen_map a left (λ (s : List ℕ). length s < len) (HasNoBody (Some (Length len)) room) (no_plain len room)
+
+pub chunks_body_cut : (a left : Option (List ℕ)) (room : ℕ) → IfSeen a left (HasNoChunked room) → IfSeen a left (HasNoBody (Some Chunked) room)
+chunks_body_cut a left room = seen_map a left (HasNoChunked room) (HasNoBody (Some Chunked) room) (no_chunks room)

@@ -15,7 +15,8 @@ use Rattle.sw_http.specs.ChunkSteps.{HasNoLineWithin, HasNoData, TakesData, Take
 use Rattle.sw_http.specs.declared.chunk_line.SizeLine.{SizeLine}
 use Rattle.sw_message.specs.declared.request.Body.{Body}
 use Rattle.sw_http.proofs.BodyLemmas.{extended_none, extended_twice, extended_within}
-use Rattle.sw_http.proofs.InputLemmas.{if_behind, if_taken}
+use Rattle.sw_http.specs.Input.{IfSeen}
+use Rattle.sw_http.proofs.InputLemmas.{if_behind, if_taken, seen_behind, seen_map}
 use Rattle.sw_http.proofs.ListLemmas.{fronts_same, same_rest}
 
 abbrev chunked : List Chunk → ChunkLine → List Field → LineEnd → List ℕ
@@ -291,3 +292,28 @@ step_no_data a b size_line room takes some none_there =
     if_behind a b _ (HasNoChunked room) (HasNoData size_line.size) takes.taken
     (λ rest holds. no_chunked_data room takes.line rest takes.is_line (omega (arith, takes.size_is, some)) (subst (λ (n : ℕ). HasNoData n rest) (sym takes.size_is) holds))
     none_there
+
+-- ---- a read failed in a chunked body
+
+pub chunk_cut_line : (a left : Option (List ℕ)) (room : ℕ) → IfSeen a left (HasNoLineWithin room) → IfSeen a left (HasNoChunked room)
+chunk_cut_line a left room = seen_map a left (HasNoLineWithin room) (HasNoChunked room) (no_chunked_line room)
+
+pub chunk_cut_data : (a b left : Option (List ℕ)) (size_line : SizeLine) (room : ℕ) → TakesLine a b size_line → 0 < size_line.size → IfSeen b left (HasNoData size_line.size)
+    → IfSeen a left (HasNoChunked room)
+chunk_cut_data a b left size_line room takes some cut =
+    seen_behind a b left _ (HasNoChunked room) (HasNoData size_line.size) takes.taken
+    (λ rest holds. no_chunked_data room takes.line rest takes.is_line (omega (arith, takes.size_is, some)) (subst (λ (n : ℕ). HasNoData n rest) (sym takes.size_is) holds))
+    cut
+
+pub chunks_cut : (a b now : Option (List ℕ)) (body body_now : Body) (room left : ℕ) → TakesChunks a b body body_now room left → IfSeen b now (HasNoChunked left)
+    → IfSeen a now (HasNoChunked room)
+chunks_cut a b now body body_now room left takes cut =
+    seen_behind a b now _ (HasNoChunked room) (HasNoChunked left) takes.taken
+    (λ rest holds. no_chunked_behind_all takes.chunks room left rest takes.are_chunks takes.room_is holds) cut
+
+pub trailer_cut : (a b c now : Option (List ℕ)) (body body_now : Body) (room left len : ℕ) → TakesChunks a b body body_now room left → TakesLast b c len → len ≤ left
+    → IfSeen c now (HasNoTrailerWithin (left - len)) → IfSeen a now (HasNoChunked room)
+trailer_cut a b c now body body_now room left len takes last within cut =
+    chunks_cut a b now body body_now room left takes
+    (seen_behind b c now _ (HasNoChunked left) (HasNoTrailerWithin (left - len)) last.taken
+    (λ rest holds. no_chunked_trailer left (left - len) len last.line rest last.is_last last.len_is (omega arith) holds) cut)

@@ -10,7 +10,7 @@ use Rattle.std.specs.List.{prefix_len}
 use Rattle.httparse.proofs.RunLemmas.{Stops-drop, run_unstopped}
 use Rattle.httparse.specs.Grammar.{AllPass}
 use Rattle.httparse.specs.Pieces.{Stops}
-use Rattle.sw_http.specs.Input.{HasRead, TakesRun, TakesFew, IsAllRun, IsLongRun, HasNoRun}
+use Rattle.sw_http.specs.Input.{IfSeen, HasRead, TakesRun, TakesFew, IsAllRun, IsLongRun, HasNoRun, HasNoLineEnd}
 
 -- ---- what is held, and then what the source has left
 
@@ -70,6 +70,56 @@ pub if_taken : (a b : Option (List ℕ)) (front : List ℕ) (P : List ℕ → Ty
 if_taken None b front P taken step = tt
 if_taken (Some xs) None front P taken step = absurd taken
 if_taken (Some xs) (Some ys) front P taken step = subst P (sym taken) (step ys)
+
+-- ---- what was seen of the input
+
+-- what is held was seen, where a read failed
+pub seen_held : (before after : List ℕ) (left now : Option (List ℕ)) (P : List ℕ → Type 0) → after ≡ before → Keeps left now → P before
+    → IfSeen (prepend_known before left) now P
+seen_held before after None now P same kept holds = tt
+seen_held before after (Some xs) None P same kept holds = tt
+seen_held before after (Some xs) (Some ys) P same kept holds = (before, ap (λ (l : List ℕ). before ++ l) (sym kept), holds)
+
+pub seen_kept : (a b left : Option (List ℕ)) (P : List ℕ → Type 0) → Keeps a b → IfSeen b left P → IfSeen a left P
+seen_kept None b left P kept holds = tt
+seen_kept (Some xs) None left P kept holds = absurd kept
+seen_kept (Some xs) (Some ys) None P kept holds = tt
+seen_kept (Some xs) (Some ys) (Some zs) P kept holds = (holds.0, sym kept ∙ holds.1, holds.2)
+
+-- from a fact on what was seen to a weaker one
+pub seen_map : (a left : Option (List ℕ)) (P Q : List ℕ → Type 0) → ((bytes : List ℕ) → P bytes → Q bytes) → IfSeen a left P → IfSeen a left Q
+seen_map None left P Q step holds = tt
+seen_map (Some xs) None P Q step holds = tt
+seen_map (Some xs) (Some ys) P Q step holds = (holds.0, holds.1, step holds.0 holds.2)
+
+-- from a fact on what was seen behind a text that was taken off
+pub seen_behind : (a b left : Option (List ℕ)) (front : List ℕ) (P Q : List ℕ → Type 0) → Consumes a b front → ((rest : List ℕ) → Q rest → P (front ++ rest))
+    → IfSeen b left Q → IfSeen a left P
+seen_behind None b left front P Q taken step holds = tt
+seen_behind (Some xs) None left front P Q taken step holds = absurd taken
+seen_behind (Some xs) (Some ys) None front P Q taken step holds = tt
+seen_behind (Some xs) (Some ys) (Some zs) front P Q taken step holds =
+    (front ++ holds.0, taken ∙ ap (λ (l : List ℕ). front ++ l) holds.1 ∙ sym (append_assoc front holds.0 zs), step holds.0 holds.2)
+
+-- all of the input was seen where nothing is left
+pub seen_of_all : (a : Option (List ℕ)) (P : List ℕ → Type 0) → IfSome a P → IfSeen a (Some []) P
+seen_of_all None P holds = tt
+seen_of_all (Some xs) P holds = (xs, sym (append-nil xs), holds)
+
+pub all_of_seen : (a : Option (List ℕ)) (P : List ℕ → Type 0) → IfSeen a (Some []) P → IfSome a P
+all_of_seen None P holds = tt
+all_of_seen (Some xs) P holds = subst P (sym (holds.1 ∙ append-nil holds.0)) holds.2
+
+-- what was seen begins with what was held, where it has as many bytes
+pub seen_begins : (held xs seen ys : List ℕ) → held ++ xs ≡ seen ++ ys → length held ≤ length seen → (more : List ℕ) × (seen ≡ held ++ more)
+seen_begins [] xs seen ys e few = (seen, refl)
+seen_begins (b ∷ held) xs [] ys e few = absurd (omega arith)
+seen_begins (b ∷ held) xs (c ∷ seen) ys e few =
+    let tail = seen_begins held xs seen ys (cc) (omega arith) in
+    let same : c ≡ b = cc in
+    (tail.0, λ i. same i ∷ tail.1 i)
+
+-- ---- what holds at the end of the input, and of what was held
 
 -- no length, no bytes
 pub no_bytes : (bytes : List ℕ) → length bytes ≡ 0 → bytes ≡ []
@@ -178,3 +228,27 @@ pub no_run_all : (test : ℕ → Bool) (limit : ℕ) (bytes : List ℕ) → IsAl
 no_run_all test limit bytes all = record {
   none = λ run rest passes few stops e. run_unstopped test run rest (subst (AllPass test) e all.passes) stops;
 }
+
+-- a read failed in a run: all that was seen passes
+pub run_cut : (test : ℕ → Bool) (limit : ℕ) (a : Option (List ℕ)) (held after : List ℕ) (left now : Option (List ℕ)) (count : ℕ)
+    → TakesRun test a (prepend_known held left) count → count ≤ limit → held ≡ [] → after ≡ held → Keeps left now → IfSeen a now (IsAllRun test limit)
+run_cut test limit a held after left now count run few none same kept =
+    seen_behind a _ now run.run (IsAllRun test limit) (λ (s : List ℕ). s ≡ []) run.taken
+    (λ rest nothing. record {
+      passes = subst (AllPass test) (sym (ap (λ (l : List ℕ). run.run ++ l) nothing ∙ append-nil run.run)) run.passes;
+      few = omega (arith, few, run.size, ap length nothing, length-append run.run rest);
+    })
+    (seen_held held after left now (λ (s : List ℕ). s ≡ []) same kept none)
+
+-- too few bytes for a line end
+pub no_end_short : (bytes : List ℕ) → length bytes < 2 → HasNoLineEnd bytes
+no_end_short bytes short = record { none = λ rest e. omega (arith, short, ap length e) }
+
+-- what ends a run is there, and stands in front whatever follows
+pub stops_some : (test : ℕ → Bool) (bytes : List ℕ) → Stops test bytes → 0 < length bytes
+stops_some test [] stops = absurd stops
+stops_some test (b ∷ bytes) stops = omega arith
+
+pub stops_front : (test : ℕ → Bool) (bytes more : List ℕ) → 0 < length bytes → Stops test (bytes ++ more) → Stops test bytes
+stops_front test [] more some stops = absurd (omega arith)
+stops_front test (b ∷ bytes) more some stops = stops

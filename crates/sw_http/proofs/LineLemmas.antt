@@ -13,12 +13,12 @@ use Rattle.httparse.specs.Pieces.{Stops}
 use Rattle.httparse.specs.Spans.{IsChunkLineAt}
 use Rattle.httparse.proofs.ChunkLemmas.{chunk_pieces, chunk_line_unique}
 use Rattle.httparse.proofs.RunLemmas.{run_unique, run_unstopped, Stops-append}
-use Rattle.sw_http.specs.ChunkSteps.{HasNoLine, HasDigits, is_semicolon, EndsExtension, TakesExtension, HasNoExtension, print_tail, TakesTail, HasNoTail, TakesLine, HasNoLineWithin}
-use Rattle.sw_http.specs.Input.{TakesRun, HasNoRun, HasNoLineEnd}
+use Rattle.sw_http.specs.ChunkSteps.{HasNoLine, HasDigits, is_semicolon, EndsExtension, TakesExtension, HasNoExtension, IsExtensionCut, print_tail, TakesTail, HasNoTail, TakesLine, HasNoLineWithin}
+use Rattle.sw_http.specs.Input.{IfSeen, IsShort, TakesRun, HasNoRun, HasNoLineEnd}
 use Rattle.sw_http.specs.declared.chunk_line.SizeLine.{SizeLine}
 use Rattle.sw_http.proofs.ListLemmas.{same_rest}
 use Rattle.sw_message.proofs.ListLemmas.{take_every}
-use Rattle.sw_http.proofs.InputLemmas.{if_behind, if_kept, if_some_map, longer_run, run_passes, run_stops, run_within}
+use Rattle.sw_http.proofs.InputLemmas.{if_behind, if_kept, if_some_map, longer_run, no_end_short, run_passes, run_stops, run_within, seen_begins, seen_behind, seen_kept, seen_map, stops_front, stops_some}
 
 -- ---- the digits
 
@@ -277,3 +277,85 @@ tail_taken a b c d held count len run extension end = record {
   len_is = omega (arith, run.size, extension.len_is, length-append run.run (print_extension extension.extension ++ crlf_bytes), length-append (print_extension extension.extension) crlf_bytes);
   taken = Consumes-trans a b d run.run _ run.taken (Consumes-trans b c d _ crlf_bytes extension.taken end);
 }
+
+-- ---- a read failed in a line
+
+pub extension_cut : (a b left : Option (List ℕ)) (room : ℕ) → Consumes a b (59 ∷ []) → IfSeen b left (HasNoRun is_extension_byte room) → IfSeen a left (IsExtensionCut room)
+extension_cut a b left room semicolon none_there =
+    seen_behind a b left (59 ∷ []) (IsExtensionCut room) (HasNoRun is_extension_byte room) semicolon
+    (λ rest holds. record { text = rest; begins = refl; none = no_extension room rest holds }) none_there
+
+pub tail_cut_blanks : (a left : Option (List ℕ)) (room : ℕ) → IfSeen a left (HasNoRun is_ows room) → IfSeen a left (HasNoTail room)
+tail_cut_blanks a left room = seen_map a left (HasNoRun is_ows room) (HasNoTail room) (no_tail_blanks room)
+
+pub tail_cut_extension : (a b left : Option (List ℕ)) (count room : ℕ) → TakesRun is_ows a b count → IfSeen b left (IsExtensionCut room) → IfSeen a left (HasNoTail room)
+tail_cut_extension a b left count room run none_there =
+    seen_behind a b left run.run (HasNoTail room) (IsExtensionCut room) run.taken
+    (λ rest cut. no_tail_extension room run.run rest run.passes (subst (Stops is_ows) (sym cut.begins) refl) cut.none) none_there
+
+pub tail_cut_end : (a : Option (List ℕ)) (held mid : List ℕ) (left behind now : Option (List ℕ)) (count len room : ℕ) → TakesRun is_ows a (prepend_known held left) count
+    → Stops is_ows held → TakesExtension (prepend_known held left) (prepend_known mid behind) mid len → IfSeen (prepend_known mid behind) now (IsShort mid) → IfSeen a now (HasNoTail room)
+tail_cut_end a held mid left behind now count len room run stops extension cut = go a left behind now run.taken extension.taken cut
+  where
+    some_held : (e : Option (List ℕ)) → EndsExtension e mid → 0 < length mid
+    some_held None ends = stops_some is_semicolon mid ends
+    some_held (Some word) ends = stops_some is_extension_byte mid ends
+
+    no_tail : (xs ys zs s ws : List ℕ) → held ++ ys ≡ print_extension extension.extension ++ (mid ++ zs) → mid ++ zs ≡ s ++ ws → length s < 2 → length mid ≤ length s
+        → HasNoTail room (run.run ++ (print_extension extension.extension ++ s))
+    no_tail xs ys zs s ws taken_text e short as_many =
+        let begins = seen_begins mid zs s ws e as_many in
+        let whole : held ++ ys ≡ (print_extension extension.extension ++ s) ++ ws =
+        taken_text ∙ ap (λ (l : List ℕ). print_extension extension.extension ++ l) e ∙ sym (append_assoc (print_extension extension.extension) s ws) in
+        let some = some_held extension.extension extension.ends in
+        let front = stops_front is_ows (print_extension extension.extension ++ s) ws (omega (arith, some, as_many, length-append (print_extension extension.extension) s))
+        (subst (Stops is_ows) whole (Stops-append is_ows held ys stops)) in
+        no_tail_end room run.run extension.extension s run.passes front extension.is_extension
+        (subst (EndsExtension extension.extension) (sym begins.1) (ends_append extension.extension mid begins.0 extension.ends)) (no_end_short s short)
+
+    go : (x y z w : Option (List ℕ)) → Consumes x (prepend_known held y) run.run → Consumes (prepend_known held y) (prepend_known mid z) (print_extension extension.extension)
+        → IfSeen (prepend_known mid z) w (IsShort mid) → IfSeen x w (HasNoTail room)
+    go None y z w taken taken_text holds = tt
+    go (Some xs) None z w taken taken_text holds = absurd taken
+    go (Some xs) (Some ys) None w taken taken_text holds = absurd taken_text
+    go (Some xs) (Some ys) (Some zs) None taken taken_text holds = tt
+    go (Some xs) (Some ys) (Some zs) (Some ws) taken taken_text holds = (
+      run.run ++ (print_extension extension.extension ++ holds.0),
+      taken ∙ ap (λ (l : List ℕ). run.run ++ l) (taken_text ∙ ap (λ (l : List ℕ). print_extension extension.extension ++ l) holds.1
+      ∙ sym (append_assoc (print_extension extension.extension) holds.0 ws)) ∙ sym (append_assoc run.run (print_extension extension.extension ++ holds.0) ws),
+      no_tail xs ys zs holds.0 ws taken_text holds.1 holds.2.0 holds.2.1
+    )
+
+pub line_cut_none : (a left : Option (List ℕ)) (room : ℕ) → IfSeen a left HasNoLine → IfSeen a left (HasNoLineWithin room)
+line_cut_none a left room = seen_map a left HasNoLine (HasNoLineWithin room) λ bytes none_there.
+    record { none = λ l rest valid fits e. none_there.none l rest valid e }
+
+-- digits alone are no line
+no_line_digits : (room : ℕ) (bytes : List ℕ) → AllPass is_ascii_hexdigit bytes → HasNoLineWithin room bytes
+no_line_digits room bytes all = record {
+  none = λ l rest valid fits e. run_unstopped is_ascii_hexdigit l.digits _ (subst (AllPass is_ascii_hexdigit) (e ∙ line_split l rest) all) (digits_end l rest valid);
+}
+
+pub line_cut_tail : (a : Option (List ℕ)) (held after : List ℕ) (left now : Option (List ℕ)) (n room : ℕ) → Keeps a (prepend_known held left) → HasDigits held n
+    → after ≡ drop n held → IfSeen (prepend_known after left) now (HasNoTail room) → IfSeen a now (HasNoLineWithin room)
+line_cut_tail a held after left now n room kept digits after_is none_there = seen_kept a _ now (HasNoLineWithin room) kept (go left now none_there)
+  where
+    whole : take n held ++ after ≡ held
+    whole = ap (λ (l : List ℕ). take n held ++ l) after_is ∙ take-append-drop n held
+
+    stops : (more : List ℕ) → Stops is_ascii_hexdigit (after ++ more)
+    stops more = Stops-append is_ascii_hexdigit after more (subst (Stops is_ascii_hexdigit) (sym after_is) digits.stops)
+
+    no_line : (xs s ys : List ℕ) → after ++ xs ≡ s ++ ys → HasNoTail room s → HasNoLineWithin room (take n held ++ s)
+    no_line xs [] ys e none = no_line_digits room (take n held ++ []) (subst (AllPass is_ascii_hexdigit) (sym (append-nil (take n held))) digits.digits)
+    no_line xs (b ∷ s) ys e none =
+        no_line_tail room n held (b ∷ s) digits none (stops_front is_ascii_hexdigit (b ∷ s) ys (omega arith) (subst (Stops is_ascii_hexdigit) e (stops xs)))
+
+    go : (x y : Option (List ℕ)) → IfSeen (prepend_known after x) y (HasNoTail room) → IfSeen (prepend_known held x) y (HasNoLineWithin room)
+    go None y holds = tt
+    go (Some xs) None holds = tt
+    go (Some xs) (Some ys) holds = (
+      take n held ++ holds.0,
+      ap (λ (l : List ℕ). l ++ xs) (sym whole) ∙ append_assoc (take n held) after xs ∙ ap (λ (l : List ℕ). take n held ++ l) holds.1 ∙ sym (append_assoc (take n held) holds.0 ys),
+      no_line xs holds.0 ys holds.1 holds.2
+    )

@@ -10,16 +10,16 @@ use Rattle.httparse.specs.Spans.{AreFieldsAt, span_bytes, header_bytes, name_and
 use Rattle.httparse.specs.declared.spans.HeaderSpan.{HeaderSpan}
 use Rattle.httparse.specs.declared.spans.RequestSpans.{RequestSpans}
 use Rattle.httparse.proofs.RunLemmas.{run_unique, run_unstopped, Stops-append}
-use Rattle.sw_http.specs.Continue.{Skips}
+use Rattle.sw_http.specs.Continue.{BeginsNone, Skips}
 use Rattle.sw_message.specs.Head.{HasNoHead, IsHeadAt, field_at}
-use Rattle.sw_http.specs.Opening.{IsHeadless, TakesHead, Opens}
-use Rattle.sw_http.specs.Input.{TakesRun, TakesFew, IsAllRun, IsLongRun}
+use Rattle.sw_http.specs.Opening.{IsHeadless, TakesHead, Opens, IsHeadCut}
+use Rattle.sw_http.specs.Input.{IfSeen, TakesRun, TakesFew, IsAllRun, IsLongRun}
 use Rattle.sw_http.specs.Request.{IsSkipped}
 use Rattle.sw_message.specs.Head.{field_of, is_question_mark}
 use Rattle.sw_message.specs.declared.fields.Field.{Field}
 use Rattle.sw_message.specs.declared.parts.OpenRequest.{OpenRequest}
 use Rattle.sw_message.proofs.HeadLemmas.{head_stops}
-use Rattle.sw_http.proofs.InputLemmas.{kept_consumes, text_taken, if_some_map, longer_run}
+use Rattle.sw_http.proofs.InputLemmas.{kept_consumes, text_taken, if_some_map, longer_run, seen_behind, seen_map}
 
 -- ---- the head that was found
 
@@ -120,3 +120,15 @@ headless a held left count run stops none_there = go a left run.taken none_there
     go (Some xs) None taken holds = absurd taken
     go (Some xs) (Some ys) taken holds =
         subst IsHeadless (sym taken) (headless_behind run.run (held ++ ys) run.passes (Stops-append is_newline held ys stops) holds)
+
+-- ---- a read failed before the head was whole
+
+pub opening_cut_run : (a left : Option (List ℕ)) → IfSeen a left (IsAllRun is_newline 65536) → IfSeen a left BeginsNone
+opening_cut_run a left = seen_map a left (IsAllRun is_newline 65536) BeginsNone λ bytes all. record {
+  none = λ skipped rest h are is e. run_unstopped is_newline skipped _ (subst (AllPass is_newline) e all.passes) (head_stops h rest is);
+}
+
+pub opening_cut_head : (a b left : Option (List ℕ)) (count : ℕ) → TakesRun is_newline a b count → IfSeen b left IsHeadCut → IfSeen a left BeginsNone
+opening_cut_head a b left count run cut =
+    seen_behind a b left run.run BeginsNone IsHeadCut run.taken
+    (λ rest head. let headless = headless_behind run.run rest run.passes head.begins head.none in headless.none) cut

@@ -9,7 +9,8 @@ use Rattle.httparse.specs.Spans.{IsSectionAt, IsSectionWithin, SectionOverflows,
 use Rattle.httparse.specs.declared.spans.HeaderSpan.{HeaderSpan}
 use Rattle.httparse.proofs.GrammarLemmas.{section_unique, ReadsSection-append}
 use Rattle.sw_http.specs.ChunkSteps.{HasNoTrailer, IsTrailerAt, TakesTrailer, HasNoTrailerWithin}
-use Rattle.sw_http.proofs.InputLemmas.{kept_consumes, text_taken, if_kept, if_always, if_some_map}
+use Rattle.sw_http.specs.Input.{IfSeen}
+use Rattle.sw_http.proofs.InputLemmas.{kept_consumes, text_taken, if_kept, if_always, if_some_map, seen_map}
 use Rattle.sw_message.proofs.TextLemmas.{section_ends, no_new_text, short_text}
 
 few_fields : (bytes : List ℕ) (headers : List HeaderSpan) (len count : ℕ) (fields : List Field) (last : LineEnd) → IsSectionAt bytes 0 headers len count fields last
@@ -91,4 +92,8 @@ trailer_over a held left len room kept at many =
 
 pub trailer_none : (a : Option (List ℕ)) (room : ℕ) → IfSome a HasNoTrailer → IfSome a (HasNoTrailerWithin room)
 trailer_none a room = if_some_map a HasNoTrailer (HasNoTrailerWithin room) λ bytes none_there.
+    record { none = λ fields end rest is fits e. none_there.none fields end rest is e }
+
+pub trailer_cut : (a left : Option (List ℕ)) (room : ℕ) → IfSeen a left HasNoTrailer → IfSeen a left (HasNoTrailerWithin room)
+trailer_cut a left room = seen_map a left HasNoTrailer (HasNoTrailerWithin room) λ bytes none_there.
     record { none = λ fields end rest is fits e. none_there.none fields end rest is e }

@@ -1,5 +1,5 @@
 -- What the reader's own steps take of a chunked body. (This project's own.)
-use Rattle.std.specs.Prelude.{◌≡◌, ℕ, ◌+◌, ◌<◌, ◌≤◌, Bool, List, ◌++◌, length, take, drop, All, Option, None, Some, IfSome, ◌==◌}
+use Rattle.std.specs.Prelude.{◌≡◌, ℕ, ◌+◌, ◌<◌, ◌≤◌, Bool, List, ◌∷◌, ◌++◌, length, take, drop, All, Option, None, Some, IfSome, ◌==◌}
 use Rattle.std.specs.List.{flat_map}
 use Rattle.std.specs.Char.{is_ascii_hexdigit}
 use Rattle.std.specs.Io.KnownBytes.{Consumes}
@@ -48,6 +48,12 @@ pub record TakesExtension (before after : Option (List ℕ)) (held : List ℕ) (
 pub record HasNoExtension (room : ℕ) (bytes : List ℕ) : Type 0 where
   pub none : (extension : Option (List ℕ)) (rest : List ℕ) → IsExtension extension → length (print_extension extension) ≤ room
       → ¬ (bytes ≡ print_extension extension ++ (crlf_bytes ++ rest))
+
+-- bytes begin with a semicolon, and with no whole extension of at most room bytes
+pub record IsExtensionCut (room : ℕ) (bytes : List ℕ) : Type 0 where
+  pub text : List ℕ
+  pub begins : bytes ≡ semicolon ∷ text
+  pub none : HasNoExtension room bytes
 
 -- what stands behind the digits of a chunk line: blanks, an extension, the line end
 abbrev pub print_tail : List ℕ → Option (List ℕ) → List ℕ

@@ -1,6 +1,8 @@
 -- What the reader's own steps do to the input. (This project's own.)
-use Rattle.std.specs.Prelude.{◌≡◌, ℕ, ◌<◌, ◌≤◌, Bool, List, ◌++◌, length, Option, IfSome, Result, MatchResult}
+use Rattle.std.specs.Prelude.{◌≡◌, ℕ, ◌<◌, ◌≤◌, ⊤, Bool, List, ◌++◌, length, Option, None, Some, IfSome, Result, MatchResult}
 use Rattle.std.specs.Io.KnownBytes.{Consumes, Keeps, IsAtEnd}
+use Rattle.sw_outside.specs.Counts.{raised}
+use Rattle.sw_outside.specs.Faults.{HasRisen}
 use Rattle.httparse.specs.Ascii.{crlf_bytes}
 use Rattle.httparse.specs.Grammar.{AllPass, is_ows, is_extension_byte}
 use Rattle.httparse.specs.Pieces.{Stops, is_newline}
@@ -27,6 +29,16 @@ pub record HasRead (before after : List ℕ) (left left_now : Option (List ℕ))
 abbrev pub ReadsBehind : {E : Type 0} → List ℕ → List ℕ → Option (List ℕ) → Option (List ℕ) → Result ℕ E → Type 0
 ReadsBehind before after left left_now result =
     MatchResult result (HasRead before after left left_now) (λ _. (after ≡ before) × Keeps left left_now)
+
+-- one call of the source failed: its count of faults rose by one, or stands at its type's end
+abbrev pub HasFailed : ℕ → ℕ → Type 0
+HasFailed before now = (now ≡ raised before) × (before ≤ now) × HasRisen before now
+
+-- what was seen of the input, which is all of it but what the source has left: where both are told, P holds of it
+abbrev pub IfSeen : Option (List ℕ) → Option (List ℕ) → (List ℕ → Type 0) → Type 0
+IfSeen None left P = ⊤
+IfSeen (Some input) None P = ⊤
+IfSeen (Some input) (Some left) P = (seen : List ℕ) × (input ≡ seen ++ left) × P seen
 
 -- ---- runs of bytes that are passed over
 
@@ -75,6 +87,10 @@ pub record HasNoRun (test : ℕ → Bool) (limit : ℕ) (bytes : List ℕ) : Typ
 -- no line end stands in front of bytes
 pub record HasNoLineEnd (bytes : List ℕ) : Type 0 where
   pub none : (rest : List ℕ) → ¬ (bytes ≡ crlf_bytes ++ rest)
+
+-- there is no room for a line end, and no less than what was held
+abbrev pub IsShort : List ℕ → List ℕ → Type 0
+IsShort held bytes = (length bytes < 2) × (length held ≤ length bytes)
 
 -- ---- errors
 

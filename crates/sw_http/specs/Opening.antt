@@ -2,12 +2,18 @@
 use Rattle.std.specs.Prelude.{◌≡◌, ℕ, ◌+◌, List, ◌++◌, length, Option, IfSome}
 use Rattle.std.specs.Io.KnownBytes.{Consumes, IsAtEnd}
 use Rattle.httparse.specs.Grammar.{RequestHead, print_request}
+use Rattle.httparse.specs.Pieces.{Stops, is_newline}
 use Rattle.sw_http.specs.Continue.{BeginsNone}
 use Rattle.sw_http.specs.Request.{IsSkipped}
 use Rattle.sw_http.specs.declared.opening.Opening.{Opening}
 use Rattle.sw_http.specs.declared.opening.Opening.TheVariants.{Head, Ended, Bad}
-use Rattle.sw_message.specs.Head.{IsHead, IsOpen}
+use Rattle.sw_message.specs.Head.{IsHead, IsOpen, HasNoHead}
 use Rattle.sw_message.specs.declared.parts.OpenRequest.{OpenRequest}
+
+-- bytes begin with no line end and with no whole head
+pub record IsHeadCut (bytes : List ℕ) : Type 0 where
+  pub begins : Stops is_newline bytes
+  pub none : HasNoHead bytes
 
 -- a head of len bytes was taken off the input
 pub record TakesHead (before after : Option (List ℕ)) (open_ : OpenRequest) (len : ℕ) : Type 0 where

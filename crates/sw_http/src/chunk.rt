@@ -1,9 +1,9 @@
 //! The chunks of a body, one after the other.
-ghost use Rattle.std.specs.Prelude.{◌≡◌, ℕ, ◌+◌, ◌≤◌, true, false, IsTrue, ◌↔◌, ◌⊎◌, ◌<◌, Ok, Err, IfOk, IfSome};
+ghost use Rattle.std.specs.Prelude.{◌≡◌, ℕ, ◌+◌, ◌≤◌, true, false, IsTrue, ◌↔◌, ◌⊎◌, ◌<◌, Ok, Err, IfOk, IfSome, OnOk};
 ghost use Rattle.std.specs.Io.KnownBytes.{prepend_known};
-ghost use Rattle.sw_outside.specs.Faults.{HasRisen};
 ghost use Rattle.sw_http.specs.Body.{IsWithinLimit};
 ghost use Rattle.sw_http.specs.ChunkSteps.{TakesData, HasNoData, IsStep, TakesChunked, HasNoChunked};
+ghost use Rattle.sw_http.specs.Input.{HasFailed, IfSeen};
 
 use crate::chunk_line::{SizeLine, take_chunk_line};
 use crate::content::take_content;
@@ -42,8 +42,10 @@ fn take_data<R: Source>(
     requires { IsWithinLimit body.old }
     ensures taken { result ≡ Ok true → TakesData (prepend_known held.old (R.left source.old)) (prepend_known held.new (R.left source.new)) body.old body.new size }
     ensures none { result ≡ Ok false → IfSome (prepend_known held.old (R.left source.old)) (HasNoData size) }
-    ensures later { R.faults source.old ≤ R.faults source.new }
-    ensures read_fault { result ≡ Err ReadError.Failed → HasRisen (R.faults source.old) (R.faults source.new) }
+    ensures sound { OnOk result (R.faults source.new ≡ R.faults source.old) }
+    ensures starved { result ≡ Err ReadError.NoMemory → R.faults source.new ≡ R.faults source.old }
+    ensures failed { result ≡ Err ReadError.Failed → HasFailed (R.faults source.old) (R.faults source.new) }
+    ensures cut { result ≡ Err ReadError.Failed → IfSeen (prepend_known held.old (R.left source.old)) (R.left source.new) (HasNoData size) }
 {
     if take_content(held, source, size, body)? {
         take_line_end(held, source)
@@ -65,8 +67,10 @@ fn take_sized<R: Source>(
     ensures taken { result ≡ Ok true → TakesData (prepend_known held.old (R.left source.old)) (prepend_known held.new (R.left source.new)) body.old body.new line.size }
     ensures fits { result ≡ Ok true → line.len + line.size + 2 ≤ room }
     ensures none { result ≡ Ok false → (room < line.len + line.size + 2) ⊎ IfSome (prepend_known held.old (R.left source.old)) (HasNoData line.size) }
-    ensures later { R.faults source.old ≤ R.faults source.new }
-    ensures read_fault { result ≡ Err ReadError.Failed → HasRisen (R.faults source.old) (R.faults source.new) }
+    ensures sound { OnOk result (R.faults source.new ≡ R.faults source.old) }
+    ensures starved { result ≡ Err ReadError.NoMemory → R.faults source.new ≡ R.faults source.old }
+    ensures failed { result ≡ Err ReadError.Failed → HasFailed (R.faults source.old) (R.faults source.new) }
+    ensures cut { result ≡ Err ReadError.Failed → IfSeen (prepend_known held.old (R.left source.old)) (R.left source.new) (HasNoData line.size) }
 {
     if fits(line, room) {
         take_data(held, source, line.size, body)
@@ -85,8 +89,10 @@ fn take_chunk<R: Source>(
     requires limit { room ≤ 1_073_741_824 }
     requires body { IsWithinLimit body.old }
     ensures step { IfOk result (IsStep room (prepend_known held.old (R.left source.old)) (prepend_known held.new (R.left source.new)) body.old body.new) }
-    ensures later { R.faults source.old ≤ R.faults source.new }
-    ensures read_fault { result ≡ Err ReadError.Failed → HasRisen (R.faults source.old) (R.faults source.new) }
+    ensures sound { OnOk result (R.faults source.new ≡ R.faults source.old) }
+    ensures starved { result ≡ Err ReadError.NoMemory → R.faults source.new ≡ R.faults source.old }
+    ensures failed { result ≡ Err ReadError.Failed → HasFailed (R.faults source.old) (R.faults source.new) }
+    ensures cut { result ≡ Err ReadError.Failed → IfSeen (prepend_known held.old (R.left source.old)) (R.left source.new) (HasNoChunked room) }
 {
     let Some(line) = take_chunk_line(held, source, room)? else {
         return Ok(Step::Bad);
@@ -116,8 +122,10 @@ pub(crate) fn take_chunked<R: Source>(
     requires body { IsWithinLimit body.old }
     ensures taken { result ≡ Ok true → TakesChunked (prepend_known held.old (R.left source.old)) (prepend_known held.new (R.left source.new)) body.old body.new room }
     ensures none { result ≡ Ok false → IfSome (prepend_known held.old (R.left source.old)) (HasNoChunked room) }
-    ensures later { R.faults source.old ≤ R.faults source.new }
-    ensures read_fault { result ≡ Err ReadError.Failed → HasRisen (R.faults source.old) (R.faults source.new) }
+    ensures sound { OnOk result (R.faults source.new ≡ R.faults source.old) }
+    ensures starved { result ≡ Err ReadError.NoMemory → R.faults source.new ≡ R.faults source.old }
+    ensures failed { result ≡ Err ReadError.Failed → HasFailed (R.faults source.old) (R.faults source.new) }
+    ensures cut { result ≡ Err ReadError.Failed → IfSeen (prepend_known held.old (R.left source.old)) (R.left source.new) (HasNoChunked room) }
 {
     let mut left = room;
     loop {

@@ -1,14 +1,14 @@
 //! The line that tells the size of a chunk. Its blanks and its extension may be as long as a whole request: they are dropped as they
 //! come, and `httparse` reads the line without them.
-ghost use Rattle.std.specs.Prelude.{◌≡◌, ℕ, ◌+◌, ◌<◌, ◌≤◌, length, None, Ok, Err, IfOk, IfSome};
+ghost use Rattle.std.specs.Prelude.{◌≡◌, ℕ, ◌+◌, ◌<◌, ◌≤◌, length, None, Ok, Err, IfOk, IfSome, OnOk};
 ghost use Rattle.std.specs.List.{prefix_len};
 ghost use Rattle.std.specs.Char.{is_ascii_hexdigit};
 ghost use Rattle.std.specs.Io.KnownBytes.{Keeps, prepend_known};
 ghost use Rattle.std.specs.Str.Parse.{digits_value};
 ghost use Rattle.httparse.specs.Grammar.{AllPass, is_ows};
 ghost use Rattle.httparse.specs.Pieces.{Stops};
-ghost use Rattle.sw_outside.specs.Faults.{HasRisen};
-ghost use Rattle.sw_http.specs.ChunkSteps.{HasNoLine, HasDigits, TakesExtension, HasNoExtension, TakesTail, HasNoTail, TakesLine, HasNoLineWithin};
+ghost use Rattle.sw_http.specs.ChunkSteps.{HasNoLine, HasDigits, TakesExtension, HasNoExtension, TakesTail, HasNoTail, TakesLine, HasNoLineWithin, IsExtensionCut};
+ghost use Rattle.sw_http.specs.Input.{HasFailed, IfSeen};
 
 use crate::held::Held;
 use crate::input::ReadError;
@@ -44,8 +44,10 @@ fn read_digits<R: Source>(held: &mut Held, source: &mut R) -> Result<Option<usiz
     ensures kept { Keeps (prepend_known held.old (R.left source.old)) (prepend_known held.new (R.left source.new)) }
     ensures found { IfOk result (λ found. IfSome found (HasDigits held.new)) }
     ensures none { result ≡ Ok None → IfSome (prepend_known held.old (R.left source.old)) HasNoLine }
-    ensures later { R.faults source.old ≤ R.faults source.new }
-    ensures read_fault { result ≡ Err ReadError.Failed → HasRisen (R.faults source.old) (R.faults source.new) }
+    ensures sound { OnOk result (R.faults source.new ≡ R.faults source.old) }
+    ensures starved { result ≡ Err ReadError.NoMemory → R.faults source.new ≡ R.faults source.old }
+    ensures failed { result ≡ Err ReadError.Failed → HasFailed (R.faults source.old) (R.faults source.new) }
+    ensures cut { result ≡ Err ReadError.Failed → IfSeen (prepend_known held.old (R.left source.old)) (R.left source.new) HasNoLine }
 {
     loop {
         let run = digit_run(held.rest());
@@ -90,8 +92,10 @@ fn take_extension<R: Source>(
     ensures taken { IfOk result (λ found. IfSome found (TakesExtension (prepend_known held.old (R.left source.old)) (prepend_known held.new (R.left source.new)) held.new)) }
     ensures bound { IfOk result (λ found. IfSome found (λ len. len ≤ room + 1)) }
     ensures none { result ≡ Ok None → IfSome (prepend_known held.old (R.left source.old)) (HasNoExtension room) }
-    ensures later { R.faults source.old ≤ R.faults source.new }
-    ensures read_fault { result ≡ Err ReadError.Failed → HasRisen (R.faults source.old) (R.faults source.new) }
+    ensures sound { OnOk result (R.faults source.new ≡ R.faults source.old) }
+    ensures starved { result ≡ Err ReadError.NoMemory → R.faults source.new ≡ R.faults source.old }
+    ensures failed { result ≡ Err ReadError.Failed → HasFailed (R.faults source.old) (R.faults source.new) }
+    ensures cut { result ≡ Err ReadError.Failed → IfSeen (prepend_known held.old (R.left source.old)) (R.left source.new) (IsExtensionCut room) }
 {
     if !begins_with(held.rest(), b";") {
         return Ok(Some(0));
@@ -113,8 +117,10 @@ fn take_tail<R: Source>(
     ensures taken { IfOk result (λ found. IfSome found (TakesTail (prepend_known held.old (R.left source.old)) (prepend_known held.new (R.left source.new)))) }
     ensures bound { IfOk result (λ found. IfSome found (λ len. len ≤ room + room + 3)) }
     ensures none { result ≡ Ok None → IfSome (prepend_known held.old (R.left source.old)) (HasNoTail room) }
-    ensures later { R.faults source.old ≤ R.faults source.new }
-    ensures read_fault { result ≡ Err ReadError.Failed → HasRisen (R.faults source.old) (R.faults source.new) }
+    ensures sound { OnOk result (R.faults source.new ≡ R.faults source.old) }
+    ensures starved { result ≡ Err ReadError.NoMemory → R.faults source.new ≡ R.faults source.old }
+    ensures failed { result ≡ Err ReadError.Failed → HasFailed (R.faults source.old) (R.faults source.new) }
+    ensures cut { result ≡ Err ReadError.Failed → IfSeen (prepend_known held.old (R.left source.old)) (R.left source.new) (HasNoTail room) }
 {
     let Some(pad) = take_run(Class::Blanks, room, held, source)? else {
         return Ok(None);
@@ -138,8 +144,10 @@ pub(crate) fn take_chunk_line<R: Source>(
     requires { room ≤ 1_073_741_824 }
     ensures taken { IfOk result (λ found. IfSome found (TakesLine (prepend_known held.old (R.left source.old)) (prepend_known held.new (R.left source.new)))) }
     ensures none { result ≡ Ok None → IfSome (prepend_known held.old (R.left source.old)) (HasNoLineWithin room) }
-    ensures later { R.faults source.old ≤ R.faults source.new }
-    ensures read_fault { result ≡ Err ReadError.Failed → HasRisen (R.faults source.old) (R.faults source.new) }
+    ensures sound { OnOk result (R.faults source.new ≡ R.faults source.old) }
+    ensures starved { result ≡ Err ReadError.NoMemory → R.faults source.new ≡ R.faults source.old }
+    ensures failed { result ≡ Err ReadError.Failed → HasFailed (R.faults source.old) (R.faults source.new) }
+    ensures cut { result ≡ Err ReadError.Failed → IfSeen (prepend_known held.old (R.left source.old)) (R.left source.new) (HasNoLineWithin room) }
 {
     let Some(digits) = read_digits(held, source)? else {
         return Ok(None);

@@ -1,9 +1,9 @@
 //! The bytes of a body. They are kept up to the greatest size of an object; beyond it they are only read.
 ghost use Rattle.std.specs.Prelude.{◌≡◌, ℕ, ◌<◌, ◌≤◌, true, false, length, Ok, Err, OnOk, IfSome};
 ghost use Rattle.std.specs.Io.KnownBytes.{Keeps, IsAtEnd, prepend_known};
-ghost use Rattle.sw_outside.specs.Faults.{HasRisen};
 ghost use Rattle.sw_http.specs.Body.{IsWithinLimit, extended};
 ghost use Rattle.sw_http.specs.ChunkSteps.{TakesBytes};
+ghost use Rattle.sw_http.specs.Input.{HasFailed, IfSeen};
 
 use crate::held::Held;
 use crate::input::ReadError;
@@ -34,8 +34,10 @@ fn hold_some<R: Source>(held: &mut Held, source: &mut R) -> Result<bool, ReadErr
     ensures kept { Keeps (prepend_known held.old (R.left source.old)) (prepend_known held.new (R.left source.new)) }
     ensures some { result ≡ Ok true → 0 < length held.new }
     ensures ended { result ≡ Ok false → IsAtEnd (prepend_known held.new (R.left source.new)) }
-    ensures later { R.faults source.old ≤ R.faults source.new }
-    ensures read_fault { result ≡ Err ReadError.Failed → HasRisen (R.faults source.old) (R.faults source.new) }
+    ensures sound { OnOk result (R.faults source.new ≡ R.faults source.old) }
+    ensures starved { result ≡ Err ReadError.NoMemory → R.faults source.new ≡ R.faults source.old }
+    ensures failed { result ≡ Err ReadError.Failed → HasFailed (R.faults source.old) (R.faults source.new) }
+    ensures cut { result ≡ Err ReadError.Failed → IfSeen (prepend_known held.old (R.left source.old)) (R.left source.new) (λ seen. length seen ≡ 0) }
 {
     if !held.rest().is_empty() {
         return Ok(true);
@@ -53,8 +55,10 @@ pub(crate) fn take_content<R: Source>(
     requires { IsWithinLimit body.old }
     ensures taken { result ≡ Ok true → TakesBytes (prepend_known held.old (R.left source.old)) (prepend_known held.new (R.left source.new)) body.old body.new len }
     ensures none { result ≡ Ok false → IfSome (prepend_known held.old (R.left source.old)) (λ bytes. length bytes < len) }
-    ensures later { R.faults source.old ≤ R.faults source.new }
-    ensures read_fault { result ≡ Err ReadError.Failed → HasRisen (R.faults source.old) (R.faults source.new) }
+    ensures sound { OnOk result (R.faults source.new ≡ R.faults source.old) }
+    ensures starved { result ≡ Err ReadError.NoMemory → R.faults source.new ≡ R.faults source.old }
+    ensures failed { result ≡ Err ReadError.Failed → HasFailed (R.faults source.old) (R.faults source.new) }
+    ensures cut { result ≡ Err ReadError.Failed → IfSeen (prepend_known held.old (R.left source.old)) (R.left source.new) (λ seen. length seen < len) }
 {
     let mut taken = 0;
     while taken < len {

@@ -1,10 +1,11 @@
-ghost use Rattle.std.specs.Prelude.{◌≡◌, ◌↔◌, ℕ, ◌≤◌, IsTrue, length, take, None, Ok, Err, IfOk, IfSome};
+ghost use Rattle.std.specs.Prelude.{◌≡◌, ◌↔◌, ℕ, ◌≤◌, IsTrue, length, take, None, Ok, Err, IfOk, IfSome, OnOk};
 ghost use Rattle.std.specs.Io.KnownBytes.{Keeps, prepend_known};
 ghost use Rattle.httparse.specs.Pieces.{Stops, is_newline};
-ghost use Rattle.sw_outside.specs.Faults.{HasRisen};
 ghost use Rattle.sw_message.specs.Head.{IsHeadAt, HasNoHead};
 ghost use Rattle.sw_message.specs.Look.{IsLook};
 ghost use Rattle.sw_message.specs.Head.{IsPath};
+ghost use Rattle.sw_http.specs.Input.{HasFailed, IfSeen};
+ghost use Rattle.sw_http.specs.Opening.{IsHeadCut};
 
 use crate::held::Held;
 use crate::input::ReadError;
@@ -41,8 +42,10 @@ pub(crate) fn read_head<R: Source>(
     ensures kept { Keeps (prepend_known held.old (R.left source.old)) (prepend_known held.new (R.left source.new)) }
     ensures found { IfOk result (λ found. IfSome found (IsHeadAt held.new headers.new)) }
     ensures none { result ≡ Ok None → IfSome (prepend_known held.old (R.left source.old)) HasNoHead }
-    ensures later { R.faults source.old ≤ R.faults source.new }
-    ensures read_fault { result ≡ Err ReadError.Failed → HasRisen (R.faults source.old) (R.faults source.new) }
+    ensures sound { OnOk result (R.faults source.new ≡ R.faults source.old) }
+    ensures starved { result ≡ Err ReadError.NoMemory → R.faults source.new ≡ R.faults source.old }
+    ensures failed { result ≡ Err ReadError.Failed → HasFailed (R.faults source.old) (R.faults source.new) }
+    ensures cut { result ≡ Err ReadError.Failed → IfSeen (prepend_known held.old (R.left source.old)) (R.left source.new) IsHeadCut }
 {
     let mut seen = 0;
     loop {

@@ -1,6 +1,5 @@
-ghost use Rattle.std.specs.Prelude.{◌≡◌, ℕ, ◌+◌, ◌^◌, ◌<◌, ◌≤◌, [], length, drop, Err, IfOk};
-ghost use Rattle.sw_outside.specs.Faults.{HasRisen};
-ghost use Rattle.sw_http.specs.Input.{ReadsBehind};
+ghost use Rattle.std.specs.Prelude.{◌≡◌, ℕ, ◌+◌, ◌^◌, ◌<◌, ◌≤◌, [], length, drop, Err, IfOk, OnOk};
+ghost use Rattle.sw_http.specs.Input.{HasFailed, ReadsBehind};
 
 use crate::input::{PIECE, ReadError, drop_front, read_behind};
 use std::alloc::Global;
@@ -57,8 +56,9 @@ impl Held {
         requires { length self.old + 8_192 < 2 ^ 64 }
         ensures read { ReadsBehind self.old self.new (R.left source.old) (R.left source.new) result }
         ensures bound { IfOk result (λ n. n ≤ 8_192) }
-        ensures later { R.faults source.old ≤ R.faults source.new }
-        ensures read_fault { result ≡ Err ReadError.Failed → HasRisen (R.faults source.old) (R.faults source.new) }
+        ensures sound { OnOk result (R.faults source.new ≡ R.faults source.old) }
+        ensures starved { result ≡ Err ReadError.NoMemory → R.faults source.new ≡ R.faults source.old }
+        ensures failed { result ≡ Err ReadError.Failed → HasFailed (R.faults source.old) (R.faults source.new) }
     {
         drop_front(&mut self.bytes, self.at);
         self.at = 0;

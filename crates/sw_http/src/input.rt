@@ -1,6 +1,5 @@
-ghost use Rattle.std.specs.Prelude.{◌≡◌, ℕ, ◌+◌, ◌^◌, ◌<◌, ◌≤◌, drop, Err, IfOk, vec_len};
-ghost use Rattle.sw_outside.specs.Faults.{HasRisen};
-ghost use Rattle.sw_http.specs.Input.{ReadsBehind};
+ghost use Rattle.std.specs.Prelude.{◌≡◌, ℕ, ◌+◌, ◌^◌, ◌<◌, ◌≤◌, drop, Err, IfOk, vec_len, OnOk};
+ghost use Rattle.sw_http.specs.Input.{HasFailed, ReadsBehind};
 ghost use Rattle.sw_http.specs.declared.input.ReadError.TheVariants as errors;
 
 use std::alloc::AllocError;
@@ -48,8 +47,9 @@ pub(crate) fn read_behind<R: Source>(
     requires fits { vec_len bytes.old + room < 2 ^ 64 }
     ensures read { ReadsBehind bytes.old.items bytes.new.items (R.left source.old) (R.left source.new) result }
     ensures bound { IfOk result (λ n. n ≤ room) }
-    ensures later { R.faults source.old ≤ R.faults source.new }
-    ensures read_fault { result ≡ Err ReadError.Failed → HasRisen (R.faults source.old) (R.faults source.new) }
+    ensures sound { OnOk result (R.faults source.new ≡ R.faults source.old) }
+    ensures starved { result ≡ Err ReadError.NoMemory → R.faults source.new ≡ R.faults source.old }
+    ensures failed { result ≡ Err ReadError.Failed → HasFailed (R.faults source.old) (R.faults source.new) }
 {
     let had = bytes.len();
     bytes.extend_from_slice(&ZEROS[..room])?;

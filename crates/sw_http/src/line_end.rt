@@ -1,8 +1,7 @@
-ghost use Rattle.std.specs.Prelude.{◌≡◌, ℕ, ◌+◌, ◌^◌, ◌<◌, ◌≤◌, ◌++◌, List, true, false, IsTrue, length, drop, Ok, Err, IfOk, IfSome};
+ghost use Rattle.std.specs.Prelude.{◌≡◌, ℕ, ◌+◌, ◌^◌, ◌<◌, ◌≤◌, ◌++◌, List, true, false, IsTrue, length, drop, Ok, Err, IfOk, IfSome, OnOk};
 ghost use Rattle.std.specs.Io.KnownBytes.{Consumes, Keeps, IsAtEnd, prepend_known};
 ghost use Rattle.httparse.specs.Ascii.{crlf_bytes};
-ghost use Rattle.sw_outside.specs.Faults.{HasRisen};
-ghost use Rattle.sw_http.specs.Input.{HasNoLineEnd};
+ghost use Rattle.sw_http.specs.Input.{HasFailed, HasNoLineEnd, IfSeen, IsShort};
 
 use crate::held::Held;
 use crate::input::ReadError;
@@ -15,8 +14,10 @@ fn hold_two<R: Source>(held: &mut Held, source: &mut R) -> Result<bool, ReadErro
     ensures whole { result ≡ Ok true → 2 ≤ length held.new }
     ensures short { result ≡ Ok false → length held.new < 2 }
     ensures ended { result ≡ Ok false → IsAtEnd (R.left source.new) }
-    ensures later { R.faults source.old ≤ R.faults source.new }
-    ensures read_fault { result ≡ Err ReadError.Failed → HasRisen (R.faults source.old) (R.faults source.new) }
+    ensures sound { OnOk result (R.faults source.new ≡ R.faults source.old) }
+    ensures starved { result ≡ Err ReadError.NoMemory → R.faults source.new ≡ R.faults source.old }
+    ensures failed { result ≡ Err ReadError.Failed → HasFailed (R.faults source.old) (R.faults source.new) }
+    ensures cut { result ≡ Err ReadError.Failed → IfSeen (prepend_known held.old (R.left source.old)) (R.left source.new) (IsShort held.old) }
 {
     while held.rest().len() < CRLF.len() {
         if held.read_more(source)? == 0 {
@@ -30,8 +31,10 @@ fn hold_two<R: Source>(held: &mut Held, source: &mut R) -> Result<bool, ReadErro
 pub(crate) fn take_line_end<R: Source>(held: &mut Held, source: &mut R) -> Result<bool, ReadError>
     ensures taken { result ≡ Ok true → Consumes (prepend_known held.old (R.left source.old)) (prepend_known held.new (R.left source.new)) crlf_bytes }
     ensures none { result ≡ Ok false → IfSome (prepend_known held.old (R.left source.old)) HasNoLineEnd }
-    ensures later { R.faults source.old ≤ R.faults source.new }
-    ensures read_fault { result ≡ Err ReadError.Failed → HasRisen (R.faults source.old) (R.faults source.new) }
+    ensures sound { OnOk result (R.faults source.new ≡ R.faults source.old) }
+    ensures starved { result ≡ Err ReadError.NoMemory → R.faults source.new ≡ R.faults source.old }
+    ensures failed { result ≡ Err ReadError.Failed → HasFailed (R.faults source.old) (R.faults source.new) }
+    ensures cut { result ≡ Err ReadError.Failed → IfSeen (prepend_known held.old (R.left source.old)) (R.left source.new) (IsShort held.old) }
 {
     if !hold_two(held, source)? || !begins_with(held.rest(), CRLF) {
         return Ok(false);

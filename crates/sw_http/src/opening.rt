@@ -1,10 +1,10 @@
 //! The front of a request: line ends that are skipped, and the head.
-ghost use Rattle.std.specs.Prelude.{◌≡◌, ℕ, ◌≤◌, None, Ok, Err, IfOk, IfSome, OnErr};
+ghost use Rattle.std.specs.Prelude.{◌≡◌, ℕ, ◌≤◌, None, Ok, Err, IfOk, IfSome, OnErr, OnOk};
 ghost use Rattle.std.specs.Io.KnownBytes.{Keeps, prepend_known};
 ghost use Rattle.httparse.specs.Pieces.{Stops, is_newline};
-ghost use Rattle.sw_outside.specs.Faults.{HasRisen};
-ghost use Rattle.sw_http.specs.Continue.{Skips};
-ghost use Rattle.sw_http.specs.Opening.{IsOpening, TakesHead};
+ghost use Rattle.sw_http.specs.Continue.{Skips, BeginsNone};
+ghost use Rattle.sw_http.specs.Opening.{IsOpening, TakesHead, IsHeadCut};
+ghost use Rattle.sw_http.specs.Input.{HasFailed, IfSeen};
 ghost use Rattle.sw_message.specs.Head.{HasNoHead};
 
 use crate::head::read_head;
@@ -37,8 +37,10 @@ fn take_head<R: Source>(
     ensures taken { IfOk result (λ found. IfSome found (λ head. TakesHead (prepend_known held.old (R.left source.old)) (prepend_known held.new (R.left source.new)) head.0 head.1)) }
     ensures none { result ≡ Ok None → IfSome (prepend_known held.old (R.left source.old)) HasNoHead }
     ensures kept { result ≡ Err ReadError.Failed → Keeps (prepend_known held.old (R.left source.old)) (prepend_known held.new (R.left source.new)) }
-    ensures later { R.faults source.old ≤ R.faults source.new }
-    ensures read_fault { result ≡ Err ReadError.Failed → HasRisen (R.faults source.old) (R.faults source.new) }
+    ensures sound { OnOk result (R.faults source.new ≡ R.faults source.old) }
+    ensures starved { result ≡ Err ReadError.NoMemory → R.faults source.new ≡ R.faults source.old }
+    ensures failed { result ≡ Err ReadError.Failed → HasFailed (R.faults source.old) (R.faults source.new) }
+    ensures cut { result ≡ Err ReadError.Failed → IfSeen (prepend_known held.old (R.left source.old)) (R.left source.new) IsHeadCut }
 {
     let mut headers = [EMPTY_HEADER_SPAN; MAX_FIELDS];
     let Some(spans) = read_head(held, source, &mut headers)? else {
@@ -57,8 +59,10 @@ pub(crate) fn take_opening<R: Source>(
 ) -> Result<Opening, ReadError>
     ensures opening { IfOk result (IsOpening (prepend_known held.old (R.left source.old)) (prepend_known held.new (R.left source.new)) (R.left source.new)) }
     ensures kept { result ≡ Err ReadError.Failed → Skips (prepend_known held.old (R.left source.old)) (prepend_known held.new (R.left source.new)) }
-    ensures later { R.faults source.old ≤ R.faults source.new }
-    ensures read_fault { result ≡ Err ReadError.Failed → HasRisen (R.faults source.old) (R.faults source.new) }
+    ensures sound { OnOk result (R.faults source.new ≡ R.faults source.old) }
+    ensures starved { result ≡ Err ReadError.NoMemory → R.faults source.new ≡ R.faults source.old }
+    ensures failed { result ≡ Err ReadError.Failed → HasFailed (R.faults source.old) (R.faults source.new) }
+    ensures cut { result ≡ Err ReadError.Failed → IfSeen (prepend_known held.old (R.left source.old)) (R.left source.new) BeginsNone }
 {
     let skipped = match skip_run(Class::LineEnds, MAX_SKIPPED, held, source)? {
         Run::Begun(skipped) => skipped,

@@ -1,10 +1,9 @@
 //! Runs of bytes that are passed over: each byte is dropped as it comes, and only counted.
-ghost use Rattle.std.specs.Prelude.{◌≡◌, ℕ, ◌≤◌, None, Ok, Err, IfOk, IfSome, OnErr};
+ghost use Rattle.std.specs.Prelude.{◌≡◌, ℕ, ◌≤◌, None, Ok, Err, IfOk, IfSome, OnErr, OnOk};
 ghost use Rattle.std.specs.List.{prefix_len};
 ghost use Rattle.std.specs.Io.KnownBytes.{prepend_known};
 ghost use Rattle.httparse.specs.Pieces.{Stops};
-ghost use Rattle.sw_outside.specs.Faults.{HasRisen};
-ghost use Rattle.sw_http.specs.Input.{IsRun, TakesRun, TakesFew, HasNoRun, test_of};
+ghost use Rattle.sw_http.specs.Input.{HasFailed, HasNoRun, IsRun, TakesFew, TakesRun, test_of, IfSeen, IsAllRun};
 
 use crate::held::Held;
 use crate::input::ReadError;
@@ -58,8 +57,10 @@ pub(crate) fn skip_run<R: Source>(
     requires { limit ≤ 1_073_741_824 }
     ensures run { IfOk result (IsRun (test_of class) limit (prepend_known held.old (R.left source.old)) (prepend_known held.new (R.left source.new)) held.new (R.left source.new)) }
     ensures kept { OnErr result (TakesFew (test_of class) limit (prepend_known held.old (R.left source.old)) (prepend_known held.new (R.left source.new))) }
-    ensures later { R.faults source.old ≤ R.faults source.new }
-    ensures read_fault { result ≡ Err ReadError.Failed → HasRisen (R.faults source.old) (R.faults source.new) }
+    ensures sound { OnOk result (R.faults source.new ≡ R.faults source.old) }
+    ensures starved { result ≡ Err ReadError.NoMemory → R.faults source.new ≡ R.faults source.old }
+    ensures failed { result ≡ Err ReadError.Failed → HasFailed (R.faults source.old) (R.faults source.new) }
+    ensures cut { result ≡ Err ReadError.Failed → IfSeen (prepend_known held.old (R.left source.old)) (R.left source.new) (IsAllRun (test_of class) limit) }
 {
     let mut skipped = 0;
     loop {
@@ -90,8 +91,10 @@ pub(crate) fn take_run<R: Source>(
     ensures few { IfOk result (λ found. IfSome found (λ count. count ≤ limit)) }
     ensures stops { IfOk result (λ found. IfSome found (λ _. Stops (test_of class) held.new)) }
     ensures none { result ≡ Ok None → IfSome (prepend_known held.old (R.left source.old)) (HasNoRun (test_of class) limit) }
-    ensures later { R.faults source.old ≤ R.faults source.new }
-    ensures read_fault { result ≡ Err ReadError.Failed → HasRisen (R.faults source.old) (R.faults source.new) }
+    ensures sound { OnOk result (R.faults source.new ≡ R.faults source.old) }
+    ensures starved { result ≡ Err ReadError.NoMemory → R.faults source.new ≡ R.faults source.old }
+    ensures failed { result ≡ Err ReadError.Failed → HasFailed (R.faults source.old) (R.faults source.new) }
+    ensures cut { result ≡ Err ReadError.Failed → IfSeen (prepend_known held.old (R.left source.old)) (R.left source.new) (HasNoRun (test_of class) limit) }
 {
     match skip_run(class, limit, held, source)? {
         Run::Begun(count) => Ok(Some(count)),

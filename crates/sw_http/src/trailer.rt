@@ -1,8 +1,8 @@
 //! The trailer of a chunked body: fields, which are ignored, and the empty line.
-ghost use Rattle.std.specs.Prelude.{◌≡◌, ◌↔◌, ℕ, ◌≤◌, IsTrue, true, false, length, take, None, Ok, Err, IfOk, IfSome};
+ghost use Rattle.std.specs.Prelude.{◌≡◌, ◌↔◌, ℕ, ◌≤◌, IsTrue, true, false, length, take, None, Ok, Err, IfOk, IfSome, OnOk};
 ghost use Rattle.std.specs.Io.KnownBytes.{Keeps, prepend_known};
-ghost use Rattle.sw_outside.specs.Faults.{HasRisen};
 ghost use Rattle.sw_http.specs.ChunkSteps.{HasNoTrailer, IsTrailerAt, TakesTrailer, HasNoTrailerWithin};
+ghost use Rattle.sw_http.specs.Input.{HasFailed, IfSeen};
 ghost use Rattle.sw_message.specs.Look.{IsLook};
 
 use crate::held::Held;
@@ -50,8 +50,10 @@ fn read_trailer<R: Source>(held: &mut Held, source: &mut R) -> Result<Option<usi
     ensures kept { Keeps (prepend_known held.old (R.left source.old)) (prepend_known held.new (R.left source.new)) }
     ensures found { IfOk result (λ found. IfSome found (IsTrailerAt held.new)) }
     ensures none { result ≡ Ok None → IfSome (prepend_known held.old (R.left source.old)) HasNoTrailer }
-    ensures later { R.faults source.old ≤ R.faults source.new }
-    ensures read_fault { result ≡ Err ReadError.Failed → HasRisen (R.faults source.old) (R.faults source.new) }
+    ensures sound { OnOk result (R.faults source.new ≡ R.faults source.old) }
+    ensures starved { result ≡ Err ReadError.NoMemory → R.faults source.new ≡ R.faults source.old }
+    ensures failed { result ≡ Err ReadError.Failed → HasFailed (R.faults source.old) (R.faults source.new) }
+    ensures cut { result ≡ Err ReadError.Failed → IfSeen (prepend_known held.old (R.left source.old)) (R.left source.new) HasNoTrailer }
 {
     let mut headers = [EMPTY_HEADER_SPAN; MAX_FIELDS];
     let mut seen = 0;
@@ -79,8 +81,10 @@ pub(crate) fn take_trailer<R: Source>(
 ) -> Result<bool, ReadError>
     ensures taken { result ≡ Ok true → TakesTrailer (prepend_known held.old (R.left source.old)) (prepend_known held.new (R.left source.new)) room }
     ensures none { result ≡ Ok false → IfSome (prepend_known held.old (R.left source.old)) (HasNoTrailerWithin room) }
-    ensures later { R.faults source.old ≤ R.faults source.new }
-    ensures read_fault { result ≡ Err ReadError.Failed → HasRisen (R.faults source.old) (R.faults source.new) }
+    ensures sound { OnOk result (R.faults source.new ≡ R.faults source.old) }
+    ensures starved { result ≡ Err ReadError.NoMemory → R.faults source.new ≡ R.faults source.old }
+    ensures failed { result ≡ Err ReadError.Failed → HasFailed (R.faults source.old) (R.faults source.new) }
+    ensures cut { result ≡ Err ReadError.Failed → IfSeen (prepend_known held.old (R.left source.old)) (R.left source.new) (HasNoTrailerWithin room) }
 {
     match read_trailer(held, source)? {
         Some(len) if len <= room => {

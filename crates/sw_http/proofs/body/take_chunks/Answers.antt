@@ -1,8 +1,9 @@
 use Rattle.std.proofs.Common.{Ok, ap, Some}
 use Rattle.sw_http.specs.ChunkSteps.{HasNoBody, HasNoChunked}
 use Rattle.sw_message.specs.declared.framing.Framing.TheVariants.{Chunked}
-use Rattle.sw_http.proofs.BodyLemmas.{chunks_taken, no_chunks}
+use Rattle.sw_http.proofs.BodyLemmas.{chunks_taken, no_chunks, chunks_body_cut}
 use Rattle.sw_http.proofs.InputLemmas.{if_some_map}
+use Rattle.std.proofs.lemmas.Result.{err_from_is_err_and}
 use Rattle.sw_http.proofs.body.take_chunks.Goals as goal
 
 pub returns-then-branch-clause-taken : goal.returns-then-branch-clause-taken
@@ -12,3 +13,8 @@ returns-then-branch-clause-taken g c =
 pub returns-else-branch-clause-none : goal.returns-else-branch-clause-none
 returns-else-branch-clause-none g c _ =
     if_some_map _ (HasNoChunked c.args.room) (HasNoBody (Some Chunked) c.args.room) (no_chunks c.args.room) (c.in_ok-take_chunked.ensures.none (ap Ok c.if-branch.false))
+
+pub returns-in_err-take_chunked-clause-cut : goal.returns-in_err-take_chunked-clause-cut
+returns-in_err-take_chunked-clause-cut g c e =
+    let exit = err_from_is_err_and c.from_residual-in_err-take_chunked.result c.from_residual-in_err-take_chunked.ensures.1 in let given = exit.1 in let same = exit.2 in
+    chunks_body_cut _ _ _ (c.in_err-take_chunked.ensures.cut (cc))

@@ -1,8 +1,9 @@
 use Rattle.std.proofs.Common.{ℕ, List, ◌<◌, length, Ok, ap, arith, Some}
 use Rattle.sw_http.specs.ChunkSteps.{HasNoBody}
 use Rattle.sw_message.specs.declared.framing.Framing.TheVariants.{Length}
-use Rattle.sw_http.proofs.BodyLemmas.{plain_taken, no_plain}
+use Rattle.sw_http.proofs.BodyLemmas.{plain_taken, no_plain, plain_cut}
 use Rattle.sw_http.proofs.InputLemmas.{if_some_map}
+use Rattle.std.proofs.lemmas.Result.{err_from_is_err_and}
 use Rattle.sw_http.proofs.body.take_plain.Goals as goal
 
 pub returns-then-branch-clause-taken : goal.returns-then-branch-clause-taken
@@ -13,3 +14,8 @@ pub returns-else-branch-clause-none : goal.returns-else-branch-clause-none
 returns-else-branch-clause-none g c _ =
     if_some_map _ (λ (bytes : List ℕ). length bytes < c.args.len) (HasNoBody (Some (Length c.args.len)) c.args.room) (no_plain c.args.len c.args.room)
     (c.in_ok-take_content.ensures.none (ap Ok c.if-branch.false))
+
+pub returns-in_err-take_content-clause-cut : goal.returns-in_err-take_content-clause-cut
+returns-in_err-take_content-clause-cut g c e =
+    let exit = err_from_is_err_and c.from_residual-in_err-take_content.result c.from_residual-in_err-take_content.ensures.1 in let given = exit.1 in let same = exit.2 in
+    plain_cut _ _ _ _ (c.in_err-take_content.ensures.cut (cc))

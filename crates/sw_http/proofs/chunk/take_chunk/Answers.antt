@@ -1,7 +1,8 @@
 use Rattle.std.proofs.Common.{◌<◌, Ok, ap, arith, inl, inr}
 use Rattle.sw_http.specs.ChunkSteps.{HasNoChunked, HasNoLineWithin}
-use Rattle.sw_http.proofs.ChunkedLemmas.{no_chunked_line, chunk_taken, step_last_long, step_too_long, step_no_data}
+use Rattle.sw_http.proofs.ChunkedLemmas.{no_chunked_line, chunk_taken, step_last_long, step_too_long, step_no_data, chunk_cut_line, chunk_cut_data}
 use Rattle.sw_http.proofs.InputLemmas.{if_some_map}
+use Rattle.std.proofs.lemmas.Result.{err_from_is_err_and}
 use Rattle.sw_http.proofs.chunk.take_chunk.Goals as goal
 
 pub returns-in_default-clause-step : goal.returns-in_default-clause-step
@@ -26,3 +27,14 @@ returns-else-branch-clause-step g c =
       | inl many ↦ step_too_long _ _ _ _ line some many
       | inr none ↦ step_no_data _ _ _ _ line some none
     ]
+
+pub returns-in_err-line-clause-cut : goal.returns-in_err-line-clause-cut
+returns-in_err-line-clause-cut g c e =
+    let exit = err_from_is_err_and c.from_residual.result c.from_residual.ensures.1 in let given = exit.1 in let same = exit.2 in
+    chunk_cut_line _ _ _ (c.in_err-line.ensures.cut (cc))
+
+pub returns-in_err-take_sized-clause-cut : goal.returns-in_err-take_sized-clause-cut
+returns-in_err-take_sized-clause-cut g c e =
+    let exit = err_from_is_err_and c.from_residual-in_err-take_sized.result c.from_residual-in_err-take_sized.ensures.1 in let given = exit.1 in let same = exit.2 in
+    let some : 0 < c.in-Some.line.size = omega arith in
+    chunk_cut_data _ _ _ _ _ (rw c.in-Some.is at c.in_ok-line.ensures.taken) some (c.in_err-take_sized.ensures.cut (cc))

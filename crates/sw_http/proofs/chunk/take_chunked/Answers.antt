@@ -1,5 +1,6 @@
 use Rattle.std.proofs.Common.{◌-◌, arith}
-use Rattle.sw_http.proofs.ChunkedLemmas.{chunks_more, chunks_within, chunked_taken, chunks_refused, trailer_refused}
+use Rattle.sw_http.proofs.ChunkedLemmas.{chunks_more, chunks_within, chunked_taken, chunks_refused, trailer_refused, chunks_cut, trailer_cut}
+use Rattle.std.proofs.lemmas.Result.{err_from_is_err_and}
 use Rattle.sw_http.proofs.chunk.take_chunked.Goals as goal
 
 pub loop-len-preserved : goal.loop-len-preserved
@@ -10,7 +11,7 @@ loop-len-preserved g c =
       few = omega arith;
       within = chunks_within _ _ _ _ _ _ takes;
       takes = takes;
-      later = omega arith;
+      sound = omega (arith, c.in_ok-len.ensures.sound);
     }
 
 pub returns-in-Last-clause-taken : goal.returns-in-Last-clause-taken
@@ -26,3 +27,13 @@ returns-in-Last-clause-none g c e =
 pub returns-in-Bad-clause-none : goal.returns-in-Bad-clause-none
 returns-in-Bad-clause-none g c _ =
     chunks_refused _ _ _ _ _ _ c.loop-len.invariant.takes (rw c.in-Bad.is at c.in_ok-len.ensures.step)
+
+pub returns-in_err-len-clause-cut : goal.returns-in_err-len-clause-cut
+returns-in_err-len-clause-cut g c e =
+    let exit = err_from_is_err_and c.from_residual.result c.from_residual.ensures.1 in let given = exit.1 in let same = exit.2 in
+    chunks_cut _ _ _ _ _ _ _ c.loop-len.invariant.takes (c.in_err-len.ensures.cut (cc))
+
+pub returns-in-Last-clause-cut : goal.returns-in-Last-clause-cut
+returns-in-Last-clause-cut g c e =
+    let step = rw c.in-Last.is at c.in_ok-len.ensures.step in
+    trailer_cut _ _ _ _ _ _ _ _ _ c.loop-len.invariant.takes step.0 step.1 (c.take_trailer.ensures.cut e)

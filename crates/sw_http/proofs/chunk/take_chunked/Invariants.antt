@@ -1,4 +1,4 @@
-use Rattle.std.proofs.Common.{◌≤◌}
+use Rattle.std.proofs.Common.{◌≡◌, ◌≤◌}
 use Rattle.std.specs.Io.KnownBytes.{prepend_known}
 use Rattle.sw_http.specs.Body.{IsWithinLimit}
 use Rattle.sw_http.specs.ChunkSteps.{TakesChunks}
@@ -10,7 +10,7 @@ invariant-loop-len g l = record {
   few : l.left ≤ l.room;
   within : IsWithinLimit l.body;
   takes : TakesChunks (prepend_known l.initial.held (g.R.Source.left l.initial.source)) (prepend_known l.held (g.R.Source.left l.source)) l.initial.body l.body l.room l.left;
-  later : g.R.Source.faults l.initial.source ≤ g.R.Source.faults l.source;
+  sound : g.R.Source.faults l.source ≡ g.R.Source.faults l.initial.source;
 }
 
 abbrev pub decreases-loop-len : goal.decreases-loop-len

@@ -3,7 +3,7 @@ use Rattle.std.proofs.KnownBytes.{Keeps-trans}
 use Rattle.std.specs.Char.{is_ascii_hexdigit}
 use Rattle.std.specs.List.{prefix_len}
 use Rattle.sw_http.specs.ChunkSteps.{HasNoLine}
-use Rattle.sw_http.proofs.InputLemmas.{kept_read, read_none, if_kept, if_always, if_ended}
+use Rattle.sw_http.proofs.InputLemmas.{kept_read, read_none, if_kept, if_always, if_ended, seen_held, seen_kept}
 use Rattle.sw_http.proofs.LineLemmas.{no_line_long, no_line_empty, no_line_ended, has_digits}
 use Rattle.sw_http.proofs.chunk_line.read_digits.Goals as goal
 
@@ -31,3 +31,10 @@ returns-then-branch-eq0-clause-none g c _ =
     let read = c.in_ok-read_more.ensures.read in
     let none_there = subst HasNoLine (sym (read_none _ _ _ _ _ read c.if-branch-eq0.true)) (no_line_ended _ _ is all) in
     if_kept _ _ HasNoLine (Keeps-trans _ _ _ c.loop-run.invariant.kept (kept_read _ _ _ _ _ read)) (if_ended _ _ HasNoLine none_there (read.at_end c.if-branch-eq0.true))
+
+pub returns-in_err-read_more-clause-cut : goal.returns-in_err-read_more-clause-cut
+returns-in_err-read_more-clause-cut g c _ =
+    let is = c.digit_run-run.ensures ∙ ap (prefix_len is_ascii_hexdigit) c.rest.ensures in
+    let all = subst (λ (l : List ℕ). length l ≤ c.digit_run-run.result) c.rest-in-loop-run.ensures (omega arith) in
+    let read = c.in_err-read_more.ensures.read in
+    seen_kept _ _ _ HasNoLine c.loop-run.invariant.kept (seen_held _ _ _ _ HasNoLine read.0 read.1 (no_line_ended _ _ is all))

@@ -1,4 +1,4 @@
-use Rattle.std.proofs.Common.{◌≤◌, ◌-◌, length}
+use Rattle.std.proofs.Common.{◌≡◌, ◌≤◌, ◌-◌, length}
 use Rattle.std.specs.Io.KnownBytes.{Keeps, prepend_known}
 use Rattle.sw_http.proofs.chunk_line.read_digits.Given as goal
 
@@ -6,7 +6,7 @@ use Rattle.sw_http.proofs.chunk_line.read_digits.Given as goal
 abbrev pub invariant-loop-run : goal.invariant-loop-run
 invariant-loop-run g l = record {
   kept : Keeps (prepend_known l.initial.held (g.R.Source.left l.initial.source)) (prepend_known l.held (g.R.Source.left l.source));
-  later : g.R.Source.faults l.initial.source ≤ g.R.Source.faults l.source;
+  sound : g.R.Source.faults l.source ≡ g.R.Source.faults l.initial.source;
 }
 
 abbrev pub decreases-loop-run : goal.decreases-loop-run

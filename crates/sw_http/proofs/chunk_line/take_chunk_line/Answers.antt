@@ -2,7 +2,8 @@ use Rattle.std.proofs.Common.{Ok, ap, ◌∙◌, ℕ, List, take, refl, sym, sub
 use Rattle.std.specs.Str.Parse.{digits_value}
 use Rattle.std.specs.Io.KnownBytes.{Consumes, prepend_known}
 use Rattle.sw_http.proofs.InputLemmas.{kept_consumes, front_taken}
-use Rattle.sw_http.proofs.LineLemmas.{line_no_tail, line_taken}
+use Rattle.sw_http.proofs.LineLemmas.{line_no_tail, line_taken, line_cut_tail}
+use Rattle.std.proofs.lemmas.Result.{err_from_is_err_and}
 use Rattle.sw_http.proofs.chunk_line.take_chunk_line.Goals as goal
 
 pub returns-in_default-2-clause-none : goal.returns-in_default-2-clause-none
@@ -18,3 +19,8 @@ returns-clause-taken g c =
     (subst (λ (l : List ℕ). Consumes (prepend_known held left) (prepend_known l left) (take c.in-Some.digits held)) (sym c.advance.ensures) (front_taken held left c.in-Some.digits)) in
     let size = c.size_of-size.ensures ∙ ap (λ (l : List ℕ). digits_value 16 (take c.in-Some.digits l)) c.rest.ensures in
     line_taken _ _ _ _ _ _ _ (rw c.in-Some.is at c.in_ok-digits.ensures.found) front (rw c.in-Some-2.is at c.in_ok-tail.ensures.taken) size refl
+
+pub returns-in_err-tail-clause-cut : goal.returns-in_err-tail-clause-cut
+returns-in_err-tail-clause-cut g c e =
+    let exit = err_from_is_err_and c.from_residual-in_err-tail.result c.from_residual-in_err-tail.ensures.1 in let given = exit.1 in let same = exit.2 in
+    line_cut_tail _ _ _ _ _ _ _ c.in_ok-digits.ensures.kept (rw c.in-Some.is at c.in_ok-digits.ensures.found) c.advance.ensures (c.in_err-tail.ensures.cut (cc))

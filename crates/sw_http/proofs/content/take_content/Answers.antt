@@ -11,5 +11,5 @@ loop-taken-preserved g c =
     record {
       few = omega arith;
       takes = content_step _ _ _ _ _ _ _ _ _ takes within c.advance.ensures now;
-      later = omega arith;
+      sound = omega (arith, c.in_ok-hold_some.ensures.sound);
     }

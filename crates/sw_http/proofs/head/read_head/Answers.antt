@@ -12,7 +12,7 @@ loop-spans-init g c = record {
   begins = c.requires.begins;
   none_seen = no_head_in_none _ refl;
   kept = Keeps-refl _;
-  later = omega arith;
+  sound = omega arith;
 }
 
 pub returns-then-seen-ge-MAX_HEAD-clause-none : goal.returns-then-seen-ge-MAX_HEAD-clause-none

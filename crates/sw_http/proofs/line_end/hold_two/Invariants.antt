@@ -1,4 +1,4 @@
-use Rattle.std.proofs.Common.{◌≤◌, ◌-◌, length}
+use Rattle.std.proofs.Common.{◌≡◌, ◌≤◌, ◌-◌, length}
 use Rattle.std.specs.Io.KnownBytes.{Keeps, prepend_known}
 use Rattle.sw_http.proofs.line_end.hold_two.Given as goal
 
@@ -6,7 +6,8 @@ use Rattle.sw_http.proofs.line_end.hold_two.Given as goal
 abbrev pub invariant-loop-held : goal.invariant-loop-held
 invariant-loop-held g l = record {
   kept : Keeps (prepend_known l.initial.held (g.R.Source.left l.initial.source)) (prepend_known l.held (g.R.Source.left l.source));
-  later : g.R.Source.faults l.initial.source ≤ g.R.Source.faults l.source;
+  more : length l.initial.held ≤ length l.held;
+  sound : g.R.Source.faults l.source ≡ g.R.Source.faults l.initial.source;
 }
 
 abbrev pub decreases-loop-held : goal.decreases-loop-held

@@ -3,7 +3,8 @@ use Rattle.httparse.specs.Pieces.{is_newline}
 use Rattle.sw_http.specs.Opening.{IsHeadless}
 use Rattle.sw_http.specs.Input.{IsLongRun}
 use Rattle.sw_http.proofs.InputLemmas.{if_some_map}
-use Rattle.sw_http.proofs.OpeningLemmas.{opened, headless, headless_run}
+use Rattle.sw_http.proofs.OpeningLemmas.{opened, headless, headless_run, opening_cut_run, opening_cut_head}
+use Rattle.std.proofs.lemmas.Result.{err_from_is_err_and}
 use Rattle.sw_http.proofs.opening.take_opening.Goals as goal
 
 pub returns-in-TooMany-clause-opening : goal.returns-in-TooMany-clause-opening
@@ -19,3 +20,14 @@ pub returns-in-None-clause-opening : goal.returns-in-None-clause-opening
 returns-in-None-clause-opening g c =
     let run = rw c.in-Begun.is at c.in_ok-skipped.ensures.run in
     headless _ _ _ _ run.0 run.2 (c.in_ok-open.ensures.none (ap Ok c.in-None.is))
+
+pub returns-in_err-skipped-clause-cut : goal.returns-in_err-skipped-clause-cut
+returns-in_err-skipped-clause-cut g c e =
+    let exit = err_from_is_err_and c.from_residual.result c.from_residual.ensures.1 in let given = exit.1 in let same = exit.2 in
+    opening_cut_run _ _ (c.in_err-skipped.ensures.cut (cc))
+
+pub returns-in_err-open-clause-cut : goal.returns-in_err-open-clause-cut
+returns-in_err-open-clause-cut g c e =
+    let exit = err_from_is_err_and c.from_residual-in_err-open.result c.from_residual-in_err-open.ensures.1 in let given = exit.1 in let same = exit.2 in
+    let run = rw c.in-Begun.is at c.in_ok-skipped.ensures.run in
+    opening_cut_head _ _ _ _ run.0 (c.in_err-open.ensures.cut (cc))

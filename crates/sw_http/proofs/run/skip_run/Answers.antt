@@ -3,7 +3,7 @@ use Rattle.std.proofs.lemmas.Bool.Decides.{nat_tests}
 use Rattle.std.proofs.lemmas.Result.{err_from_is_err_and}
 use Rattle.std.specs.List.{prefix_len}
 use Rattle.sw_http.specs.Input.{test_of}
-use Rattle.sw_http.proofs.InputLemmas.{run_step, run_step_stops, run_within, run_kept, run_few, run_too_long, run_is_all, all_at_end, kept_read, kept_unread, read_none, no_bytes}
+use Rattle.sw_http.proofs.InputLemmas.{run_step, run_step_stops, run_within, run_kept, run_few, run_too_long, run_is_all, all_at_end, kept_read, kept_unread, read_none, no_bytes, run_cut}
 use Rattle.sw_http.proofs.run.skip_run.Goals as goal
 
 pub returns-then-run-limit-clause-run : goal.returns-then-run-limit-clause-run
@@ -48,5 +48,13 @@ loop-skipped-preserved g c =
     record {
       few = omega arith;
       taken = run_kept _ _ _ _ _ taken (kept_read _ _ _ _ _ c.in_ok-read_more.ensures.read);
-      later = omega arith;
+      sound = omega (arith, c.in_ok-read_more.ensures.sound);
     }
+
+pub returns-in_err-read_more-clause-cut : goal.returns-in_err-read_more-clause-cut
+returns-in_err-read_more-clause-cut g c _ =
+    let is = c.run_len-run.ensures ∙ ap (prefix_len (test_of c.args.class)) c.rest.ensures in
+    let taken = run_step _ _ c.loop-skipped.held _ _ _ _ c.loop-skipped.invariant.taken is c.advance.ensures in
+    let nothing : length c.rest-in-loop-skipped.result.now ≡ 0 = grind (arith, nat_tests) in
+    let read = c.in_err-read_more.ensures.read in
+    run_cut _ _ _ _ _ _ _ _ taken (omega arith) (sym c.rest-in-loop-skipped.ensures ∙ no_bytes _ nothing) read.0 read.1

@@ -1,4 +1,4 @@
-use Rattle.std.proofs.Common.{◌≤◌, ◌+◌, ◌-◌, ◌*◌, length}
+use Rattle.std.proofs.Common.{◌≡◌, ◌≤◌, ◌+◌, ◌-◌, ◌*◌, length}
 use Rattle.std.specs.Io.KnownBytes.{prepend_known}
 use Rattle.sw_http.specs.Input.{TakesRun, test_of}
 use Rattle.sw_http.proofs.run.skip_run.Given as goal
@@ -8,7 +8,7 @@ abbrev pub invariant-loop-skipped : goal.invariant-loop-skipped
 invariant-loop-skipped g l = record {
   few : l.skipped ≤ l.limit;
   taken : TakesRun (test_of l.class) (prepend_known l.initial.held (g.R.Source.left l.initial.source)) (prepend_known l.held (g.R.Source.left l.source)) l.skipped;
-  later : g.R.Source.faults l.initial.source ≤ g.R.Source.faults l.source;
+  sound : g.R.Source.faults l.source ≡ g.R.Source.faults l.initial.source;
 }
 
 -- what may still be skipped; a turn that begins with nothing held skips nothing, and holds something at its end

@@ -11,7 +11,7 @@ loop-len-init g c = record {
   within = omega arith;
   none_seen = no_trailer_in_none _ refl;
   kept = Keeps-refl _;
-  later = omega arith;
+  sound = omega arith;
 }
 
 pub returns-then-seen-ge-MAX_HEAD-clause-none : goal.returns-then-seen-ge-MAX_HEAD-clause-none
