@@ -322,8 +322,8 @@ tail_cut_end a held mid left behind now count len room run stops extension cut =
     go (Some xs) (Some ys) (Some zs) (Some ws) taken taken_text holds = (
       run.run ++ (print_extension extension.extension ++ holds.0),
       taken ∙ ap (λ (l : List ℕ). run.run ++ l) (taken_text ∙ ap (λ (l : List ℕ). print_extension extension.extension ++ l) holds.1
-      ∙ sym (append_assoc (print_extension extension.extension) holds.0 ws)) ∙ sym (append_assoc run.run (print_extension extension.extension ++ holds.0) ws),
-      no_tail xs ys zs holds.0 ws taken_text holds.1 holds.2.0 holds.2.1
+          ∙ sym (append_assoc (print_extension extension.extension) holds.0 ws)) ∙ sym (append_assoc run.run (print_extension extension.extension ++ holds.0) ws),
+      no_tail xs ys zs holds.0 ws taken_text holds.1 holds.2.0 holds.2.1,
     )
 
 pub line_cut_none : (a left : Option (List ℕ)) (room : ℕ) → IfSeen a left HasNoLine → IfSeen a left (HasNoLineWithin room)
@@ -357,5 +357,5 @@ line_cut_tail a held after left now n room kept digits after_is none_there = see
     go (Some xs) (Some ys) holds = (
       take n held ++ holds.0,
       ap (λ (l : List ℕ). l ++ xs) (sym whole) ∙ append_assoc (take n held) after xs ∙ ap (λ (l : List ℕ). take n held ++ l) holds.1 ∙ sym (append_assoc (take n held) holds.0 ys),
-      no_line xs holds.0 ys holds.1 holds.2
+      no_line xs holds.0 ys holds.1 holds.2,
     )

@@ -1,18 +1,22 @@
 -- From a head and a body that were taken off the input to a request, and why there is none.
-use Rattle.std.proofs.Common.{◌≡◌, ℕ, ◌+◌, ◌≤◌, true, List, ◌++◌, length, Option, None, IfSome, inl, inr, sym, ap, ◌∙◌, subst, arith, length-append, append_assoc}
-use Rattle.std.specs.Io.KnownBytes.{Consumes, Appends}
-use Rattle.std.proofs.KnownBytes.{Consumes-trans, Appends-nil}
+use Rattle.std.proofs.Common.{◌≡◌, ◌⊎◌, ℕ, ◌+◌, ◌≤◌, Bool, true, false, refl, List, ◌++◌, length, Option, None, IfSome, inl, inr, sym, ap, ◌∙◌, subst, arith, length-append, append_assoc}
+use Rattle.std.specs.Io.KnownBytes.{Consumes, Appends, Keeps}
+use Rattle.std.proofs.KnownBytes.{Consumes-trans, Consumes-kept, Appends-nil}
 use Rattle.httparse.specs.Grammar.{RequestHead, print_request}
 use Rattle.httparse.specs.Pieces.{is_newline}
 use Rattle.httparse.proofs.RunLemmas.{run_unstopped}
 use Rattle.sw_outside.specs.Taken.{AppendsPart}
 use Rattle.sw_http.specs.Body.{IsFramedBody, print_body}
 use Rattle.sw_http.specs.ChunkSteps.{TakesBody, HasNoBody}
-use Rattle.sw_http.specs.Continue.{Takes, HasHead, BeginsNone, Refuses, IsToldPart, asks_continue, continue_text, continue_of}
+use Rattle.sw_http.specs.Continue.{Takes, HasHead, BeginsNone, Refuses, IsCutShort, IsStopped, IsToldOnce, IsToldPart, asks_continue, continue_text, continue_of, puts_after}
 use Rattle.std.specs.Prelude.{codes}
-use Rattle.std.proofs.lemmas.Bool.{cond-true}
+use Rattle.std.proofs.lemmas.Bool.{cond-true, cond-false}
 use Rattle.httparse.specs.Ascii.{crlf_bytes}
 use Rattle.sw_message.specs.Framing.{framing_of, is_framed}
+use Rattle.sw_http.specs.Input.{IfSeen, fault_of}
+use Rattle.sw_http.specs.declared.input.ReadError.{ReadError}
+use Rattle.sw_http.specs.declared.input.ReadError.TheVariants as errors
+use Rattle.sw_http.specs.declared.reader.HttpFault.TheVariants as faults
 use Rattle.sw_http.specs.Opening.{Opens, IsHeadless}
 use Rattle.sw_http.specs.Request.{Parts, AreParts, IsNoRequest, IsSkipped, text_of}
 use Rattle.sw_message.specs.Head.{fields_of}
@@ -22,7 +26,7 @@ use Rattle.sw_message.specs.declared.parts.OpenRequest.{OpenRequest}
 use Rattle.sw_message.specs.declared.request.Body.{Body}
 use Rattle.sw_message.specs.declared.request.Request.{Request}
 use Rattle.sw_message.proofs.HeadLemmas.{head_stops}
-use Rattle.sw_http.proofs.InputLemmas.{if_behind, if_some_map}
+use Rattle.sw_http.proofs.InputLemmas.{if_behind, if_some_map, seen_behind, seen_map}
 use Rattle.sw_message.proofs.ListLemmas.{take_every}
 use Rattle.sw_http.proofs.ReadingLemmas.{text_split, start_same}
 
@@ -117,16 +121,80 @@ pub nothing_told : (fields : List Field) → None ≡ framing_of fields → (x :
 unfolding continue_text
 nothing_told fields bad x = rw (← bad) (Appends-nil x)
 
+-- what follows the head is not the body of a request
+no_request_behind : (a b : Option (List ℕ)) (open_ : OpenRequest) (room : ℕ) (opens : Opens a b open_ room) (rest : List ℕ) → HasNoBody (framing_of open_.fields) room rest
+    → (p : Parts) (after : List ℕ) → AreParts p → opens.head ≡ p.head → opens.skipped ≡ p.skipped → ¬ (rest ≡ print_body p.body ++ after)
+no_request_behind a b open_ room opens rest holds p after parts same skipped_same e =
+    let framing = ap framing_of opens.is_open.fields ∙ ap (λ (h : RequestHead). framing_of (fields_of h)) same in
+    let fits : length (print_body p.body) ≤ room =
+    omega (arith, parts.size, opens.room_is, length-append opens.skipped (print_request opens.head), length-append p.skipped (print_request p.head ++ print_body p.body), length-append (print_request p.head) (print_body p.body), ap length skipped_same, ap (λ (h : RequestHead). length (print_request h)) same) in
+    holds.none p.body after (subst (λ (f : Option Framing). IsFramedBody f p.body) (sym framing) parts.body) fits e
+
 -- its body isn't there
 pub refuses_body : (a b t now : Option (List ℕ)) (open_ : OpenRequest) (room : ℕ) → Opens a b open_ room → Appends t now (continue_text open_.fields)
     → IfSome b (HasNoBody (framing_of open_.fields) room) → Refuses a t now
 refuses_body a b t now open_ room opens written none_there = record {
-  no_request = refused_behind a b open_ room opens (HasNoBody (framing_of open_.fields) room)
-      (λ rest holds p after parts same skipped_same e.
-      let framing = ap framing_of opens.is_open.fields ∙ ap (λ (h : RequestHead). framing_of (fields_of h)) same in
-      let fits : length (print_body p.body) ≤ room =
-      omega (arith, parts.size, opens.room_is, length-append opens.skipped (print_request opens.head), length-append p.skipped (print_request p.head ++ print_body p.body), length-append (print_request p.head) (print_body p.body), ap length skipped_same, ap (λ (h : RequestHead). length (print_request h)) same) in
-      holds.none p.body after (subst (λ (f : Option Framing). IsFramedBody f p.body) (sym framing) parts.body) fits e)
-      none_there;
+  no_request = refused_behind a b open_ room opens (HasNoBody (framing_of open_.fields) room) (no_request_behind a b open_ room opens) none_there;
   continued = inl (opens.head, has_head a b open_ room opens, told a b t now open_ room opens written);
 }
+
+-- ---- a read failed
+
+pub fault_is_failed : (e : ReadError) → fault_of e ≡ faults.ReadFault → e ≡ errors.Failed
+fault_is_failed errors.Failed same = refl
+fault_is_failed errors.NoMemory same = absurd (cc)
+
+pub cut_opening : (a left t : Option (List ℕ)) (calls : ℕ) → IfSeen a left BeginsNone → IfSeen a left (IsCutShort t t calls calls)
+cut_opening a left t calls = seen_map a left BeginsNone (IsCutShort t t calls calls) λ bytes none_there. record {
+  needed = λ p rest reads. none_there.none p.skipped _ p.head reads.parts.skipped reads.parts.head (reads.whole ∙ text_split p rest);
+  told = inl (none_there, Appends-nil t, refl);
+}
+
+pub cut_body : (a b left t now : Option (List ℕ)) (calls calls_now : ℕ) (open_ : OpenRequest) (room : ℕ) → Opens a b open_ room → Appends t now (continue_text open_.fields)
+    → calls_now ≡ puts_after open_.fields calls → IfSeen b left (HasNoBody (framing_of open_.fields) room) → IfSeen a left (IsCutShort t now calls calls_now)
+cut_body a b left t now calls calls_now open_ room opens written called cut =
+    seen_behind a b left (opens.skipped ++ print_request opens.head) (IsCutShort t now calls calls_now) (HasNoBody (framing_of open_.fields) room) opens.taken
+    (λ rest holds. record {
+      needed = λ p after reads.
+          let same = start_same opens.skipped p.skipped opens.head p.head rest _ opens.are_skipped reads.parts.skipped opens.is_head reads.parts.head
+          (sym (append_assoc opens.skipped (print_request opens.head) rest) ∙ reads.whole ∙ text_split p after) in
+          no_request_behind a b open_ room opens rest holds p after reads.parts same.1 same.0 same.2;
+      told = inr (
+        opens.head,
+        record { skipped = opens.skipped; are_skipped = opens.are_skipped; is_head = opens.is_head; rest = rest; whole = append_assoc opens.skipped (print_request opens.head) rest },
+        told a b t now open_ room opens written,
+        called ∙ ap (λ (l : List Field). puts_after l calls) opens.is_open.fields,
+      );
+    }) cut
+
+-- ---- the client is told
+
+pub called_once : (a b : Option (List ℕ)) (open_ : OpenRequest) (room calls calls_now : ℕ) → Opens a b open_ room → calls_now ≡ puts_after open_.fields calls
+    → (calls_now ≡ calls) ⊎ IsToldOnce a calls calls_now
+called_once a b open_ room calls calls_now opens called = go (asks_continue open_.fields) refl
+  where
+    go : (asks : Bool) → asks_continue open_.fields ≡ asks → (calls_now ≡ calls) ⊎ IsToldOnce a calls calls_now
+    go true asks = inr (
+      opens.head,
+      has_head a b open_ room opens,
+      ap asks_continue (sym opens.is_open.fields) ∙ asks,
+      called ∙ cond-true _ _ _ asks,
+    )
+    go false asks = inl (called ∙ cond-false _ _ _ asks)
+
+pub stopped : (a b c t now : Option (List ℕ)) (calls calls_now : ℕ) (open_ : OpenRequest) (room : ℕ) → Opens a b open_ room → Keeps b c → asks_continue open_.fields ≡ true
+    → AppendsPart t now (continue_text open_.fields) → calls_now ≡ puts_after open_.fields calls → IsStopped a c t now calls calls_now
+stopped a b c t now calls calls_now open_ room opens kept asks written called = record {
+  skipped = opens.skipped;
+  are_skipped = opens.are_skipped;
+  head = opens.head;
+  is_head = opens.is_head;
+  asks = ap asks_continue (sym opens.is_open.fields) ∙ asks;
+  consumed = Consumes-kept a b c _ opens.taken kept;
+  told = subst (λ (l : List Field). AppendsPart t now (continue_text l)) opens.is_open.fields written;
+  called = called ∙ cond-true _ _ _ asks;
+}
+
+-- what has no good framing asks for nothing
+pub nothing_asked : (fields : List Field) (calls : ℕ) → None ≡ framing_of fields → calls ≡ puts_after fields calls
+nothing_asked fields calls bad = rw (← bad) refl

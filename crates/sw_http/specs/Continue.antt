@@ -1,12 +1,13 @@
 -- When a client is told to go on, and what then stands before the reply. (RFC 9110 section 10.1.1 and RFC 9112 section 9.3.)
-use Rattle.std.specs.Prelude.{◌≡◌, ℕ, Bool, List, [], ◌++◌, Option, IfSome, codes, is_some, ◌&&◌, ◌⊎◌, if◌then◌else◌}
+use Rattle.std.specs.Prelude.{◌≡◌, ℕ, Bool, true, List, [], ◌++◌, Option, IfSome, codes, is_some, ◌&&◌, ◌⊎◌, if◌then◌else◌}
 use Rattle.std.specs.Io.KnownBytes.{Consumes, Appends}
 use Rattle.httparse.specs.Ascii.{crlf_bytes}
 use Rattle.httparse.specs.Grammar.{RequestHead, print_request}
+use Rattle.sw_outside.specs.Counts.{raised}
 use Rattle.sw_outside.specs.Taken.{AppendsPart}
 use Rattle.sw_message.specs.Framing.{framing_of, is_framed, says}
 use Rattle.sw_message.specs.Head.{IsHead, fields_of}
-use Rattle.sw_http.specs.Request.{IsSkipped, IsNoRequest, Parts, AreParts, text_of, request_of}
+use Rattle.sw_http.specs.Request.{IsSkipped, IsNoRequest, Parts, AreParts, text_of, request_of, Reads}
 use Rattle.sw_message.specs.declared.fields.Field.{Field}
 use Rattle.sw_message.specs.declared.request.Request.{Request}
 
@@ -21,6 +22,10 @@ continue_text fields = if asks_continue fields then codes "HTTP/1.1 100 Continue
 -- the same for a head
 abbrev pub continue_of : RequestHead → List ℕ
 continue_of h = continue_text (fields_of h)
+
+-- how many calls of the sink there were, once a client with these fields was told: one more where it waits to be told
+abbrev pub puts_after : List Field → ℕ → ℕ
+puts_after fields calls = if asks_continue fields then raised calls else calls
 
 -- the request was taken off the input: its text stood in front, and is gone; and the client was told to go on where it asked
 pub record Takes (before after taken taken_now : Option (List ℕ)) (request : Request) : Type 0 where
@@ -70,3 +75,37 @@ pub record Skips (before after : Option (List ℕ)) : Type 0 where
 abbrev pub IsCut : Option (List ℕ) → Option (List ℕ) → Option (List ℕ) → Option (List ℕ) → Type 0
 IsCut before after taken taken_now =
     (Skips before after × Appends taken taken_now []) ⊎ ((h : RequestHead) × HasHead before h × Appends taken taken_now (continue_of h))
+
+-- bytes begin with this head, behind line ends that are skipped
+pub record StartsWithHead (bytes : List ℕ) (head : RequestHead) : Type 0 where
+  pub skipped : List ℕ
+  pub are_skipped : IsSkipped skipped
+  pub is_head : IsHead head
+  pub rest : List ℕ
+  pub whole : bytes ≡ skipped ++ (print_request head ++ rest)
+
+-- no front of bytes is a request's text
+abbrev pub HasNoRequest : List ℕ → Type 0
+HasNoRequest bytes = (p : Parts) (rest : List ℕ) → ¬ (Reads bytes p rest)
+
+-- a read failed when these bytes of the input had been seen: no whole request stood in them, so the read was needed; and by then the client had
+-- been told what the head in front of them asks for, in one call, and nothing where no whole head stood there
+pub record IsCutShort (taken taken_now : Option (List ℕ)) (calls calls_now : ℕ) (seen : List ℕ) : Type 0 where
+  pub needed : HasNoRequest seen
+  pub told : (BeginsNone seen × Appends taken taken_now [] × (calls_now ≡ calls))
+      ⊎ ((h : RequestHead) × StartsWithHead seen h × Appends taken taken_now (continue_of h) × (calls_now ≡ puts_after (fields_of h) calls))
+
+-- the write that tells the client failed: its head asks to be told, and it and the line ends before it were taken off the input, and nothing else
+pub record IsStopped (before after taken taken_now : Option (List ℕ)) (calls calls_now : ℕ) : Type 0 where
+  pub skipped : List ℕ
+  pub are_skipped : IsSkipped skipped
+  pub head : RequestHead
+  pub is_head : IsHead head
+  pub asks : asks_continue (fields_of head) ≡ true
+  pub consumed : Consumes before after (skipped ++ print_request head)
+  pub told : AppendsPart taken taken_now (continue_of head)
+  pub called : calls_now ≡ raised calls
+
+-- the sink was called once, and the head in front of the input asks to be told
+abbrev pub IsToldOnce : Option (List ℕ) → ℕ → ℕ → Type 0
+IsToldOnce input calls calls_now = (h : RequestHead) × HasHead input h × (asks_continue (fields_of h) ≡ true) × (calls_now ≡ raised calls)

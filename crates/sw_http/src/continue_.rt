@@ -1,9 +1,9 @@
 //! A client that sends `Expect: 100-continue` waits to be told before it sends the body.
-ghost use Rattle.std.specs.Prelude.{◌≡◌, ℕ, true, is_some, OnOk, OnErr};
+ghost use Rattle.std.specs.Prelude.{◌≡◌, ℕ, true, is_some, IsErr, OnOk, OnErr};
 ghost use Rattle.std.specs.Io.KnownBytes.{Appends};
 ghost use Rattle.sw_outside.specs.Faults.{HasCause};
 ghost use Rattle.sw_outside.specs.Taken.{AppendsPart};
-ghost use Rattle.sw_http.specs.Continue.{asks_continue, continue_text};
+ghost use Rattle.sw_http.specs.Continue.{asks_continue, continue_text, puts_after};
 ghost use Rattle.sw_message.specs.Framing.{framing_of};
 
 use sw_message::{FieldList, is_framed, says};
@@ -27,6 +27,8 @@ pub(crate) fn send_continue<W: Sink>(out: &mut W, fields: &FieldList) -> Result<
     ensures all { OnOk result (Appends (W.taken out.old) (W.taken out.new) (continue_text fields.now)) }
     ensures part { OnErr result (AppendsPart (W.taken out.old) (W.taken out.new) (continue_text fields.now)) }
     ensures cause { HasCause (W.faults out.old) (W.faults out.new) result }
+    ensures puts { W.calls out.new ≡ puts_after fields.now (W.calls out.old) }
+    ensures asked { IsErr result → asks_continue fields.now ≡ true }
 {
     if asks_continue(fields) {
         out.put(CONTINUE)

@@ -1,11 +1,12 @@
-ghost use Rattle.std.specs.Prelude.{◌≡◌, ◌≢◌, ℕ, ◌≤◌, [], None, Ok, Err, IfOk, IfSome, OnOk, OnErr};
+ghost use Rattle.std.specs.Prelude.{◌≡◌, ◌≢◌, ◌⊎◌, ℕ, ◌≤◌, true, [], None, Ok, Err, IfOk, IfSome, OnOk, OnErr};
 ghost use Rattle.std.specs.Io.KnownBytes.{Appends, IsAtEnd, prepend_known};
+ghost use Rattle.sw_outside.specs.Counts.{raised};
 ghost use Rattle.sw_outside.specs.Faults.{HasRisen};
 ghost use Rattle.sw_outside.specs.Taken.{AppendsPart};
-ghost use Rattle.sw_http.specs.Continue.{Takes, Refuses, MayContinue, IsToldPart, IsCut, continue_text};
+ghost use Rattle.sw_http.specs.Continue.{Takes, Refuses, MayContinue, IsToldPart, IsToldOnce, IsCut, IsCutShort, IsStopped, asks_continue, continue_text, puts_after};
 ghost use Rattle.sw_http.specs.ChunkSteps.{TakesBody, HasNoBody};
 ghost use Rattle.sw_message.specs.Framing.{framing_of, is_framed};
-ghost use Rattle.sw_http.specs.Input.{fault_of};
+ghost use Rattle.sw_http.specs.Input.{HasFailed, IfSeen, fault_of};
 ghost use Rattle.sw_http.specs.Request.{IsSkipped};
 ghost use Rattle.sw_http.specs.declared.reader.HttpFault.TheVariants as faults;
 
@@ -80,10 +81,21 @@ pub fn next_request<R: Source, W: Sink>(
     ensures may_continue { OnErr result (MayContinue (prepend_known held.old (R.left source.old)) (W.taken out.old) (W.taken out.new)) }
     ensures later { R.faults source.old ≤ R.faults source.new }
     ensures read_fault { result ≡ Err HttpFault.ReadFault → HasRisen (R.faults source.old) (R.faults source.new) }
+    ensures sound { result ≢ Err HttpFault.ReadFault → R.faults source.new ≡ R.faults source.old }
+    ensures failed_once { result ≡ Err HttpFault.ReadFault → R.faults source.new ≡ raised (R.faults source.old) }
+    ensures seen { result ≡ Err HttpFault.ReadFault → IfSeen (prepend_known held.old (R.left source.old)) (R.left source.new) (IsCutShort (W.taken out.old) (W.taken out.new) (W.calls out.old) (W.calls out.new)) }
     ensures cut { result ≡ Err HttpFault.ReadFault → IsCut (prepend_known held.old (R.left source.old)) (prepend_known held.new (R.left source.new)) (W.taken out.old) (W.taken out.new) }
     ensures written_later { W.faults out.old ≤ W.faults out.new }
     ensures write_fault { result ≡ Err HttpFault.WriteFault → HasRisen (W.faults out.old) (W.faults out.new) }
     ensures told_part { result ≡ Err HttpFault.WriteFault → IsToldPart (prepend_known held.old (R.left source.old)) (W.taken out.old) (W.taken out.new) }
+    ensures written_sound { result ≢ Err HttpFault.WriteFault → W.faults out.new ≡ W.faults out.old }
+    ensures write_failed_once { result ≡ Err HttpFault.WriteFault → W.faults out.new ≡ raised (W.faults out.old) }
+    ensures stopped { result ≡ Err HttpFault.WriteFault → IsStopped (prepend_known held.old (R.left source.old)) (prepend_known held.new (R.left source.new)) (W.taken out.old) (W.taken out.new) (W.calls out.old) (W.calls out.new) }
+
+    // The sink is called once where the client waits to be told, and never else.
+    ensures puts { (W.calls out.new ≡ W.calls out.old) ⊎ IsToldOnce (prepend_known held.old (R.left source.old)) (W.calls out.old) (W.calls out.new) }
+    ensures told_once { IfOk result (λ next. IfSome next (λ request. W.calls out.new ≡ puts_after request.fields (W.calls out.old))) }
+    ensures no_put { result ≡ Ok None → W.calls out.new ≡ W.calls out.old }
 {
     let (open, room) = match take_opening(alloc, held, source)? {
         Opening::Head(open, room) => (open, room),
@@ -128,10 +140,15 @@ fn read_body<R: Source, W: Sink>(
     ensures told_first { result ≡ Err HttpFault.ReadFault → Appends (W.taken out.old) (W.taken out.new) (continue_text fields.now) }
     ensures told_part { OnErr result (AppendsPart (W.taken out.old) (W.taken out.new) (continue_text fields.now)) }
     ensures not_bad { result ≢ Err HttpFault.Bad }
-    ensures later { R.faults source.old ≤ R.faults source.new }
-    ensures read_fault { result ≡ Err HttpFault.ReadFault → HasRisen (R.faults source.old) (R.faults source.new) }
-    ensures written_later { W.faults out.old ≤ W.faults out.new }
-    ensures write_fault { result ≡ Err HttpFault.WriteFault → HasRisen (W.faults out.old) (W.faults out.new) }
+    ensures sound { OnOk result (R.faults source.new ≡ R.faults source.old) }
+    ensures starved { result ≡ Err HttpFault.NoMemory → R.faults source.new ≡ R.faults source.old }
+    ensures failed { result ≡ Err HttpFault.ReadFault → HasFailed (R.faults source.old) (R.faults source.new) }
+    ensures cut { result ≡ Err HttpFault.ReadFault → IfSeen (prepend_known held.old (R.left source.old)) (R.left source.new) (HasNoBody (framing_of fields.now) room) }
+    ensures unread { result ≡ Err HttpFault.WriteFault → (held.new ≡ held.old) × (R.left source.new ≡ R.left source.old) × (R.faults source.new ≡ R.faults source.old) }
+    ensures asked { result ≡ Err HttpFault.WriteFault → asks_continue fields.now ≡ true }
+    ensures puts { W.calls out.new ≡ puts_after fields.now (W.calls out.old) }
+    ensures written_sound { result ≢ Err HttpFault.WriteFault → W.faults out.new ≡ W.faults out.old }
+    ensures write_failed { result ≡ Err HttpFault.WriteFault → HasFailed (W.faults out.old) (W.faults out.new) }
 {
     let Some(framing) = framing_of(fields) else {
         return Ok(None);

@@ -1,5 +1,8 @@
-use Rattle.std.proofs.Common.{Ok, ap, inr}
-use Rattle.sw_http.proofs.RequestLemmas.{request_taken, refuses_body, told_whole}
+use Rattle.std.proofs.Common.{◌≡◌, Ok, Err, ap, inr, sym, ◌∙◌}
+use Rattle.std.proofs.lemmas.Result.{err_from_is_err_and}
+use Rattle.sw_http.specs.Input.{fault_of}
+use Rattle.sw_http.specs.declared.reader.HttpFault.TheVariants as faults
+use Rattle.sw_http.proofs.RequestLemmas.{called_once, cut_body, cut_opening, fault_is_failed, request_taken, refuses_body, refuses_headless, told_whole}
 use Rattle.sw_http.proofs.reader.next_request.Goals as goal
 
 pub returns-in-Some-clause-request : goal.returns-in-Some-clause-request
@@ -18,3 +21,32 @@ pub returns-in-None-clause-may_continue : goal.returns-in-None-clause-may_contin
 returns-in-None-clause-may_continue g c =
     let opens = rw c.in-Head.is at c.in_ok-open.ensures.opening in
     inr (told_whole _ _ _ _ c.in-Head.open c.in-Head.room opens c.in_ok-body.ensures.told)
+
+pub returns-in_err-open-clause-seen : goal.returns-in_err-open-clause-seen
+returns-in_err-open-clause-seen g c e =
+    let exit = err_from_is_err_and c.from_residual.result c.from_residual.ensures.1 in
+    let given = exit.1 in
+    let same = exit.2 in
+    let failed : fault_of c.in_err-open.field-0.0 ≡ faults.ReadFault = cc in
+    cut_opening _ _ _ _ (c.in_err-open.ensures.cut (ap Err (fault_is_failed _ failed)))
+
+pub returns-in-Bad-clause-bad : goal.returns-in-Bad-clause-bad
+returns-in-Bad-clause-bad g c _ = refuses_headless _ _ (rw c.in-Bad.is at c.in_ok-open.ensures.opening)
+
+pub returns-in_err-body-clause-seen : goal.returns-in_err-body-clause-seen
+returns-in_err-body-clause-seen g c e =
+    let exit = err_from_is_err_and c.from_residual-in_err-body.result c.from_residual-in_err-body.ensures.1 in
+    let given = exit.1 in
+    let same = exit.2 in
+    let opens = rw c.in-Head.is at c.in_ok-open.ensures.opening in
+    cut_body _ _ _ _ _ _ _ c.in-Head.open c.in-Head.room opens (c.in_err-body.ensures.told_first (cc)) c.in_err-body.ensures.puts (c.in_err-body.ensures.cut (cc))
+
+pub returns-in_err-body-clause-puts : goal.returns-in_err-body-clause-puts
+returns-in_err-body-clause-puts g c =
+    let opens = rw c.in-Head.is at c.in_ok-open.ensures.opening in
+    called_once _ _ c.in-Head.open c.in-Head.room _ _ opens c.in_err-body.ensures.puts
+
+pub returns-in-Some-clause-puts : goal.returns-in-Some-clause-puts
+returns-in-Some-clause-puts g c =
+    let opens = rw c.in-Head.is at c.in_ok-open.ensures.opening in
+    called_once _ _ c.in-Head.open c.in-Head.room _ _ opens c.in_ok-body.ensures.puts
