@@ -1,0 +1,203 @@
+-- How the turns of a session's loop make up a session.
+use Rattle.std.proofs.Common.{◌≡◌, ℕ, ◌+◌, ◌<◌, ◌≤◌, arith, List, [], ◌∷◌, ◌++◌, length, Option, Some, None, refl, sym, ap, ◌∙◌, subst, append_assoc, append-nil, length-append, inl, inr, Ok, Err, true, false, ◌⊎◌}
+use Rattle.std.specs.List.{flat_map}
+use Rattle.std.specs.Io.KnownBytes.{Appends, Consumes, IsAtEnd, prepend_known}
+use Rattle.std.proofs.KnownBytes.{Appends-trans, Appends-nil, Consumes-nil, Consumes-trans}
+use Rattle.std.proofs.lemmas.Grind.{flat_map-append}
+use Rattle.std.proofs.lemmas.List.{map-append}
+use Rattle.std.proofs.lemmas.List.Elements.{All-nil, All-push}
+use Rattle.sw_outside.specs.Faults.{HasRisen}
+use Rattle.sw_http.specs.Request.{Parts, AreParts, request_of, text_of}
+use Rattle.sw_http.specs.Reading.{BeginsWith}
+use Rattle.sw_http.specs.declared.request.Request.{Request}
+use Rattle.sw_http.specs.declared.response.Response.{Response}
+use Rattle.sw_session.specs.Passages.{Passage}
+use Rattle.sw_session.specs.Replies.{Serves, Replies, written_for}
+use Rattle.sw_session.specs.Session.{SoFar, Complete, Refused, Full, Stopped, Broken, BrokenAtReply, BrokenBetween, IsSession, most_requests}
+use Rattle.sw_session.specs.Turn.{CutsReply, Idles, IsTurn, Replied, StopsBetween, Turns}
+use Rattle.sw_session.specs.declared.session.SessionFault.{SessionFault}
+use Rattle.sw_session.specs.declared.session.SessionFault.TheVariants as faults
+
+-- the loop has come so far: this many requests were answered
+pub record Progress {S : Type 0} (may : Serves S) (start : S) (input rest taken now : Option (List ℕ)) (moments : List ℕ) (after : S) (count : ℕ) : Type 0 where
+  pub done : SoFar may start input rest taken now moments after
+  pub count_is : length done.requests ≡ count
+
+-- ---- replies
+
+Replies-append : {S : Type 0} (may : Serves S) (start mid after : S) (some more : List Request) (moments later text others : List ℕ)
+    → Replies may start some moments text mid → Replies may mid more later others after
+    → Replies may start (some ++ more) (moments ++ later) (text ++ others) after
+Replies-append {S} may start mid after [] more moments later text others first second =
+    subst (λ (s : S). Replies may s more (moments ++ later) (text ++ others) after) first.1.1
+    (subst (λ (t : List ℕ). Replies may mid more (moments ++ later) (t ++ others) after) (sym first.1.0)
+    (subst (λ (m : List ℕ). Replies may mid more (m ++ later) others after) (sym first.0) second))
+Replies-append may start mid after (r ∷ rs) more moments later text others first second = (
+  first.0,
+  first.1,
+  first.2,
+  first.3 ++ later,
+  first.4 ++ others,
+  first.5,
+  ap (λ t. t ++ later) first.6,
+  ap (λ t. t ++ others) first.7 ∙ append_assoc (written_for r first.0) first.4 others,
+  Replies-append may first.1 mid after rs more first.3 later first.4 others first.8 second,
+)
+
+one_reply : {S : Type 0} (may : Serves S) (start after : S) (request : Request) (moment : ℕ) (response : Response)
+    → may start request moment response after → Replies may start (request ∷ []) (moment ∷ []) (written_for request response) after
+one_reply may start after request moment response answer =
+    (response, after, moment, [], [], answer, refl, sym (append-nil (written_for request response)), (refl, (refl, refl)))
+
+-- ---- requests
+
+begins_with_none : (input : Option (List ℕ)) → BeginsWith input [] input
+begins_with_none input = record { parts = []; are_parts = All-nil AreParts; requests_are = refl; texts = Consumes-nil input }
+
+begins_with_more : (input mid rest : Option (List ℕ)) (requests : List Request) (p : Parts)
+    → BeginsWith input requests mid → AreParts p → Consumes mid rest (text_of p) → BeginsWith input (requests ++ request_of p ∷ []) rest
+begins_with_more input mid rest requests p begins are taken = record {
+  parts = begins.parts ++ p ∷ [];
+  are_parts = All-push AreParts begins.parts p begins.are_parts are;
+  requests_are = ap (λ rs. rs ++ request_of p ∷ []) begins.requests_are ∙ sym (map-append request_of begins.parts (p ∷ []));
+  texts =
+      let whole : flat_map text_of (begins.parts ++ p ∷ []) ≡ flat_map text_of begins.parts ++ text_of p =
+      flat_map-append text_of begins.parts (p ∷ []) ∙ ap (λ t. flat_map text_of begins.parts ++ t) (append-nil (text_of p)) in
+      subst (Consumes input rest) (sym whole) (Consumes-trans input mid rest _ _ begins.texts taken);
+}
+
+-- ---- turns of the loop
+
+begun : {S : Type 0} (may : Serves S) (start : S) (input out : Option (List ℕ)) → Progress may start input input out out [] start 0
+begun may start input out = record {
+  done = record { requests = []; begins = begins_with_none input; text = []; replied = (refl, (refl, refl)); written = Appends-nil out };
+  count_is = refl;
+}
+
+-- nothing is held as it begins
+pub begun_with : {S : Type 0} (may : Serves S) (start : S) (left out : Option (List ℕ)) → Progress may start left (prepend_known [] left) out out [] start 0
+begun_with may start None out = begun may start None out
+begun_with may start (Some bytes) out = begun may start (Some bytes) out
+
+-- the requests so far, and one more whose reply was written whole
+abbrev one_more : {S : Type 0} (may : Serves S) (start mid after : S) (input left rest taken then now : Option (List ℕ)) (moments : List ℕ) (moment : ℕ)
+    → SoFar may start input left taken then moments mid → Replied may mid after left rest then now moment
+    → SoFar may start input rest taken now (moments ++ moment ∷ []) after
+one_more may start mid after input left rest taken then now moments moment so_far one = record {
+  requests = so_far.requests ++ request_of one.turn.parts ∷ [];
+  begins = begins_with_more input left rest so_far.requests one.turn.parts so_far.begins one.turn.are_parts one.turn.consumed;
+  text = so_far.text ++ written_for (request_of one.turn.parts) one.response;
+  replied = Replies-append may start mid after so_far.requests _ moments _ so_far.text _ so_far.replied
+      (one_reply may mid after (request_of one.turn.parts) moment one.response one.turn.answer);
+  written = Appends-trans taken then now so_far.text _ so_far.written one.written;
+}
+
+pub turn_made : {S : Type 0} (may : Serves S) (start mid after : S) (input left rest taken then now : Option (List ℕ)) (moments moments_now : List ℕ) (count : ℕ)
+    → Progress may start input left taken then moments mid count → IsTurn may mid after moments moments_now left rest then now (Ok true)
+    → Progress may start input rest taken now moments_now after (count + 1)
+turn_made may start mid after input left rest taken then now moments moments_now count so_far turn =
+    subst (λ (m : List ℕ). Progress may start input rest taken now m after (count + 1)) (sym turn.1) (record {
+      done = one_more may start mid after input left rest taken then now moments turn.0 so_far.done turn.2;
+      count_is = length-append so_far.done.requests (request_of turn.2.turn.parts ∷ []) ∙ ap (λ n. n + 1) so_far.count_is;
+    })
+
+-- a turn that answered nothing leaves the progress as it is
+idle : {S : Type 0} (may : Serves S) (start mid after : S) (input rest taken now : Option (List ℕ)) (moments moments_now : List ℕ) (count : ℕ)
+    → Progress may start input rest taken now moments mid count → Idles mid after moments moments_now
+    → Progress may start input rest taken now moments_now after count
+idle {S} may start mid after input rest taken now moments moments_now count p idles =
+    subst (λ (m : List ℕ). Progress may start input rest taken now m after count) (sym idles.no_moment)
+    (subst (λ (s : S). Progress may start input rest taken now moments s count) (sym idles.same) p)
+
+-- ---- ends
+
+fewer : {S : Type 0} (may : Serves S) (start after : S) (input rest taken now : Option (List ℕ)) (moments : List ℕ) (count : ℕ)
+    → (p : Progress may start input rest taken now moments after count) → count < most_requests → length p.done.requests < most_requests
+fewer may start after input rest taken now moments count p few = subst (λ n. n < most_requests) (sym p.count_is) few
+
+pub ended : {S : Type 0} (may : Serves S) (start mid after : S) (source sink : Passage) (left rest then : Option (List ℕ)) (moments moments_now : List ℕ) (count : ℕ)
+    → Progress may start source.before left sink.before then moments mid count → count < most_requests
+    → IsTurn may mid after moments moments_now left rest then sink.now (Ok false) → IsAtEnd source.now
+    → Complete may start source.before sink.before sink.now moments_now after × IsAtEnd source.now
+ended may start mid after source sink left rest then moments moments_now count so_far few turn at_end =
+    let p = idle may start mid after source.before left sink.before then moments moments_now count so_far turn.0 in (
+      record {
+        rest = left;
+        done = record {
+          requests = p.done.requests;
+          begins = p.done.begins;
+          text = p.done.text;
+          replied = p.done.replied;
+          written = subst (Appends sink.before sink.now) (append-nil p.done.text) (Appends-trans sink.before then sink.now p.done.text [] p.done.written turn.2);
+        };
+        few = fewer may start after source.before left sink.before then moments_now count p few;
+        nothing_else = turn.1;
+      },
+      at_end,
+    )
+
+pub filled : {S : Type 0} (may : Serves S) (start after : S) (input rest taken now : Option (List ℕ)) (moments : List ℕ) (count : ℕ)
+    → Progress may start input rest taken now moments after count → count ≡ most_requests → Full may start input taken now moments after
+filled may start after input rest taken now moments count p full = record { rest = rest; done = p.done; most = p.count_is ∙ full }
+
+pub risen_since : (a b c : ℕ) → a ≤ b → HasRisen b c → HasRisen a c
+risen_since a b c later (inl up) = inl (omega (arith, later, up))
+risen_since a b c later (inr end) = inr end
+
+-- a write failed or memory ran out
+broken : {S : Type 0} (may : Serves S) (start mid after : S) (source sink : Passage) (left rest then : Option (List ℕ)) (moments moments_now : List ℕ) (count : ℕ)
+    → Progress may start source.before left sink.before then moments mid count → count < most_requests
+    → (Idles mid after moments moments_now × StopsBetween left then sink.now) ⊎ CutsReply may mid after moments moments_now left rest then sink.now
+    → Broken may start source.before sink.before sink.now moments_now after
+broken may start mid after source sink left rest then moments moments_now count p few (inl idles) =
+    let still = idle may start mid after source.before left sink.before then moments moments_now count p idles.0 in
+    inl (record {
+      rest = left;
+      mid = then;
+      done = still.done;
+      few = fewer may start after source.before left sink.before then moments_now count still few;
+      between = idles.1;
+    })
+broken may start mid after source sink left rest then moments moments_now count p few (inr cuts) = inr (record {
+  rest = left;
+  mid = then;
+  earlier = moments;
+  then = mid;
+  done = p.done;
+  few = fewer may start mid source.before left sink.before then moments count p few;
+  moment = cuts.0;
+  moments_are = cuts.1;
+  behind = rest;
+  cut = cuts.2;
+})
+
+-- a turn that ended the session by a fault ended it so
+pub ended_by : {S : Type 0} (may : Serves S) (start mid after : S) (source sink : Passage) (left rest then : Option (List ℕ)) (moments moments_now : List ℕ) (count : ℕ) (fault : SessionFault)
+    → Progress may start source.before left sink.before then moments mid count → count < most_requests
+    → IsTurn may mid after moments moments_now left rest then sink.now (Err fault)
+    → (fault ≡ faults.ReadFault → HasRisen source.faults source.faults_now) → (fault ≡ faults.WriteFault → HasRisen sink.faults sink.faults_now)
+    → IsSession may start source sink moments_now after (Err fault)
+ended_by may start mid after source sink left rest then moments moments_now count faults.ReadFault p few turn reads writes =
+    let still = idle may start mid after source.before left sink.before then moments moments_now count p turn.0 in (
+      record {
+        rest = left;
+        mid = then;
+        done = still.done;
+        few = fewer may start after source.before left sink.before then moments_now count still few;
+        told = turn.1;
+      },
+      reads refl,
+    )
+ended_by may start mid after source sink left rest then moments moments_now count faults.WriteFault p few turn reads writes =
+    (broken may start mid after source sink left rest then moments moments_now count p few turn, writes refl)
+ended_by may start mid after source sink left rest then moments moments_now count faults.TooLong p few turn reads writes = absurd turn
+ended_by may start mid after source sink left rest then moments moments_now count faults.BadInput p few turn reads writes =
+    let still = idle may start mid after source.before left sink.before then moments moments_now count p turn.0 in record {
+      rest = left;
+      mid = then;
+      done = still.done;
+      few = fewer may start after source.before left sink.before then moments_now count still few;
+      refuses = turn.1;
+    }
+ended_by may start mid after source sink left rest then moments moments_now count faults.NoMemory p few turn reads writes =
+    broken may start mid after source sink left rest then moments moments_now count p few turn

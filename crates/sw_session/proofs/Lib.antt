@@ -1,0 +1,3 @@
+mod Ends
+pub mod Mapping
+mod Turns

@@ -1,0 +1,134 @@
+-- What one turn of a session's loop leaves.
+use Rattle.std.proofs.Common.{◌≡◌, ℕ, List, [], ◌∷◌, ◌++◌, length, ◌+◌, Option, Result, Ok, Err, true, refl, sym, ap, ◌∙◌, subst, inl, inr}
+use Rattle.std.specs.Io.KnownBytes.{Appends}
+use Rattle.std.proofs.KnownBytes.{Appends-trans}
+use Rattle.std.proofs.Math.Seq.{take-append-add}
+use Rattle.sw_outside.specs.Readings.{Ticks, TicksEach}
+use Rattle.sw_outside.specs.Taken.{AppendsPart}
+use Rattle.sw_http.specs.Continue.{Continues, IsCut, Refuses as RefusedByReader, Takes, continue_of}
+use Rattle.sw_http.specs.Reply.{reply_text}
+use Rattle.sw_http.specs.declared.request.Request.{Request}
+use Rattle.sw_http.specs.declared.response.Response.{Response}
+use Rattle.sw_http.specs.declared.writer.WriteFault.{WriteFault}
+use Rattle.sw_http.specs.declared.writer.WriteFault.TheVariants as writes
+use Rattle.sw_session.specs.Fault.{fault_of}
+use Rattle.sw_session.specs.Replies.{Serves}
+use Rattle.sw_session.specs.Turn.{CutsReply, IsReadingFault, IsReceived, IsRefusal, IsTold, IsTurn, RefusesRestPart, TellsWhole, Turns, refusal}
+use Rattle.sw_session.specs.declared.session.SessionFault.{SessionFault}
+use Rattle.sw_session.specs.declared.session.SessionFault.TheVariants as faults
+
+-- a front of a second text was written after the whole first one
+part_behind : (a b c : Option (List ℕ)) (text tail : List ℕ) → Appends a b text → AppendsPart b c tail → AppendsPart a c (text ++ tail)
+part_behind a b c text tail whole part =
+    (length text + part.0, subst (Appends a c) (sym (take-append-add text tail part.0)) (Appends-trans a b c text _ whole part.1))
+
+-- ---- moments
+
+-- the clock was read once more
+pub one_more_tick : (start before after : Option (List ℕ)) (moments : List ℕ) (now : ℕ) → TicksEach start before moments → Ticks before after now
+    → TicksEach start after (moments ++ now ∷ [])
+one_more_tick start before after [] now each tick = (after, subst (λ (c : Option (List ℕ)). Ticks c after now) each tick, refl)
+one_more_tick start before after (moment ∷ moments) now each tick =
+    (each.0, each.1, one_more_tick each.0 before after moments now each.2 tick)
+
+-- a moment was kept behind those before it
+pub kept_moment : (moments same more : List ℕ) (now : ℕ) → same ≡ moments → more ≡ same ++ now ∷ [] → more ≡ moments ++ now ∷ []
+kept_moment moments same more now same_is more_is = more_is ∙ ap (λ (m : List ℕ). m ++ now ∷ []) same_is
+
+-- ---- turns that answered nothing
+
+-- a read failed
+pub told_whole : (before after taken taken_now : Option (List ℕ)) → IsCut before after taken taken_now → TellsWhole before taken taken_now
+told_whole before after taken taken_now (inl skips) = inl skips.1
+told_whole before after taken taken_now (inr told) = inr told
+
+-- what a rest asked to be told, as a text
+told_text : (input taken taken_now : Option (List ℕ)) → Continues input taken taken_now → (text : List ℕ) × IsTold input text × Appends taken taken_now text
+told_text input taken taken_now (inl told) = (continue_of told.0, inl (told.0, told.1, refl), told.2)
+told_text input taken taken_now (inr nothing) = ([], inr (nothing.0, refl), nothing.1)
+
+-- the rest was refused, or its refusal not written whole
+pub refused : (input rest taken mid now : Option (List ℕ)) (result : Result (Option Request) SessionFault)
+    → RefusedByReader input taken mid → IsRefusal mid now result → IsReceived input rest taken now result
+refused input rest taken mid now result refuses refusal_is = by_result result refusal_is
+  where
+    text : (text : List ℕ) × IsTold input text × Appends taken mid text
+    text = told_text input taken mid refuses.continued
+
+    part : AppendsPart mid now refusal → RefusesRestPart input taken now
+    part written = record {
+      no_request = refuses.no_request;
+      told = text.0;
+      is_told = text.1;
+      written = part_behind taken mid now text.0 refusal text.2 written;
+    }
+
+    by_result : (result : Result (Option Request) SessionFault) → IsRefusal mid now result → IsReceived input rest taken now result
+    by_result (Err faults.BadInput) written = record {
+      no_request = refuses.no_request;
+      told = text.0;
+      is_told = text.1;
+      written = Appends-trans taken mid now text.0 refusal text.2 written;
+    }
+    by_result (Err faults.WriteFault) written = inr (part written)
+    by_result (Err faults.NoMemory) written = inr (part written)
+    by_result (Err faults.ReadFault) written = absurd written
+    by_result (Err faults.TooLong) written = absurd written
+    by_result (Ok request) written = absurd written
+
+-- the reading of a request ended the session
+pub reading_step : {S : Type 0} (may : Serves S) (before : S) (moments moments_now : List ℕ) (input rest taken now : Option (List ℕ)) (fault : SessionFault)
+    → moments_now ≡ moments → IsReadingFault input taken now fault → IsTurn may before before moments moments_now input rest taken now (Err fault)
+reading_step may before moments moments_now input rest taken now faults.BadInput same is = (record { same = refl; no_moment = same }, is)
+reading_step may before moments moments_now input rest taken now faults.ReadFault same is = (record { same = refl; no_moment = same }, is)
+reading_step may before moments moments_now input rest taken now faults.WriteFault same is = inl (record { same = refl; no_moment = same }, is)
+reading_step may before moments moments_now input rest taken now faults.NoMemory same is = inl (record { same = refl; no_moment = same }, is)
+reading_step may before moments moments_now input rest taken now faults.TooLong same is = absurd is
+
+-- ---- turns that answered a request
+
+-- a request that was taken off the input, and then answered
+abbrev turn_taken : {S : Type 0} (may : Serves S) (before after : S) (input rest taken mid : Option (List ℕ)) (request : Request) (moment : ℕ) (response : Response)
+    → (takes : Takes input rest taken mid request) → may before request moment response after → Turns may before after input rest moment response
+turn_taken may before after input rest taken mid request moment response takes answer = record {
+  parts = takes.parts;
+  are_parts = takes.are_parts;
+  consumed = takes.consumed;
+  answer = subst (λ (q : Request). may before q moment response after) takes.request_is answer;
+}
+
+-- the reply was written whole
+pub answered_step : {S : Type 0} (may : Serves S) (before after : S) (moments moments_now : List ℕ) (input rest taken mid now : Option (List ℕ)) (request : Request) (moment : ℕ) (response : Response)
+    → Takes input rest taken mid request → may before request moment response after → moments_now ≡ moments ++ moment ∷ []
+    → Appends mid now (reply_text response) → IsTurn may before after moments moments_now input rest taken now (Ok true)
+answered_step may before after moments moments_now input rest taken mid now request moment response takes answer one_more written = (
+  moment,
+  one_more,
+  record {
+    response = response;
+    turn = turn_taken may before after input rest taken mid request moment response takes answer;
+    written = Appends-trans taken mid now _ _ takes.continued written;
+  },
+)
+
+-- or not
+broken_turn : {S : Type 0} (may : Serves S) (before after : S) (moments moments_now : List ℕ) (input rest taken mid now : Option (List ℕ)) (request : Request) (moment : ℕ) (response : Response)
+    → Takes input rest taken mid request → may before request moment response after → moments_now ≡ moments ++ moment ∷ []
+    → AppendsPart mid now (reply_text response) → CutsReply may before after moments moments_now input rest taken now
+broken_turn may before after moments moments_now input rest taken mid now request moment response takes answer one_more written = (
+  moment,
+  one_more,
+  record {
+    response = response;
+    turn = turn_taken may before after input rest taken mid request moment response takes answer;
+    written = part_behind taken mid now _ _ takes.continued written;
+  },
+)
+
+pub broken_step : {S : Type 0} (may : Serves S) (before after : S) (moments moments_now : List ℕ) (input rest taken mid now : Option (List ℕ)) (request : Request) (moment : ℕ) (response : Response) (fault : WriteFault)
+    → Takes input rest taken mid request → may before request moment response after → moments_now ≡ moments ++ moment ∷ []
+    → AppendsPart mid now (reply_text response) → IsTurn may before after moments moments_now input rest taken now (Err (fault_of fault))
+broken_step may before after moments moments_now input rest taken mid now request moment response writes.Failed takes answer one_more written =
+    inr (broken_turn may before after moments moments_now input rest taken mid now request moment response takes answer one_more written)
+broken_step may before after moments moments_now input rest taken mid now request moment response writes.NoMemory takes answer one_more written =
+    inr (broken_turn may before after moments moments_now input rest taken mid now request moment response takes answer one_more written)

@@ -1,0 +1,45 @@
+use Rattle.std.proofs.Common.{ap, arith, refl, Err, Ok}
+use Rattle.std.specs.Io.KnownBytes.{prepend_known}
+use Rattle.std.proofs.lemmas.Result.{err_from_is_err_and}
+use Rattle.sw_session.specs.Passages.{Passage, passage}
+use Rattle.sw_session.proofs.Ends.{begun_with, ended, ended_by, filled, risen_since, turn_made}
+use Rattle.sw_session.proofs.session.serve.Goals as goal
+
+pub loop-init : goal.loop-init
+loop-init g c = record {
+  progress = rw c.requires.none_read (rw c.new-held.ensures (begun_with g.V.Server.serves _ _ _));
+  ticks = rw c.requires.none_read refl;
+  reads = omega arith;
+  writes = omega arith;
+}
+
+-- a fault ended it
+pub returns-in_err-turn-clause-session : goal.returns-in_err-turn-clause-session
+returns-in_err-turn-clause-session g c =
+    let exit = err_from_is_err_and c.from_residual.result c.from_residual.ensures.1 in
+    let source : Passage = passage g.R.Source.left g.R.Source.faults c.args.source.now c.turn.new.source in
+    let sink : Passage = passage g.W.Sink.taken g.W.Sink.faults c.args.out.now c.turn.new.out in
+    rw (exit.1, exit.2) (
+    ended_by g.V.Server.serves _ _ _ source sink _ (prepend_known c.turn.new.held (g.R.Source.left c.turn.new.source)) _ _ _ _ _ c.loop.invariant.progress c.loop-test.true c.in_err-turn.ensures.turn
+    (λ is. risen_since _ _ _ c.loop.invariant.reads (c.in_err-turn.ensures.read_fault (ap Err is))) (λ is. risen_since _ _ _ c.loop.invariant.writes (c.in_err-turn.ensures.write_fault (ap Err is)))
+    )
+
+-- the input ended
+pub returns-then-not-branch-clause-session : goal.returns-then-not-branch-clause-session
+returns-then-not-branch-clause-session g c =
+    let source : Passage = passage g.R.Source.left g.R.Source.faults c.args.source.now c.turn.new.source in
+    let sink : Passage = passage g.W.Sink.taken g.W.Sink.faults c.args.out.now c.turn.new.out in
+    ended g.V.Server.serves _ _ _ source sink _ (prepend_known c.turn.new.held (g.R.Source.left c.turn.new.source)) _ _ _ _ c.loop.invariant.progress c.loop-test.true (rw c.if-not-branch.true at c.in_ok-turn.ensures.turn) (c.in_ok-turn.ensures.at_end (ap Ok c.if-not-branch.true))
+
+-- one request more
+pub loop-preserved : goal.loop-preserved
+loop-preserved g c = record {
+  progress = turn_made g.V.Server.serves _ _ _ _ _ _ _ _ _ _ _ _ c.loop.invariant.progress (rw c.if-not-branch.false at c.in_ok-turn.ensures.turn);
+  ticks = c.turn.ensures.ticks _ c.loop.invariant.ticks;
+  reads = omega arith;
+  writes = omega arith;
+}
+
+pub returns-clause-session : goal.returns-clause-session
+returns-clause-session g c =
+    filled g.V.Server.serves _ _ _ _ _ _ _ _ c.loop.invariant.progress (omega (arith, c.loop-test.false, c.loop.auto.counter-end))

@@ -1,0 +1,5 @@
+pub mod Fault
+pub mod Passages
+pub mod Replies
+pub mod Session
+pub mod Turn

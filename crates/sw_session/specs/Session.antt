@@ -1,0 +1,95 @@
+-- What a session is: the replies to the requests that make up its input, one after the other. (This project's own.)
+--
+-- How bytes become requests is the grammar's, in `BeginsWith`; who answers them is a relation. `SoFar` is the one statement that every
+-- way to end a session begins with.
+use Rattle.std.specs.Prelude.{◌≡◌, ℕ, ◌<◌, List, [], ◌∷◌, ◌++◌, length, ⊤, Option, IfSome, Result, Ok, Err, ◌⊎◌}
+use Rattle.std.specs.Io.KnownBytes.{Appends, IsAtEnd}
+use Rattle.sw_outside.specs.Faults.{HasRisen}
+use Rattle.sw_http.specs.Reading.{BeginsWith}
+use Rattle.sw_http.specs.Request.{IsSkipped}
+use Rattle.sw_http.specs.declared.request.Request.{Request}
+use Rattle.sw_session.specs.Passages.{Passage}
+use Rattle.sw_session.specs.Replies.{Replies, Serves}
+use Rattle.sw_session.specs.Turn.{RefusesRest, RepliedPart, StopsBetween, TellsWhole}
+use Rattle.sw_session.specs.declared.session.SessionFault.{SessionFault}
+use Rattle.sw_session.specs.declared.session.SessionFault.TheVariants as faults
+
+-- the greatest number of requests of one session
+abbrev pub most_requests : ℕ
+most_requests = 1048576
+
+-- the first requests of the input were answered, each at its moment, and all that is written for them was written; rest is what the
+-- input has behind them
+pub record SoFar {S : Type 0} (may : Serves S) (start : S) (input rest taken now : Option (List ℕ)) (moments : List ℕ) (after : S) : Type 0 where
+  pub requests : List Request
+  pub begins : BeginsWith input requests rest
+  pub text : List ℕ
+  pub replied : Replies may start requests moments text after
+  pub written : Appends taken now text
+
+-- every request of the input was answered, and nothing but line ends to be skipped was left
+pub record Complete {S : Type 0} (may : Serves S) (start : S) (input taken now : Option (List ℕ)) (moments : List ℕ) (after : S) : Type 0 where
+  pub rest : Option (List ℕ)
+  pub done : SoFar may start input rest taken now moments after
+  pub few : length done.requests < most_requests
+  pub nothing_else : IfSome rest IsSkipped
+
+-- every request before a rest that is none was answered, and then the rest was refused
+pub record Refused {S : Type 0} (may : Serves S) (start : S) (input taken now : Option (List ℕ)) (moments : List ℕ) (after : S) : Type 0 where
+  pub rest : Option (List ℕ)
+  pub mid : Option (List ℕ)
+  pub done : SoFar may start input rest taken mid moments after
+  pub few : length done.requests < most_requests
+  pub refuses : RefusesRest rest mid now
+
+-- as many requests were answered as a session has at most
+pub record Full {S : Type 0} (may : Serves S) (start : S) (input taken now : Option (List ℕ)) (moments : List ℕ) (after : S) : Type 0 where
+  pub rest : Option (List ℕ)
+  pub done : SoFar may start input rest taken now moments after
+  pub most : length done.requests ≡ most_requests
+
+-- some first requests were answered, and the next one may have been told to go on
+pub record Stopped {S : Type 0} (may : Serves S) (start : S) (input taken now : Option (List ℕ)) (moments : List ℕ) (after : S) : Type 0 where
+  pub rest : Option (List ℕ)
+  pub mid : Option (List ℕ)
+  pub done : SoFar may start input rest taken mid moments after
+  pub few : length done.requests < most_requests
+  pub told : TellsWhole rest mid now
+
+-- some first requests were answered, and a front was written of what the next one asks to be told, or of the refusal of the rest; or nothing
+pub record BrokenBetween {S : Type 0} (may : Serves S) (start : S) (input taken now : Option (List ℕ)) (moments : List ℕ) (after : S) : Type 0 where
+  pub rest : Option (List ℕ)
+  pub mid : Option (List ℕ)
+  pub done : SoFar may start input rest taken mid moments after
+  pub few : length done.requests < most_requests
+  pub between : StopsBetween rest mid now
+
+-- some first requests were answered, and one request more, of whose reply a front was written
+pub record BrokenAtReply {S : Type 0} (may : Serves S) (start : S) (input taken now : Option (List ℕ)) (moments : List ℕ) (after : S) : Type 0 where
+  pub rest : Option (List ℕ)
+  pub mid : Option (List ℕ)
+  pub earlier : List ℕ
+  pub then : S
+  pub done : SoFar may start input rest taken mid earlier then
+  pub few : length done.requests < most_requests
+  pub moment : ℕ
+  pub moments_are : moments ≡ earlier ++ moment ∷ []
+  pub behind : Option (List ℕ)
+  pub cut : RepliedPart may then after rest behind mid now moment
+
+-- all replies but the last are whole
+abbrev pub Broken : {S : Type 0} → Serves S → S → Option (List ℕ) → Option (List ℕ) → Option (List ℕ) → List ℕ → S → Type 0
+Broken may start input taken now moments after =
+    BrokenBetween may start input taken now moments after ⊎ BrokenAtReply may start input taken now moments after
+
+-- how a session ended, by what its loop answered
+abbrev pub IsSession : {S : Type 0} → Serves S → S → Passage → Passage → List ℕ → S → Result ⊤ SessionFault → Type 0
+IsSession may start source sink moments after (Ok _) =
+    Complete may start source.before sink.before sink.now moments after × IsAtEnd source.now
+IsSession may start source sink moments after (Err faults.ReadFault) =
+    Stopped may start source.before sink.before sink.now moments after × HasRisen source.faults source.faults_now
+IsSession may start source sink moments after (Err faults.WriteFault) =
+    Broken may start source.before sink.before sink.now moments after × HasRisen sink.faults sink.faults_now
+IsSession may start source sink moments after (Err faults.TooLong) = Full may start source.before sink.before sink.now moments after
+IsSession may start source sink moments after (Err faults.BadInput) = Refused may start source.before sink.before sink.now moments after
+IsSession may start source sink moments after (Err faults.NoMemory) = Broken may start source.before sink.before sink.now moments after

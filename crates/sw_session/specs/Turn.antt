@@ -1,0 +1,121 @@
+-- What one turn of a session makes: one request is read, answered, and its reply written. (This project's own.)
+use Rattle.std.specs.Prelude.{◌≡◌, ℕ, Bool, true, false, List, [], ◌∷◌, ◌++◌, Option, Some, None, IfSome, Result, Ok, Err, ◌⊎◌}
+use Rattle.std.specs.Io.KnownBytes.{Appends, Consumes}
+use Rattle.httparse.specs.Grammar.{RequestHead}
+use Rattle.sw_outside.specs.Taken.{AppendsPart}
+use Rattle.sw_http.specs.Continue.{BeginsNone, HasHead, MayContinue, Takes, continue_of}
+use Rattle.sw_http.specs.Reply.{reply_text}
+use Rattle.sw_http.specs.Request.{Parts, AreParts, request_of, text_of, IsSkipped, IsNoRequest}
+use Rattle.sw_http.specs.declared.request.Request.{Request}
+use Rattle.sw_http.specs.declared.response.Response.{Response}
+use Rattle.sw_session.specs.Replies.{Serves, written_for}
+use Rattle.sw_session.specs.declared.session.SessionFault.{SessionFault}
+use Rattle.sw_session.specs.declared.session.SessionFault.TheVariants as faults
+
+-- ---- a request was answered
+
+-- a request was taken off the input, and answered at this moment
+pub record Turns {S : Type 0} (may : Serves S) (before after : S) (input rest : Option (List ℕ)) (moment : ℕ) (response : Response) : Type 0 where
+  pub parts : Parts
+  pub are_parts : AreParts parts
+  pub consumed : Consumes input rest (text_of parts)
+  pub answer : may before (request_of parts) moment response after
+
+-- and all that is written for it was written
+pub record Replied {S : Type 0} (may : Serves S) (before after : S) (input rest taken now : Option (List ℕ)) (moment : ℕ) : Type 0 where
+  pub response : Response
+  pub turn : Turns may before after input rest moment response
+  pub written : Appends taken now (written_for (request_of turn.parts) response)
+
+-- or a front of it
+pub record RepliedPart {S : Type 0} (may : Serves S) (before after : S) (input rest taken now : Option (List ℕ)) (moment : ℕ) : Type 0 where
+  pub response : Response
+  pub turn : Turns may before after input rest moment response
+  pub written : AppendsPart taken now (written_for (request_of turn.parts) response)
+
+-- ---- the rest of the input is no request
+
+-- the reply where the rest of the input is no request: a 400
+unfoldable pub refusal : List ℕ
+refusal = reply_text (record { status = 400; fields = []; body = []; length = 0; head_only = false })
+
+-- what the head in front of the rest of the input asks to be told: nothing where there is none
+abbrev pub IsTold : Option (List ℕ) → List ℕ → Type 0
+IsTold rest told =
+    ((h : RequestHead) × HasHead rest h × (told ≡ continue_of h)) ⊎ (IfSome rest BeginsNone × (told ≡ []))
+
+-- it was refused
+pub record RefusesRest (rest taken now : Option (List ℕ)) : Type 0 where
+  pub no_request : IfSome rest IsNoRequest
+  pub told : List ℕ
+  pub is_told : IsTold rest told
+  pub written : Appends taken now (told ++ refusal)
+
+-- or a front of the refusal was written
+pub record RefusesRestPart (rest taken now : Option (List ℕ)) : Type 0 where
+  pub no_request : IfSome rest IsNoRequest
+  pub told : List ℕ
+  pub is_told : IsTold rest told
+  pub written : AppendsPart taken now (told ++ refusal)
+
+-- ---- the reading of one request
+
+-- a read failed, and what the next head asks to be told was written or nothing
+abbrev pub TellsWhole : Option (List ℕ) → Option (List ℕ) → Option (List ℕ) → Type 0
+TellsWhole input taken now = Appends taken now [] ⊎ ((h : RequestHead) × HasHead input h × Appends taken now (continue_of h))
+
+-- a front was written of what the next head asks to be told, or of the refusal of the rest; or nothing
+abbrev pub StopsBetween : Option (List ℕ) → Option (List ℕ) → Option (List ℕ) → Type 0
+StopsBetween input taken now = MayContinue input taken now ⊎ RefusesRestPart input taken now
+
+-- how the reading of one request ended the session
+abbrev pub IsReadingFault : Option (List ℕ) → Option (List ℕ) → Option (List ℕ) → SessionFault → Type 0
+IsReadingFault input taken now faults.BadInput = RefusesRest input taken now
+IsReadingFault input taken now faults.ReadFault = TellsWhole input taken now
+IsReadingFault input taken now faults.WriteFault = StopsBetween input taken now
+IsReadingFault input taken now faults.NoMemory = StopsBetween input taken now
+IsReadingFault input taken now faults.TooLong = ⊥
+
+-- what a refused rest's reply leaves on the sink, by how the session ends
+abbrev pub IsRefusal : Option (List ℕ) → Option (List ℕ) → Result (Option Request) SessionFault → Type 0
+IsRefusal taken now (Err faults.BadInput) = Appends taken now refusal
+IsRefusal taken now (Err faults.WriteFault) = AppendsPart taken now refusal
+IsRefusal taken now (Err faults.NoMemory) = AppendsPart taken now refusal
+IsRefusal taken now (Err faults.ReadFault) = ⊥
+IsRefusal taken now (Err faults.TooLong) = ⊥
+IsRefusal taken now (Ok request) = ⊥
+
+-- what the reading of one request left, by what it answered
+abbrev pub IsReceived : Option (List ℕ) → Option (List ℕ) → Option (List ℕ) → Option (List ℕ) → Result (Option Request) SessionFault → Type 0
+IsReceived input rest taken now (Ok (Some request)) = Takes input rest taken now request
+IsReceived input rest taken now (Ok None) = IfSome input IsSkipped × Appends taken now []
+IsReceived input rest taken now (Err fault) = IsReadingFault input taken now fault
+
+-- ---- the whole turn
+
+-- no request was answered
+pub record Idles {S : Type 0} (before after : S) (moments moments_now : List ℕ) : Type 0 where
+  pub same : after ≡ before
+  pub no_moment : moments_now ≡ moments
+
+-- one request more was answered, and its reply not written whole
+abbrev pub CutsReply : {S : Type 0} → Serves S → S → S → List ℕ → List ℕ → Option (List ℕ) → Option (List ℕ) → Option (List ℕ) → Option (List ℕ) → Type 0
+CutsReply may before after moments moments_now input rest taken now =
+    (moment : ℕ) × (moments_now ≡ moments ++ moment ∷ []) × RepliedPart may before after input rest taken now moment
+
+-- what one turn did, by what it answered
+abbrev pub IsTurn : {S : Type 0} → Serves S → S → S → List ℕ → List ℕ → Option (List ℕ) → Option (List ℕ) → Option (List ℕ) → Option (List ℕ)
+    → Result Bool SessionFault → Type 0
+IsTurn may before after moments moments_now input rest taken now (Ok true) =
+    (moment : ℕ) × (moments_now ≡ moments ++ moment ∷ []) × Replied may before after input rest taken now moment
+IsTurn may before after moments moments_now input rest taken now (Ok false) =
+    Idles before after moments moments_now × IfSome input IsSkipped × Appends taken now []
+IsTurn may before after moments moments_now input rest taken now (Err faults.BadInput) =
+    Idles before after moments moments_now × RefusesRest input taken now
+IsTurn may before after moments moments_now input rest taken now (Err faults.ReadFault) =
+    Idles before after moments moments_now × TellsWhole input taken now
+IsTurn may before after moments moments_now input rest taken now (Err faults.WriteFault) =
+    (Idles before after moments moments_now × StopsBetween input taken now) ⊎ CutsReply may before after moments moments_now input rest taken now
+IsTurn may before after moments moments_now input rest taken now (Err faults.NoMemory) =
+    (Idles before after moments moments_now × StopsBetween input taken now) ⊎ CutsReply may before after moments moments_now input rest taken now
+IsTurn may before after moments moments_now input rest taken now (Err faults.TooLong) = ⊥

@@ -1,0 +1,15 @@
+//! A session: pipelined requests are read from a source, answered by a [`Server`] one after the other, and their replies written to a sink.
+//!
+//! [`serve`] is the one call. What it promises is a statement over bytes: for each way to end, what was written is exactly what is written
+//! for the requests that make up the input, as the grammar of `sw_http` cuts them, each answered at the clock's next moment by what the
+//! server is after those before it. `specs/Session.antt` has the words. It holds over any server, known by a relation alone, and over
+//! sources, sinks and clocks that tell nothing.
+//!
+//! The next layer up is `sw_cluster`, whose server is the nodes of a ring.
+#![tactic(auto)]
+
+mod server;
+mod session;
+
+pub use server::Server;
+pub use session::{MOST_REQUESTS, SessionFault, serve};

@@ -1,0 +1,152 @@
+ghost use Rattle.std.specs.Prelude.{◌≡◌, ◌≤◌, ℕ, List, Option, None, Ok, Err, false, [], OnOk};
+ghost use Rattle.std.specs.Io.KnownBytes.{IsAtEnd, prepend_known};
+ghost use Rattle.sw_outside.specs.Faults.{HasRisen};
+ghost use Rattle.sw_outside.specs.Readings.{TicksEach};
+ghost use Rattle.sw_session.specs.Passages.{passage};
+ghost use Rattle.sw_session.specs.Session.{IsSession};
+ghost use Rattle.sw_session.specs.Turn.{IsReceived, IsRefusal, IsTurn};
+
+use crate::server::Server;
+use std::alloc::Global;
+use sw_http::{
+    FieldList, Held, HttpFault, Request, Response, WriteFault, next_request, write_response,
+};
+use sw_outside::{Bytes, Clock, Sink, Source};
+
+/// The greatest number of requests of one session.
+pub const MOST_REQUESTS: u64 = 1_048_576;
+
+/// Why a session ended before the end of its input.
+#[derive(Clone, Copy, Debug, PartialEq, Eq)]
+pub enum SessionFault {
+    ReadFault,
+    WriteFault,
+    /// As many requests were answered as a session has at most.
+    TooLong,
+    /// The rest of the input is no request. It was refused with a 400.
+    BadInput,
+    NoMemory,
+}
+
+impl From<WriteFault> for SessionFault {
+    ghost use Rattle.std.specs.Prelude.{◌≡◌};
+    ghost use Rattle.sw_session.specs.Fault.{fault_of};
+
+    ghost from_gives = { λ error fault. fault ≡ fault_of error };
+
+    fn from(error: WriteFault) -> SessionFault {
+        match error {
+            WriteFault::Failed => SessionFault::WriteFault,
+            WriteFault::NoMemory => SessionFault::NoMemory,
+        }
+    }
+}
+
+/// Writes the refusal of a rest that is no request. The error tells how the session ends by it.
+#[tactic(auto, unfolding(crate::specs::Turn::refusal))]
+fn refuse<W: Sink>(alloc: Global, out: &mut W) -> Result<Option<Request>, SessionFault>
+    ensures refused { IsRefusal (W.taken out.old) (W.taken out.new) result }
+    ensures later { W.faults out.old ≤ W.faults out.new }
+    ensures write_fault { result ≡ Err SessionFault.WriteFault → HasRisen (W.faults out.old) (W.faults out.new) }
+{
+    match write_response(alloc, out, &refusal(alloc)) {
+        Ok(()) => Err(SessionFault::BadInput),
+        Err(WriteFault::Failed) => Err(SessionFault::WriteFault),
+        Err(WriteFault::NoMemory) => Err(SessionFault::NoMemory),
+    }
+}
+
+/// Reads one request, and refuses a rest that is none. Answers `None` where the input ended in place of a request.
+fn receive<R: Source, W: Sink>(
+    alloc: Global,
+    held: &mut Held,
+    source: &mut R,
+    out: &mut W,
+) -> Result<Option<Request>, SessionFault>
+    ensures received { IsReceived (prepend_known held.old (R.left source.old)) (prepend_known held.new (R.left source.new)) (W.taken out.old) (W.taken out.new) result }
+    ensures at_end { result ≡ Ok None → IsAtEnd (R.left source.new) }
+    ensures reads_later { R.faults source.old ≤ R.faults source.new }
+    ensures writes_later { W.faults out.old ≤ W.faults out.new }
+    ensures read_fault { result ≡ Err SessionFault.ReadFault → HasRisen (R.faults source.old) (R.faults source.new) }
+    ensures write_fault { result ≡ Err SessionFault.WriteFault → HasRisen (W.faults out.old) (W.faults out.new) }
+{
+    match next_request(alloc, held, source, out) {
+        Ok(request) => Ok(request),
+        Err(HttpFault::Bad) => refuse(alloc, out),
+        Err(HttpFault::ReadFault) => Err(SessionFault::ReadFault),
+        Err(HttpFault::WriteFault) => Err(SessionFault::WriteFault),
+        Err(HttpFault::NoMemory) => Err(SessionFault::NoMemory),
+    }
+}
+
+/// Reads one request, has it answered at the moment that the clock then shows, and writes the reply. Answers false where the input
+/// ended in place of a request.
+///
+/// The room for the moment is made first, so that no request is read whose moment couldn't be kept.
+fn turn<V: Server, R: Source, W: Sink, C: Clock>(
+    alloc: Global,
+    server: &mut V,
+    moments: &mut Vec<u64>,
+    held: &mut Held,
+    source: &mut R,
+    out: &mut W,
+    clock: &mut C,
+) -> Result<bool, SessionFault>
+    ensures turn { IsTurn V.serves server.old server.new moments.old.items moments.new.items (prepend_known held.old (R.left source.old)) (prepend_known held.new (R.left source.new)) (W.taken out.old) (W.taken out.new) result }
+    ensures ticks { (start : Option (List ℕ)) → TicksEach start (C.readings clock.old) moments.old.items → TicksEach start (C.readings clock.new) moments.new.items }
+    ensures at_end { result ≡ Ok false → IsAtEnd (R.left source.new) }
+    ensures reads_later { R.faults source.old ≤ R.faults source.new }
+    ensures writes_later { W.faults out.old ≤ W.faults out.new }
+    ensures read_fault { result ≡ Err SessionFault.ReadFault → HasRisen (R.faults source.old) (R.faults source.new) }
+    ensures write_fault { result ≡ Err SessionFault.WriteFault → HasRisen (W.faults out.old) (W.faults out.new) }
+{
+    if moments.reserve(1).is_err() {
+        return Err(SessionFault::NoMemory);
+    }
+    let Some(request) = receive(alloc, held, source, out)? else {
+        return Ok(false);
+    };
+    let now = clock.now();
+    moments.push_reserved(now);
+    let response = server.answer(alloc, request, now);
+    write_response(alloc, out, &response)?;
+    Ok(true)
+}
+
+/// Answers the requests that come from the source, one after the other, to the end of the input, each at the moment that the clock shows
+/// once it was read. `moments` is empty at the call, and holds these moments at the end.
+pub fn serve<V: Server, R: Source, W: Sink, C: Clock>(
+    alloc: Global,
+    server: &mut V,
+    moments: &mut Vec<u64>,
+    source: &mut R,
+    out: &mut W,
+    clock: &mut C,
+) -> Result<(), SessionFault>
+    requires none_read { moments.old.items ≡ [] }
+    ensures session { IsSession V.serves server.old (passage R.left R.faults source.old source.new) (passage W.taken W.faults out.old out.new) moments.new.items server.new result }
+    ensures ticks { TicksEach (C.readings clock.old) (C.readings clock.new) moments.new.items }
+    ensures reads_later { R.faults source.old ≤ R.faults source.new }
+    ensures writes_later { W.faults out.old ≤ W.faults out.new }
+{
+    let mut held = Held::new(alloc);
+    for _ in 0..MOST_REQUESTS {
+        if !turn(alloc, server, moments, &mut held, source, out, clock)? {
+            return Ok(());
+        }
+    }
+    Err(SessionFault::TooLong)
+}
+
+/// The reply where the rest of the input is no request.
+fn refusal(alloc: Global) -> Response
+    ensures { result ≡ record { status = 400; fields = []; body = []; length = 0; head_only = false } }
+{
+    Response {
+        status: 400,
+        fields: FieldList::from(Vec::new(alloc)),
+        body: Bytes::from(Vec::new(alloc)),
+        length: 0,
+        head_only: false,
+    }
+}
