@@ -1,7 +1,11 @@
 -- What is pushed to make a reply's text.
-use Rattle.std.proofs.Common.{◌≡◌, ℕ, ◌<◌, ◌≤◌, ◌⊎◌, inl, inr, List, ◌++◌, Option, None, Some, refl, ◌∙◌, arith, append_assoc, lit≤}
-use Rattle.std.specs.Prelude.{if◌then◌else◌, ◌==◌}
-use Rattle.std.proofs.lemmas.Bool.{cond-false, ne_eqb}
+use Rattle.std.proofs.Common.{◌≡◌, ℕ, Bool, true, false, [], length, ap, ◌<◌, ◌≤◌, ◌⊎◌, inl, inr, List, ◌++◌, Option, None, Some, refl, ◌∙◌, arith, append_assoc, lit≤}
+use Rattle.std.specs.Prelude.{if◌then◌else◌, ◌==◌, codes, decimal, MatchBool}
+use Rattle.std.proofs.lemmas.Bool.{cond-true, cond-false, ne_eqb}
+use Rattle.httparse.specs.Ascii.{crlf_bytes}
+use Rattle.sw_message.specs.Reply.{CarriesItsLength, has_no_body, body_length, carried, length_line, body_bytes}
+use Rattle.sw_message.specs.declared.response.ReplyBody.{ReplyBody}
+use Rattle.sw_message.specs.declared.response.ReplyBody.TheVariants.{Whole, LeftOut}
 use Rattle.http.specs.StatusCode.{reason_phrase}
 
 -- five texts, one behind the other
@@ -38,3 +42,20 @@ no_reason n out =
     (skip n 503 _ _ out (lit≤ tt) (lit≤ tt) (skip n 504 _ _ out (lit≤ tt) (lit≤ tt) (skip n 505 _ _ out (lit≤ tt) (lit≤ tt)
     (skip n 506 _ _ out (lit≤ tt) (lit≤ tt) (skip n 507 _ _ out (lit≤ tt) (lit≤ tt) (skip n 508 _ _ out (lit≤ tt) (lit≤ tt)
     (skip n 510 _ _ out (lit≤ tt) (lit≤ tt) (skip n 511 _ _ out (lit≤ tt) (lit≤ tt) refl))))))))))))))))))))))))))))))))))))))))))))))))))))))))))))))
+
+-- ---- lengths
+
+pub carries_its_length : CarriesItsLength
+carries_its_length r = go (has_no_body r.status) refl
+  where
+    bytes_of : (body : ReplyBody) → (carried body ≡ []) ⊎ (length (carried body) ≡ body_length body)
+    bytes_of (Whole bytes) = inr refl
+    bytes_of (LeftOut count) = inl refl
+
+    go : (none : Bool) → has_no_body r.status ≡ none → MatchBool none
+        ((length_line r ≡ []) × (body_bytes r ≡ []))
+        ((length_line r ≡ codes "Content-Length: " ++ (decimal (body_length r.body) ++ crlf_bytes)) × ((body_bytes r ≡ []) ⊎ (length (body_bytes r) ≡ body_length r.body)))
+    go true none = (cond-true _ _ _ none, cond-true _ _ _ none)
+    go false none =
+        let bytes : body_bytes r ≡ carried r.body = cond-false _ _ _ none in
+        (cond-false _ _ _ none, elim (bytes_of r.body) [ inl nothing ↦ inl (bytes ∙ nothing) | inr size ↦ inr (ap length bytes ∙ size) ])

@@ -10,6 +10,7 @@
 mod fields;
 mod framing;
 mod head;
+pub mod laws;
 mod limits;
 mod look;
 mod parts;
@@ -26,6 +27,6 @@ pub use limits::{MAX_FIELDS, MAX_HEAD, MAX_LENGTH_DIGITS};
 pub use look::Look;
 pub use parts::{OpenRequest, open_request};
 pub use request::{Body, Request};
-pub use response::Response;
+pub use response::{ReplyBody, Response};
 pub use text::{CRLF, begins_with};
 pub use writer::{WriteFault, write_response};

@@ -1,17 +1,17 @@
 ghost use Rattle.std.specs.Prelude.{◌≡◌, ◌++◌, [], decimal, unwrap_or, IfOk, OnOk};
 ghost use Rattle.std.specs.List.{flat_map};
 ghost use Rattle.http.specs.StatusCode.{reason_phrase};
-ghost use Rattle.sw_message.specs.Reply.{status_line, field_line, length_line, body_bytes, has_no_length, reply_text};
+ghost use Rattle.sw_message.specs.Reply.{status_line, field_line, length_line, body_bytes, body_length, carried, has_no_body, reply_text};
 
 use crate::fields::Field;
-use crate::response::Response;
+use crate::response::{ReplyBody, Response};
 use crate::text::CRLF;
 use http::StatusCode;
 use itoa::Buffer;
 use std::alloc::{AllocError, Global};
 use sw_outside::NoMemory;
 
-/// The statuses whose replies have no length.
+/// The statuses whose replies have neither a length nor a body.
 const CONTINUE: u16 = 100;
 
 const NO_CONTENT: u16 = 204;
@@ -68,35 +68,54 @@ fn push_fields(text: &mut Vec<u8>, fields: &[Field]) -> Result<(), AllocError>
     Ok(())
 }
 
-fn has_no_length(status: u16) -> bool
-    ensures { result ≡ has_no_length status }
+fn has_no_body(status: u16) -> bool
+    ensures { result ≡ has_no_body status }
 {
     status == CONTINUE || status == NO_CONTENT
+}
+
+/// How many bytes a GET would carry.
+fn body_length(body: &ReplyBody) -> u64
+    ensures { result ≡ body_length body.now }
+{
+    match body {
+        ReplyBody::Whole(bytes) => bytes.as_slice().len() as u64,
+        ReplyBody::LeftOut(count) => *count,
+    }
+}
+
+fn carried(body: &ReplyBody) -> &[u8]
+    ensures { result.now ≡ carried body.now }
+{
+    match body {
+        ReplyBody::Whole(bytes) => bytes.as_slice(),
+        ReplyBody::LeftOut(_) => &[],
+    }
 }
 
 fn push_length(text: &mut Vec<u8>, response: &Response) -> Result<(), AllocError>
     ensures { OnOk result (text.new.items ≡ text.old.items ++ length_line response.now) }
 {
-    if has_no_length(response.status) {
+    if has_no_body(response.status) {
         return Ok(());
     }
     text.extend_from_slice(b"Content-Length: ")?;
-    push_number(text, response.length)?;
+    push_number(text, body_length(&response.body))?;
     text.extend_from_slice(CRLF)
 }
 
 fn push_body(text: &mut Vec<u8>, response: &Response) -> Result<(), AllocError>
     ensures { OnOk result (text.new.items ≡ text.old.items ++ body_bytes response.now) }
 {
-    if response.head_only {
+    if has_no_body(response.status) {
         return Ok(());
     }
-    text.extend_from_slice(response.body.as_slice())
+    text.extend_from_slice(carried(&response.body))
 }
 
 /// How many bytes the text of a reply has at most, so that one allocation serves.
 fn text_room(response: &Response) -> usize {
-    let mut room = response.body.as_slice().len().saturating_add(LINES_ROOM);
+    let mut room = carried(&response.body).len().saturating_add(LINES_ROOM);
     for field in response.fields.as_slice() {
         room = room
             .saturating_add(field.name.as_slice().len())

@@ -1,6 +1,15 @@
 use crate::fields::FieldList;
 use sw_outside::Bytes;
 
+/// What a reply carries. Its `Content-Length` is told by it alone, so no reply says a length that isn't that of its body.
+#[derive(Debug, Drop)]
+pub enum ReplyBody {
+    /// These bytes.
+    Whole(Bytes),
+    /// Nothing, as in the reply to a HEAD: a GET would carry so many bytes.
+    LeftOut(u64),
+}
+
 /// A reply, before it is written.
 #[derive(Debug, Drop)]
 pub struct Response {
@@ -8,9 +17,6 @@ pub struct Response {
     pub status: u16,
     /// The fields before `Content-Length`, in order.
     pub fields: FieldList,
-    pub body: Bytes,
-    /// What `Content-Length` says, in bytes. A reply with status 100 or 204 has no such field.
-    pub length: u64,
-    /// Whether the body is left out, as in the reply to a HEAD.
-    pub head_only: bool,
+    /// A reply with status 100 or 204 carries nothing, whatever stands here.
+    pub body: ReplyBody,
 }

@@ -1,5 +1,6 @@
-ghost use Rattle.std.specs.Prelude.{◌≡◌, ℕ, ◌≤◌, Err, OnOk, OnErr};
+ghost use Rattle.std.specs.Prelude.{◌≡◌, ◌≢◌, ℕ, ◌≤◌, Err, OnOk, OnErr};
 ghost use Rattle.std.specs.Io.KnownBytes.{Appends, Keeps};
+ghost use Rattle.sw_outside.specs.Counts.{raised};
 ghost use Rattle.sw_outside.specs.Faults.{HasRisen};
 ghost use Rattle.sw_outside.specs.Taken.{AppendsPart};
 ghost use Rattle.sw_message.specs.Reply.{reply_text};
@@ -30,7 +31,7 @@ impl From<NoMemory> for WriteFault {
 
 /// Writes the text of a reply, in one call of the sink.
 ///
-/// [`WriteFault::Failed`] comes only where that call failed: a front of the text was taken then.
+/// [`WriteFault::Failed`] comes only where that call failed: a front of the text was taken then. Without memory the sink isn't called.
 pub fn write_response<W: Sink>(
     alloc: Global,
     out: &mut W,
@@ -41,6 +42,10 @@ pub fn write_response<W: Sink>(
     ensures untouched { result ≡ Err WriteFault.NoMemory → Keeps (W.taken out.old) (W.taken out.new) }
     ensures later { W.faults out.old ≤ W.faults out.new }
     ensures failed { result ≡ Err WriteFault.Failed → HasRisen (W.faults out.old) (W.faults out.new) }
+    ensures failed_once { result ≡ Err WriteFault.Failed → W.faults out.new ≡ raised (W.faults out.old) }
+    ensures sound { result ≢ Err WriteFault.Failed → W.faults out.new ≡ W.faults out.old }
+    ensures put_once { result ≢ Err WriteFault.NoMemory → W.calls out.new ≡ raised (W.calls out.old) }
+    ensures no_put { result ≡ Err WriteFault.NoMemory → W.calls out.new ≡ W.calls out.old }
 {
     let text = text_of(alloc, response)?;
     match out.put(&text) {
