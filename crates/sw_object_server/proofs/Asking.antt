@@ -2,7 +2,7 @@
 use Rattle.std.proofs.Common.{◌≡◌, ℕ, true, None, Some, refl, subst}
 use Rattle.sw_hashpath.specs.declared.bad_name.BadName.{BadName}
 use Rattle.sw_hashpath.specs.declared.name.Name.{Name}
-use Rattle.sw_http.specs.declared.request.Request.{Request}
+use Rattle.sw_message.specs.declared.request.Request.{Request}
 use Rattle.sw_ring.specs.declared.ring.Ring.{Ring}
 use Rattle.sw_object_server.specs.Asking.{AsksDevice, AsksName, AsksPartition, AsksVerb}
 use Rattle.sw_object_server.specs.Places.{is_partition_of, name_fault, name_in}

@@ -14,11 +14,11 @@ use Rattle.sw_fields.specs.Expiry.{is_expired}
 use Rattle.sw_fields.specs.Fields.{IsTime, is_replicated, type_of}
 use Rattle.sw_fields.specs.Metadata.{IsHeads, data_of}
 use Rattle.sw_hashpath.specs.declared.name.Name.{Name}
-use Rattle.sw_http.specs.Fields.{has_field}
-use Rattle.sw_http.specs.declared.fields.Field.{Field}
-use Rattle.sw_http.specs.declared.request.Body.{Body}
-use Rattle.sw_http.specs.declared.request.Body.TheVariants.{Whole, TooLarge}
-use Rattle.sw_http.specs.declared.request.Request.{Request}
+use Rattle.sw_message.specs.Fields.{has_field}
+use Rattle.sw_message.specs.declared.fields.Field.{Field}
+use Rattle.sw_message.specs.declared.request.Body.{Body}
+use Rattle.sw_message.specs.declared.request.Body.TheVariants.{Whole, TooLarge}
+use Rattle.sw_message.specs.declared.request.Request.{Request}
 use Rattle.sw_peer.specs.declared.got.Got.TheVariants as gots
 use Rattle.sw_ring.specs.Faults.{has_repeat}
 use Rattle.sw_ring.specs.declared.ring.Ring.{Ring}

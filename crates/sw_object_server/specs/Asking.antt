@@ -20,11 +20,11 @@
 -- `IsAsked` stands last, and each test behind those that come after it.
 use Rattle.std.specs.Prelude.{◌≡◌, ℕ, true, false, not, ◌||◌, List, codes, None, if◌then◌else◌}
 use Rattle.sw_hashpath.specs.declared.name.Name.{Name}
-use Rattle.sw_http.specs.Fields.{has_field}
-use Rattle.sw_http.specs.declared.fields.Field.{Field}
-use Rattle.sw_http.specs.declared.request.Body.{Body}
-use Rattle.sw_http.specs.declared.request.Body.TheVariants.{Whole, TooLarge}
-use Rattle.sw_http.specs.declared.request.Request.{Request}
+use Rattle.sw_message.specs.Fields.{has_field}
+use Rattle.sw_message.specs.declared.fields.Field.{Field}
+use Rattle.sw_message.specs.declared.request.Body.{Body}
+use Rattle.sw_message.specs.declared.request.Body.TheVariants.{Whole, TooLarge}
+use Rattle.sw_message.specs.declared.request.Request.{Request}
 use Rattle.sw_peer.specs.declared.change.Change.{Change}
 use Rattle.sw_peer.specs.declared.change.Change.TheVariants as changes
 use Rattle.sw_ring.specs.declared.ring.Ring.{Ring}

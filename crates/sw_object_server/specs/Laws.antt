@@ -1,7 +1,7 @@
 -- What is promised of the definitions of this server. (This project's own.)
 use Rattle.std.specs.Prelude.{◌≡◌, ℕ, Bool, List}
-use Rattle.sw_http.specs.declared.request.Request.{Request}
-use Rattle.sw_http.specs.declared.response.Response.{Response}
+use Rattle.sw_message.specs.declared.request.Request.{Request}
+use Rattle.sw_message.specs.declared.response.Response.{Response}
 use Rattle.sw_peer.specs.declared.got.Got.{Got}
 use Rattle.sw_ring.specs.declared.ring.Ring.{Ring}
 use Rattle.sw_object_server.specs.Asking.{IsAsked}

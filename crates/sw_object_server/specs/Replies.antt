@@ -3,8 +3,9 @@ use Rattle.std.specs.Prelude.{ℕ, Bool, true, false, List, [], ◌∷◌, codes
 use Rattle.hex.specs.Hex.{encode_lower}
 use Rattle.sw_hashpath.specs.BadFiles.{bad_file_number}
 use Rattle.sw_hashpath.specs.declared.decode_error.BadFile.{BadFile}
-use Rattle.sw_http.specs.declared.fields.Field.{Field}
-use Rattle.sw_http.specs.declared.response.Response.{Response}
+use Rattle.sw_message.specs.declared.fields.Field.{Field}
+use Rattle.sw_message.specs.declared.response.ReplyBody.TheVariants.{Whole}
+use Rattle.sw_message.specs.declared.response.Response.{Response}
 use Rattle.sw_peer.specs.declared.answer.Answer.{Answer}
 use Rattle.sw_peer.specs.declared.answer.Answer.TheVariants as answers
 use Rattle.sw_state.specs.declared.write.Kind.{Kind}
@@ -13,7 +14,7 @@ use Rattle.sw_timestamp.specs.TimeText.{normal_text}
 
 -- a reply that is a number alone
 abbrev pub bare : ℕ → Response
-bare number = record { status = number; fields = []; body = []; length = 0; head_only = false }
+bare number = record { status = number; fields = []; body = Whole [] }
 
 -- a field, its name written as codes
 abbrev pub field : List ℕ → List ℕ → Field

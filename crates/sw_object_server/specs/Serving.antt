@@ -4,8 +4,8 @@
 -- The states of the door are of any type D: they are looked at through its sight alone.
 use Rattle.std.specs.Prelude.{◌≡◌, ℕ, Bool, true, ◌⊎◌, Ok}
 use Rattle.sw_hashpath.specs.declared.name.Name.{Name}
-use Rattle.sw_http.specs.declared.request.Request.{Request}
-use Rattle.sw_http.specs.declared.response.Response.{Response}
+use Rattle.sw_message.specs.declared.request.Request.{Request}
+use Rattle.sw_message.specs.declared.response.Response.{Response}
 use Rattle.sw_peer.specs.Sights.{Calls, IsMade, IsRead, Sight}
 use Rattle.sw_peer.specs.Steps.{write_of}
 use Rattle.sw_peer.specs.declared.answer.Answer.{Answer}

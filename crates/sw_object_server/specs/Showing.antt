@@ -1,11 +1,13 @@
 -- The replies of the object server to GET and HEAD. (OpenStack Swift's object server, in the profile of this product.)
-use Rattle.std.specs.Prelude.{◌≡◌, ℕ, ◌*◌, Bool, true, false, not, List, [], ◌∷◌, ◌++◌, length, map, take, codes, Option, None, Some, is_some, MatchBool, if◌then◌else◌}
+use Rattle.std.specs.Prelude.{◌≡◌, ℕ, ◌*◌, Bool, true, false, not, List, [], ◌∷◌, ◌++◌, length, map, take, codes, Option, None, Some, is_some, MatchBool}
 use Rattle.std.specs.Int.{div_ceil}
 use Rattle.hex.specs.Hex.{encode_lower}
 use Rattle.httpdate.specs.Date.{unix_secs, date_text}
 use Rattle.httpdate.specs.declared.date.HttpDate.{HttpDate}
-use Rattle.sw_http.specs.declared.fields.Field.{Field}
-use Rattle.sw_http.specs.declared.response.Response.{Response}
+use Rattle.sw_message.specs.declared.fields.Field.{Field}
+use Rattle.sw_message.specs.declared.response.ReplyBody.{ReplyBody}
+use Rattle.sw_message.specs.declared.response.ReplyBody.TheVariants.{LeftOut, Whole}
+use Rattle.sw_message.specs.declared.response.Response.{Response}
 use Rattle.sw_peer.specs.declared.got.Got.{Got}
 use Rattle.sw_peer.specs.declared.got.Got.TheVariants as gots
 use Rattle.sw_state.specs.declared.content.Content.{Content}
@@ -54,14 +56,17 @@ fixed_fields time date content =
 abbrev pub found_fields : ℕ → List ℕ → Content → Heads → List Field
 found_fields time date content heads = fixed_fields time date content ++ (expiry_fields heads.delete_at ++ map field_of heads.items)
 
--- the reply that shows it; the one to a HEAD has its length and not its bytes
+-- what the reply carries: the one to a HEAD has the length of the body and not its bytes
+abbrev pub body_found : Bool → List ℕ → ReplyBody
+body_found true body = LeftOut (length body)
+body_found false body = Whole body
+
+-- the reply that shows it
 abbrev pub found : ℕ → List ℕ → Content → Heads → Bool → Response
 found time date content heads head_only = record {
   status = 200;
   fields = found_fields time date content heads;
-  body = if head_only then [] else content.body;
-  length = length content.body;
-  head_only = head_only;
+  body = body_found head_only content.body;
 }
 
 -- the reply shows the object and the date of its time

@@ -4,7 +4,7 @@ use Rattle.std.specs.Prelude.{ℕ, Bool, List, drop, codes, count_by, nat_eq, na
 use Rattle.std.specs.List.{starts_with, before_first, after_first}
 use Rattle.std.specs.Str.{bytes_eq}
 use Rattle.percent_encoding.specs.Percent.{percent_decode}
-use Rattle.sw_http.specs.declared.request.Request.{Request}
+use Rattle.sw_message.specs.declared.request.Request.{Request}
 use Rattle.sw_fields.specs.Fields.{has_value}
 use Rattle.sw_object_server.specs.declared.target.Parts.{Parts}
 use Rattle.sw_object_server.specs.declared.verb.Verb.{Verb}

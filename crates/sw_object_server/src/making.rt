@@ -5,7 +5,7 @@ use crate::replies::{made_reply, reply_to};
 use crate::showing::shown;
 use std::alloc::Global;
 use sw_hashpath::Name;
-use sw_http::Response;
+use sw_message::Response;
 use sw_outside::NoMemory;
 use sw_peer::{Change, Link, Lost, ObjectDoor};
 

@@ -5,7 +5,7 @@ use crate::verdict::Verdict;
 use std::alloc::Global;
 use sw_fields::{heads_of, is_replicated};
 use sw_hashpath::Name;
-use sw_http::{FieldList, Request};
+use sw_message::{FieldList, Request};
 use sw_outside::NoMemory;
 use sw_peer::Change;
 use sw_state::{Heads, Kind, Write};

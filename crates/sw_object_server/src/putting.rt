@@ -8,7 +8,7 @@ use md5::{Digest, Md5};
 use std::alloc::Global;
 use sw_fields::{agrees_with, asks_for_none, heads_of, is_replicated, type_of};
 use sw_hashpath::Name;
-use sw_http::{Body, FieldList, Request};
+use sw_message::{Body, FieldList, Request};
 use sw_outside::{Bytes, NoMemory};
 use sw_peer::Change;
 use sw_state::{Content, Heads, Kind, Write};

@@ -14,7 +14,7 @@ use itoa::Buffer;
 use std::alloc::Global;
 use sw_fields::time_of;
 use sw_hashpath::{Name, NameError, partition};
-use sw_http::Request;
+use sw_message::Request;
 use sw_outside::NoMemory;
 use sw_ring::Ring;
 

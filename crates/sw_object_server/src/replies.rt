@@ -7,7 +7,7 @@ ghost use Rattle.sw_object_server.specs.Replies.{at_time as at_time_reply, bare 
 use itoa::Buffer;
 use std::alloc::Global;
 use sw_hashpath::{BadFile, hex_text};
-use sw_http::{Field, FieldList, Response};
+use sw_message::{Field, FieldList, ReplyBody, Response};
 use sw_outside::{Bytes, NoMemory};
 use sw_peer::{Answer, Change};
 use sw_state::Kind;
@@ -20,9 +20,7 @@ pub fn bare(alloc: Global, status: u16) -> Response
     Response {
         status,
         fields: FieldList::from(Vec::new(alloc)),
-        body: Bytes::from(Vec::new(alloc)),
-        length: 0,
-        head_only: false,
+        body: ReplyBody::Whole(Bytes::from(Vec::new(alloc))),
     }
 }
 
@@ -120,9 +118,7 @@ fn with_field(alloc: Global, status: u16, name: &[u8], value: &[u8]) -> Result<R
     Ok(Response {
         status,
         fields: FieldList::from(vec![in alloc; field]?),
-        body: Bytes::from(Vec::new(alloc)),
-        length: 0,
-        head_only: false,
+        body: ReplyBody::Whole(Bytes::from(Vec::new(alloc))),
     })
 }
 

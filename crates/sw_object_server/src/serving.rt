@@ -8,7 +8,7 @@ use crate::making::{make, show};
 use crate::reading::read_request;
 use crate::replies::bare;
 use std::alloc::Global;
-use sw_http::{Request, Response};
+use sw_message::{Request, Response};
 use sw_outside::NoMemory;
 use sw_peer::ObjectDoor;
 use sw_ring::Ring;

@@ -1,12 +1,12 @@
-ghost use Rattle.std.specs.Prelude.{◌≡◌, ◌++◌, ◌≤◌, map, true, IfOk, OnOk, OnErr, if◌then◌else◌, []};
-ghost use Rattle.sw_object_server.specs.Showing.{IsDate, IsFound, IsShown, expiry_fields, field_of as field_of_item, fixed_fields as fixed_fields_of, found as found_reply, found_fields, second_text as second_text_of, shows_fields};
+ghost use Rattle.std.specs.Prelude.{◌≡◌, ◌++◌, ◌≤◌, map, true, IfOk, OnOk, OnErr};
+ghost use Rattle.sw_object_server.specs.Showing.{IsDate, IsFound, IsShown, body_found, expiry_fields, field_of as field_of_item, fixed_fields as fixed_fields_of, found as found_reply, found_fields, second_text as second_text_of, shows_fields};
 
 use crate::replies::{bare, damaged, field, not_found, time_text};
 use httpdate::HttpDate;
 use std::alloc::Global;
 use sw_fields::is_expired;
 use sw_hashpath::hex_text;
-use sw_http::{Field, FieldList, Response};
+use sw_message::{Field, FieldList, ReplyBody, Response};
 use sw_outside::{Bytes, NoMemory};
 use sw_peer::Got;
 use sw_state::{Content, Head, Heads};
@@ -65,24 +65,21 @@ fn found_on(
     ensures { IfOk result (λ response. response ≡ found_reply time date.now content heads head_only) }
 {
     let fields = fields_found(alloc, time, date, &content, &heads)?;
-    let length = content.body.as_slice().len() as u64;
     Ok(Response {
         status: 200,
         fields: FieldList::from(fields),
-        body: body_shown(alloc, content.body, head_only),
-        length,
-        head_only,
+        body: body_shown(content.body, head_only),
     })
 }
 
-/// The body of a reply: none in the reply to a HEAD.
-fn body_shown(alloc: Global, body: Bytes, head_only: bool) -> Bytes
-    ensures { result ≡ (if head_only then [] else body) }
+/// What a reply carries of a body: in the reply to a HEAD its length alone.
+fn body_shown(body: Bytes, head_only: bool) -> ReplyBody
+    ensures { result ≡ body_found head_only body }
 {
     if head_only {
-        Bytes::from(Vec::new(alloc))
+        ReplyBody::LeftOut(body.as_slice().len() as u64)
     } else {
-        body
+        ReplyBody::Whole(body)
     }
 }
 

@@ -6,7 +6,7 @@ ghost use Rattle.sw_object_server.specs.Targets.{behind_segment, first_segment, 
 use percent_encoding::percent_decode;
 use std::alloc::Global;
 use sw_fields::has_value;
-use sw_http::Request;
+use sw_message::Request;
 use sw_outside::{Bytes, NoMemory};
 
 /// The path of an object has at least so many slashes: one before each of its segments.

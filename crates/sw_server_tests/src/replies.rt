@@ -5,7 +5,7 @@ use std::alloc::Global;
 use std::process::Abort;
 use std::test::Fail;
 use sw_hashpath::BadFile;
-use sw_http::{Response, write_response};
+use sw_message::{Response, write_response};
 use sw_object_server::{made_reply, reply_to, shown};
 use sw_outside::{Bytes, MemSink};
 use sw_peer::{Answer, Change, Got};

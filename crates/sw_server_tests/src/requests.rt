@@ -5,7 +5,7 @@ ghost use Rattle.std.specs.Prelude.{◌≤◌, length};
 use http::Method;
 use std::alloc::Global;
 use std::test::Fail;
-use sw_http::{Body, Field, FieldList, Request};
+use sw_message::{Body, Field, FieldList, Request};
 use sw_outside::Bytes;
 use sw_ring::{Ring, read};
 

@@ -1,20 +1,20 @@
 -- How the turns of a session's loop make up a session.
-use Rattle.std.proofs.Common.{◌≡◌, ℕ, ◌+◌, ◌<◌, ◌≤◌, arith, List, [], ◌∷◌, ◌++◌, length, Option, Some, None, refl, sym, ap, ◌∙◌, subst, append_assoc, append-nil, length-append, inl, inr, Ok, Err, true, false, ◌⊎◌}
+use Rattle.std.proofs.Common.{◌≡◌, ℕ, ◌+◌, ◌<◌, Bool, List, [], ◌∷◌, ◌++◌, length, Option, Some, None, refl, sym, ap, ◌∙◌, subst, append_assoc, append-nil, length-append, inl, inr, Ok, Err, true, false, ◌⊎◌}
 use Rattle.std.specs.List.{flat_map}
 use Rattle.std.specs.Io.KnownBytes.{Appends, Consumes, IsAtEnd, prepend_known}
 use Rattle.std.proofs.KnownBytes.{Appends-trans, Appends-nil, Consumes-nil, Consumes-trans}
 use Rattle.std.proofs.lemmas.Grind.{flat_map-append}
 use Rattle.std.proofs.lemmas.List.{map-append}
 use Rattle.std.proofs.lemmas.List.Elements.{All-nil, All-push}
-use Rattle.sw_outside.specs.Faults.{HasRisen}
+use Rattle.sw_outside.specs.Counts.{raised}
 use Rattle.sw_http.specs.Request.{Parts, AreParts, request_of, text_of}
 use Rattle.sw_http.specs.Reading.{BeginsWith}
-use Rattle.sw_http.specs.declared.request.Request.{Request}
-use Rattle.sw_http.specs.declared.response.Response.{Response}
+use Rattle.sw_message.specs.declared.request.Request.{Request}
+use Rattle.sw_message.specs.declared.response.Response.{Response}
 use Rattle.sw_session.specs.Passages.{Passage}
 use Rattle.sw_session.specs.Replies.{Serves, Replies, written_for}
 use Rattle.sw_session.specs.Session.{SoFar, Complete, Refused, Full, Stopped, Broken, BrokenAtReply, BrokenBetween, IsSession, most_requests}
-use Rattle.sw_session.specs.Turn.{CutsReply, Idles, IsTurn, Replied, StopsBetween, Turns}
+use Rattle.sw_session.specs.Turn.{CutsReply, Idles, IsCounted, IsTurn, Replied, StopsBetween, Turns}
 use Rattle.sw_session.specs.declared.session.SessionFault.{SessionFault}
 use Rattle.sw_session.specs.declared.session.SessionFault.TheVariants as faults
 
@@ -51,7 +51,7 @@ one_reply may start after request moment response answer =
 
 -- ---- requests
 
-begins_with_none : (input : Option (List ℕ)) → BeginsWith input [] input
+abbrev begins_with_none : (input : Option (List ℕ)) → BeginsWith input [] input
 begins_with_none input = record { parts = []; are_parts = All-nil AreParts; requests_are = refl; texts = Consumes-nil input }
 
 begins_with_more : (input mid rest : Option (List ℕ)) (requests : List Request) (p : Parts)
@@ -68,7 +68,7 @@ begins_with_more input mid rest requests p begins are taken = record {
 
 -- ---- turns of the loop
 
-begun : {S : Type 0} (may : Serves S) (start : S) (input out : Option (List ℕ)) → Progress may start input input out out [] start 0
+abbrev pub begun : {S : Type 0} (may : Serves S) (start : S) (input out : Option (List ℕ)) → Progress may start input input out out [] start 0
 begun may start input out = record {
   done = record { requests = []; begins = begins_with_none input; text = []; replied = (refl, (refl, refl)); written = Appends-nil out };
   count_is = refl;
@@ -115,11 +115,12 @@ fewer : {S : Type 0} (may : Serves S) (start after : S) (input rest taken now : 
     → (p : Progress may start input rest taken now moments after count) → count < most_requests → length p.done.requests < most_requests
 fewer may start after input rest taken now moments count p few = subst (λ n. n < most_requests) (sym p.count_is) few
 
-pub ended : {S : Type 0} (may : Serves S) (start mid after : S) (source sink : Passage) (left rest then : Option (List ℕ)) (moments moments_now : List ℕ) (count : ℕ)
+pub ended : {S : Type 0} (may : Serves S) (start mid after : S) (source sink : Passage) (left rest then : Option (List ℕ)) (moments moments_now : List ℕ) (count reads writes : ℕ)
     → Progress may start source.before left sink.before then moments mid count → count < most_requests
     → IsTurn may mid after moments moments_now left rest then sink.now (Ok false) → IsAtEnd source.now
-    → Complete may start source.before sink.before sink.now moments_now after × IsAtEnd source.now
-ended may start mid after source sink left rest then moments moments_now count so_far few turn at_end =
+    → reads ≡ source.faults → writes ≡ sink.faults → (source.faults_now ≡ reads) × (sink.faults_now ≡ writes)
+    → IsSession may start source sink moments_now after (Ok tt)
+ended may start mid after source sink left rest then moments moments_now count reads writes so_far few turn at_end r w counted =
     let p = idle may start mid after source.before left sink.before then moments moments_now count so_far turn.0 in (
       record {
         rest = left;
@@ -134,15 +135,13 @@ ended may start mid after source sink left rest then moments moments_now count s
         nothing_else = turn.1;
       },
       at_end,
+      counted.0 ∙ r,
+      counted.1 ∙ w,
     )
 
 pub filled : {S : Type 0} (may : Serves S) (start after : S) (input rest taken now : Option (List ℕ)) (moments : List ℕ) (count : ℕ)
     → Progress may start input rest taken now moments after count → count ≡ most_requests → Full may start input taken now moments after
 filled may start after input rest taken now moments count p full = record { rest = rest; done = p.done; most = p.count_is ∙ full }
-
-pub risen_since : (a b c : ℕ) → a ≤ b → HasRisen b c → HasRisen a c
-risen_since a b c later (inl up) = inl (omega (arith, later, up))
-risen_since a b c later (inr end) = inr end
 
 -- a write failed or memory ran out
 broken : {S : Type 0} (may : Serves S) (start mid after : S) (source sink : Passage) (left rest then : Option (List ℕ)) (moments moments_now : List ℕ) (count : ℕ)
@@ -172,12 +171,12 @@ broken may start mid after source sink left rest then moments moments_now count 
 })
 
 -- a turn that ended the session by a fault ended it so
-pub ended_by : {S : Type 0} (may : Serves S) (start mid after : S) (source sink : Passage) (left rest then : Option (List ℕ)) (moments moments_now : List ℕ) (count : ℕ) (fault : SessionFault)
+pub ended_by : {S : Type 0} (may : Serves S) (start mid after : S) (source sink : Passage) (left rest then : Option (List ℕ)) (moments moments_now : List ℕ) (count reads writes : ℕ) (fault : SessionFault)
     → Progress may start source.before left sink.before then moments mid count → count < most_requests
     → IsTurn may mid after moments moments_now left rest then sink.now (Err fault)
-    → (fault ≡ faults.ReadFault → HasRisen source.faults source.faults_now) → (fault ≡ faults.WriteFault → HasRisen sink.faults sink.faults_now)
+    → reads ≡ source.faults → writes ≡ sink.faults → IsCounted {A = Bool} reads source.faults_now writes sink.faults_now (Err fault)
     → IsSession may start source sink moments_now after (Err fault)
-ended_by may start mid after source sink left rest then moments moments_now count faults.ReadFault p few turn reads writes =
+ended_by may start mid after source sink left rest then moments moments_now count reads writes faults.ReadFault p few turn r w counted =
     let still = idle may start mid after source.before left sink.before then moments moments_now count p turn.0 in (
       record {
         rest = left;
@@ -186,18 +185,23 @@ ended_by may start mid after source sink left rest then moments moments_now coun
         few = fewer may start after source.before left sink.before then moments_now count still few;
         told = turn.1;
       },
-      reads refl,
+      counted.0 ∙ ap raised r,
+      counted.1 ∙ w,
     )
-ended_by may start mid after source sink left rest then moments moments_now count faults.WriteFault p few turn reads writes =
-    (broken may start mid after source sink left rest then moments moments_now count p few turn, writes refl)
-ended_by may start mid after source sink left rest then moments moments_now count faults.TooLong p few turn reads writes = absurd turn
-ended_by may start mid after source sink left rest then moments moments_now count faults.BadInput p few turn reads writes =
-    let still = idle may start mid after source.before left sink.before then moments moments_now count p turn.0 in record {
-      rest = left;
-      mid = then;
-      done = still.done;
-      few = fewer may start after source.before left sink.before then moments_now count still few;
-      refuses = turn.1;
-    }
-ended_by may start mid after source sink left rest then moments moments_now count faults.NoMemory p few turn reads writes =
-    broken may start mid after source sink left rest then moments moments_now count p few turn
+ended_by may start mid after source sink left rest then moments moments_now count reads writes faults.WriteFault p few turn r w counted =
+    (broken may start mid after source sink left rest then moments moments_now count p few turn, counted.0 ∙ r, counted.1 ∙ ap raised w)
+ended_by may start mid after source sink left rest then moments moments_now count reads writes faults.TooLong p few turn r w counted = absurd turn
+ended_by may start mid after source sink left rest then moments moments_now count reads writes faults.BadInput p few turn r w counted =
+    let still = idle may start mid after source.before left sink.before then moments moments_now count p turn.0 in (
+      record {
+        rest = left;
+        mid = then;
+        done = still.done;
+        few = fewer may start after source.before left sink.before then moments_now count still few;
+        refuses = turn.1;
+      },
+      counted.0 ∙ r,
+      counted.1 ∙ w,
+    )
+ended_by may start mid after source sink left rest then moments moments_now count reads writes faults.NoMemory p few turn r w counted =
+    (broken may start mid after source sink left rest then moments moments_now count p few turn, counted.0 ∙ r, counted.1 ∙ w)

@@ -1,14 +1,26 @@
 -- What each answer keeps of the server, a session keeps; and a session by one relation is one by another that says less, of a part of
 -- the server.
-use Rattle.std.proofs.Common.{◌≡◌, ℕ, List, [], ◌∷◌, Option, Result, Ok, Err, sym, ap, subst, inl, inr}
+use Rattle.std.proofs.Common.{◌≡◌, ℕ, List, [], ◌∷◌, Option, Result, Ok, Err, sym, ap, subst, inl, inr, lit<}
 use Rattle.std.specs.Bool.{⊤}
-use Rattle.sw_http.specs.declared.request.Request.{Request}
-use Rattle.sw_http.specs.declared.response.Response.{Response}
+use Rattle.std.proofs.KnownBytes.{Appends-nil}
+use Rattle.sw_message.specs.declared.request.Request.{Request}
+use Rattle.sw_message.specs.declared.response.Response.{Response}
+use Rattle.sw_session.proofs.Ends.{begun}
 use Rattle.sw_session.specs.Passages.{Passage}
 use Rattle.sw_session.specs.Replies.{Replies, Serves}
 use Rattle.sw_session.specs.Session.{Broken, IsSession, SoFar}
 use Rattle.sw_session.specs.declared.session.SessionFault.{SessionFault}
 use Rattle.sw_session.specs.declared.session.SessionFault.TheVariants as faults
+
+-- before anything was read, nothing was answered
+pub unbegun : {S : Type 0} (may : Serves S) (start : S) (input taken : Option (List ℕ)) → Broken may start input taken taken [] start
+unbegun may start input taken = inl (record {
+  rest = input;
+  mid = taken;
+  done = (begun may start input taken).done;
+  few = lit< tt;
+  between = inl (inl (Appends-nil taken));
+})
 
 module _ {S : Type 0} (may : Serves S) (P : S → Type 0)
     (keeps : (before : S) (request : Request) (moment : ℕ) (response : Response) (after : S) → P before → may before request moment response after → P after) where
@@ -32,9 +44,9 @@ module _ {S : Type 0} (may : Serves S) (P : S → Type 0)
   session-keeps start source sink moments after (Ok done) p s = so_far-keeps start source.before s.0.rest sink.before sink.now moments after p s.0.done
   session-keeps start source sink moments after (Err faults.ReadFault) p s = so_far-keeps start source.before s.0.rest sink.before s.0.mid moments after p s.0.done
   session-keeps start source sink moments after (Err faults.WriteFault) p s = broken-keeps start source.before sink.before sink.now moments after p s.0
-  session-keeps start source sink moments after (Err faults.TooLong) p s = so_far-keeps start source.before s.rest sink.before sink.now moments after p s.done
-  session-keeps start source sink moments after (Err faults.BadInput) p s = so_far-keeps start source.before s.rest sink.before s.mid moments after p s.done
-  session-keeps start source sink moments after (Err faults.NoMemory) p s = broken-keeps start source.before sink.before sink.now moments after p s
+  session-keeps start source sink moments after (Err faults.TooLong) p s = so_far-keeps start source.before s.0.rest sink.before sink.now moments after p s.0.done
+  session-keeps start source sink moments after (Err faults.BadInput) p s = so_far-keeps start source.before s.0.rest sink.before s.0.mid moments after p s.0.done
+  session-keeps start source sink moments after (Err faults.NoMemory) p s = broken-keeps start source.before sink.before sink.now moments after p s.0
 
   module _ {T : Type 0} (says : Serves T) (part : S → T)
       (less : (before : S) (request : Request) (moment : ℕ) (response : Response) (after : S) → P before → may before request moment response after → says (part before) request moment response (part after)) where
@@ -104,6 +116,8 @@ module _ {S : Type 0} (may : Serves S) (P : S → Type 0)
         nothing_else = s.0.nothing_else;
       },
       s.1,
+      s.2,
+      s.3,
     )
     session-mapped start source sink moments after (Err faults.ReadFault) p s = (
       record {
@@ -114,18 +128,27 @@ module _ {S : Type 0} (may : Serves S) (P : S → Type 0)
         told = s.0.told;
       },
       s.1,
+      s.2,
     )
-    session-mapped start source sink moments after (Err faults.WriteFault) p s = (broken-mapped start source.before sink.before sink.now moments after p s.0, s.1)
-    session-mapped start source sink moments after (Err faults.TooLong) p s = record {
-      rest = s.rest;
-      done = so_far-mapped start source.before s.rest sink.before sink.now moments after p s.done;
-      most = s.most;
-    }
-    session-mapped start source sink moments after (Err faults.BadInput) p s = record {
-      rest = s.rest;
-      mid = s.mid;
-      done = so_far-mapped start source.before s.rest sink.before s.mid moments after p s.done;
-      few = s.few;
-      refuses = s.refuses;
-    }
-    session-mapped start source sink moments after (Err faults.NoMemory) p s = broken-mapped start source.before sink.before sink.now moments after p s
+    session-mapped start source sink moments after (Err faults.WriteFault) p s = (broken-mapped start source.before sink.before sink.now moments after p s.0, s.1, s.2)
+    session-mapped start source sink moments after (Err faults.TooLong) p s = (
+      record {
+        rest = s.0.rest;
+        done = so_far-mapped start source.before s.0.rest sink.before sink.now moments after p s.0.done;
+        most = s.0.most;
+      },
+      s.1,
+      s.2,
+    )
+    session-mapped start source sink moments after (Err faults.BadInput) p s = (
+      record {
+        rest = s.0.rest;
+        mid = s.0.mid;
+        done = so_far-mapped start source.before s.0.rest sink.before s.0.mid moments after p s.0.done;
+        few = s.0.few;
+        refuses = s.0.refuses;
+      },
+      s.1,
+      s.2,
+    )
+    session-mapped start source sink moments after (Err faults.NoMemory) p s = (broken-mapped start source.before sink.before sink.now moments after p s.0, s.1, s.2)

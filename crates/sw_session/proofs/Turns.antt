@@ -6,14 +6,14 @@ use Rattle.std.proofs.Math.Seq.{take-append-add}
 use Rattle.sw_outside.specs.Readings.{Ticks, TicksEach}
 use Rattle.sw_outside.specs.Taken.{AppendsPart}
 use Rattle.sw_http.specs.Continue.{Continues, IsCut, Refuses as RefusedByReader, Takes, continue_of}
-use Rattle.sw_http.specs.Reply.{reply_text}
-use Rattle.sw_http.specs.declared.request.Request.{Request}
-use Rattle.sw_http.specs.declared.response.Response.{Response}
-use Rattle.sw_http.specs.declared.writer.WriteFault.{WriteFault}
-use Rattle.sw_http.specs.declared.writer.WriteFault.TheVariants as writes
+use Rattle.sw_message.specs.Reply.{reply_text}
+use Rattle.sw_message.specs.declared.request.Request.{Request}
+use Rattle.sw_message.specs.declared.response.Response.{Response}
+use Rattle.sw_message.specs.declared.writer.WriteFault.{WriteFault}
+use Rattle.sw_message.specs.declared.writer.WriteFault.TheVariants as writes
 use Rattle.sw_session.specs.Fault.{fault_of}
 use Rattle.sw_session.specs.Replies.{Serves}
-use Rattle.sw_session.specs.Turn.{CutsReply, IsReadingFault, IsReceived, IsRefusal, IsTold, IsTurn, RefusesRestPart, TellsWhole, Turns, refusal}
+use Rattle.sw_session.specs.Turn.{CutsReply, IsCounted, IsReadingFault, IsReceived, IsRefusal, IsTold, IsTurn, RefusesRestPart, TellsWhole, Turns, refusal}
 use Rattle.sw_session.specs.declared.session.SessionFault.{SessionFault}
 use Rattle.sw_session.specs.declared.session.SessionFault.TheVariants as faults
 
@@ -21,6 +21,14 @@ use Rattle.sw_session.specs.declared.session.SessionFault.TheVariants as faults
 part_behind : (a b c : Option (List ℕ)) (text tail : List ℕ) → Appends a b text → AppendsPart b c tail → AppendsPart a c (text ++ tail)
 part_behind a b c text tail whole part =
     (length text + part.0, subst (Appends a c) (sym (take-append-add text tail part.0)) (Appends-trans a b c text _ whole part.1))
+
+-- ---- counts
+
+-- nothing failed before
+pub counted_after : {A : Type 0} (reads reads_now writes mid now : ℕ) (result : Result A SessionFault) → reads_now ≡ reads → mid ≡ writes
+    → IsCounted reads_now reads_now mid now result → IsCounted reads reads_now writes now result
+counted_after reads reads_now writes mid now result r w counted =
+    subst (λ (n : ℕ). IsCounted n reads_now writes now result) r (subst (λ (n : ℕ). IsCounted reads_now reads_now n now result) w counted)
 
 -- ---- moments
 

@@ -3,9 +3,9 @@
 -- A server is known only as a relation between what it was, a request, the moment, the reply, and what it is then.
 use Rattle.std.specs.Prelude.{◌≡◌, ℕ, List, [], ◌∷◌, ◌++◌}
 use Rattle.sw_http.specs.Continue.{continue_text}
-use Rattle.sw_http.specs.Reply.{reply_text}
-use Rattle.sw_http.specs.declared.request.Request.{Request}
-use Rattle.sw_http.specs.declared.response.Response.{Response}
+use Rattle.sw_message.specs.Reply.{reply_text}
+use Rattle.sw_message.specs.declared.request.Request.{Request}
+use Rattle.sw_message.specs.declared.response.Response.{Response}
 
 -- which replies a server may give to a request at a moment, and what it is then
 abbrev pub Serves : Type 0 → Type 1

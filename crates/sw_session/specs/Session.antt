@@ -4,10 +4,10 @@
 -- way to end a session begins with.
 use Rattle.std.specs.Prelude.{◌≡◌, ℕ, ◌<◌, List, [], ◌∷◌, ◌++◌, length, ⊤, Option, IfSome, Result, Ok, Err, ◌⊎◌}
 use Rattle.std.specs.Io.KnownBytes.{Appends, IsAtEnd}
-use Rattle.sw_outside.specs.Faults.{HasRisen}
+use Rattle.sw_outside.specs.Counts.{raised}
 use Rattle.sw_http.specs.Reading.{BeginsWith}
 use Rattle.sw_http.specs.Request.{IsSkipped}
-use Rattle.sw_http.specs.declared.request.Request.{Request}
+use Rattle.sw_message.specs.declared.request.Request.{Request}
 use Rattle.sw_session.specs.Passages.{Passage}
 use Rattle.sw_session.specs.Replies.{Replies, Serves}
 use Rattle.sw_session.specs.Turn.{RefusesRest, RepliedPart, StopsBetween, TellsWhole}
@@ -82,14 +82,26 @@ abbrev pub Broken : {S : Type 0} → Serves S → S → Option (List ℕ) → Op
 Broken may start input taken now moments after =
     BrokenBetween may start input taken now moments after ⊎ BrokenAtReply may start input taken now moments after
 
--- how a session ended, by what its loop answered
+-- no call failed on this end
+abbrev pub IsSound : Passage → Type 0
+IsSound end = end.faults_now ≡ end.faults
+
+-- one call failed on it
+abbrev pub HasFailed : Passage → Type 0
+HasFailed end = end.faults_now ≡ raised end.faults
+
+-- How a session ended, by what its loop answered. A call that fails ends it, and after that none is made: so one call failed where the
+-- session ended by it, and else none.
 abbrev pub IsSession : {S : Type 0} → Serves S → S → Passage → Passage → List ℕ → S → Result ⊤ SessionFault → Type 0
 IsSession may start source sink moments after (Ok _) =
-    Complete may start source.before sink.before sink.now moments after × IsAtEnd source.now
+    Complete may start source.before sink.before sink.now moments after × IsAtEnd source.now × IsSound source × IsSound sink
 IsSession may start source sink moments after (Err faults.ReadFault) =
-    Stopped may start source.before sink.before sink.now moments after × HasRisen source.faults source.faults_now
+    Stopped may start source.before sink.before sink.now moments after × HasFailed source × IsSound sink
 IsSession may start source sink moments after (Err faults.WriteFault) =
-    Broken may start source.before sink.before sink.now moments after × HasRisen sink.faults sink.faults_now
-IsSession may start source sink moments after (Err faults.TooLong) = Full may start source.before sink.before sink.now moments after
-IsSession may start source sink moments after (Err faults.BadInput) = Refused may start source.before sink.before sink.now moments after
-IsSession may start source sink moments after (Err faults.NoMemory) = Broken may start source.before sink.before sink.now moments after
+    Broken may start source.before sink.before sink.now moments after × IsSound source × HasFailed sink
+IsSession may start source sink moments after (Err faults.TooLong) =
+    Full may start source.before sink.before sink.now moments after × IsSound source × IsSound sink
+IsSession may start source sink moments after (Err faults.BadInput) =
+    Refused may start source.before sink.before sink.now moments after × IsSound source × IsSound sink
+IsSession may start source sink moments after (Err faults.NoMemory) =
+    Broken may start source.before sink.before sink.now moments after × IsSound source × IsSound sink

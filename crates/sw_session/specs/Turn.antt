@@ -2,12 +2,14 @@
 use Rattle.std.specs.Prelude.{◌≡◌, ℕ, Bool, true, false, List, [], ◌∷◌, ◌++◌, Option, Some, None, IfSome, Result, Ok, Err, ◌⊎◌}
 use Rattle.std.specs.Io.KnownBytes.{Appends, Consumes}
 use Rattle.httparse.specs.Grammar.{RequestHead}
+use Rattle.sw_outside.specs.Counts.{raised}
 use Rattle.sw_outside.specs.Taken.{AppendsPart}
 use Rattle.sw_http.specs.Continue.{BeginsNone, HasHead, MayContinue, Takes, continue_of}
-use Rattle.sw_http.specs.Reply.{reply_text}
+use Rattle.sw_message.specs.Reply.{reply_text}
 use Rattle.sw_http.specs.Request.{Parts, AreParts, request_of, text_of, IsSkipped, IsNoRequest}
-use Rattle.sw_http.specs.declared.request.Request.{Request}
-use Rattle.sw_http.specs.declared.response.Response.{Response}
+use Rattle.sw_message.specs.declared.request.Request.{Request}
+use Rattle.sw_message.specs.declared.response.ReplyBody.TheVariants.{Whole}
+use Rattle.sw_message.specs.declared.response.Response.{Response}
 use Rattle.sw_session.specs.Replies.{Serves, written_for}
 use Rattle.sw_session.specs.declared.session.SessionFault.{SessionFault}
 use Rattle.sw_session.specs.declared.session.SessionFault.TheVariants as faults
@@ -37,7 +39,7 @@ pub record RepliedPart {S : Type 0} (may : Serves S) (before after : S) (input r
 
 -- the reply where the rest of the input is no request: a 400
 unfoldable pub refusal : List ℕ
-refusal = reply_text (record { status = 400; fields = []; body = []; length = 0; head_only = false })
+refusal = reply_text (record { status = 400; fields = []; body = Whole [] })
 
 -- what the head in front of the rest of the input asks to be told: nothing where there is none
 abbrev pub IsTold : Option (List ℕ) → List ℕ → Type 0
@@ -119,3 +121,14 @@ IsTurn may before after moments moments_now input rest taken now (Err faults.Wri
 IsTurn may before after moments moments_now input rest taken now (Err faults.NoMemory) =
     (Idles before after moments moments_now × StopsBetween input taken now) ⊎ CutsReply may before after moments moments_now input rest taken now
 IsTurn may before after moments moments_now input rest taken now (Err faults.TooLong) = ⊥
+
+-- ---- counts of faults
+
+-- how many calls of the source and of the sink had failed and have failed now, by what was answered: one more where that ends the session
+abbrev pub IsCounted : {A : Type 0} → ℕ → ℕ → ℕ → ℕ → Result A SessionFault → Type 0
+IsCounted reads reads_now writes writes_now (Ok _) = (reads_now ≡ reads) × (writes_now ≡ writes)
+IsCounted reads reads_now writes writes_now (Err faults.ReadFault) = (reads_now ≡ raised reads) × (writes_now ≡ writes)
+IsCounted reads reads_now writes writes_now (Err faults.WriteFault) = (reads_now ≡ reads) × (writes_now ≡ raised writes)
+IsCounted reads reads_now writes writes_now (Err faults.TooLong) = (reads_now ≡ reads) × (writes_now ≡ writes)
+IsCounted reads reads_now writes writes_now (Err faults.BadInput) = (reads_now ≡ reads) × (writes_now ≡ writes)
+IsCounted reads reads_now writes writes_now (Err faults.NoMemory) = (reads_now ≡ reads) × (writes_now ≡ writes)

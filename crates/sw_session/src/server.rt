@@ -1,9 +1,9 @@
 ghost use Rattle.std.specs.Prelude.{ℕ};
-ghost use Rattle.sw_http.specs.declared.request.Request.{Request as RequestSeen};
-ghost use Rattle.sw_http.specs.declared.response.Response.{Response as ResponseSeen};
+ghost use Rattle.sw_message.specs.declared.request.Request.{Request as RequestSeen};
+ghost use Rattle.sw_message.specs.declared.response.Response.{Response as ResponseSeen};
 
 use std::alloc::Global;
-use sw_http::{Request, Response};
+use sw_message::{Request, Response};
 
 /// Who answers the requests of a session.
 pub trait Server {

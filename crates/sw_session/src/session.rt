@@ -1,16 +1,14 @@
-ghost use Rattle.std.specs.Prelude.{◌≡◌, ◌≤◌, ℕ, List, Option, None, Ok, Err, false, [], OnOk};
+ghost use Rattle.std.specs.Prelude.{◌≡◌, ℕ, List, Option, None, Ok, Err, false, []};
 ghost use Rattle.std.specs.Io.KnownBytes.{IsAtEnd, prepend_known};
-ghost use Rattle.sw_outside.specs.Faults.{HasRisen};
 ghost use Rattle.sw_outside.specs.Readings.{TicksEach};
 ghost use Rattle.sw_session.specs.Passages.{passage};
 ghost use Rattle.sw_session.specs.Session.{IsSession};
-ghost use Rattle.sw_session.specs.Turn.{IsReceived, IsRefusal, IsTurn};
+ghost use Rattle.sw_session.specs.Turn.{IsCounted, IsReceived, IsRefusal, IsTurn};
 
 use crate::server::Server;
 use std::alloc::Global;
-use sw_http::{
-    FieldList, Held, HttpFault, Request, Response, WriteFault, next_request, write_response,
-};
+use sw_http::{Held, HttpFault, next_request};
+use sw_message::{FieldList, ReplyBody, Request, Response, WriteFault, write_response};
 use sw_outside::{Bytes, Clock, Sink, Source};
 
 /// The greatest number of requests of one session.
@@ -46,8 +44,7 @@ impl From<WriteFault> for SessionFault {
 #[tactic(auto, unfolding(crate::specs::Turn::refusal))]
 fn refuse<W: Sink>(alloc: Global, out: &mut W) -> Result<Option<Request>, SessionFault>
     ensures refused { IsRefusal (W.taken out.old) (W.taken out.new) result }
-    ensures later { W.faults out.old ≤ W.faults out.new }
-    ensures write_fault { result ≡ Err SessionFault.WriteFault → HasRisen (W.faults out.old) (W.faults out.new) }
+    ensures counted { (reads : ℕ) → IsCounted reads reads (W.faults out.old) (W.faults out.new) result }
 {
     match write_response(alloc, out, &refusal(alloc)) {
         Ok(()) => Err(SessionFault::BadInput),
@@ -65,10 +62,7 @@ fn receive<R: Source, W: Sink>(
 ) -> Result<Option<Request>, SessionFault>
     ensures received { IsReceived (prepend_known held.old (R.left source.old)) (prepend_known held.new (R.left source.new)) (W.taken out.old) (W.taken out.new) result }
     ensures at_end { result ≡ Ok None → IsAtEnd (R.left source.new) }
-    ensures reads_later { R.faults source.old ≤ R.faults source.new }
-    ensures writes_later { W.faults out.old ≤ W.faults out.new }
-    ensures read_fault { result ≡ Err SessionFault.ReadFault → HasRisen (R.faults source.old) (R.faults source.new) }
-    ensures write_fault { result ≡ Err SessionFault.WriteFault → HasRisen (W.faults out.old) (W.faults out.new) }
+    ensures counted { IsCounted (R.faults source.old) (R.faults source.new) (W.faults out.old) (W.faults out.new) result }
 {
     match next_request(alloc, held, source, out) {
         Ok(request) => Ok(request),
@@ -95,10 +89,7 @@ fn turn<V: Server, R: Source, W: Sink, C: Clock>(
     ensures turn { IsTurn V.serves server.old server.new moments.old.items moments.new.items (prepend_known held.old (R.left source.old)) (prepend_known held.new (R.left source.new)) (W.taken out.old) (W.taken out.new) result }
     ensures ticks { (start : Option (List ℕ)) → TicksEach start (C.readings clock.old) moments.old.items → TicksEach start (C.readings clock.new) moments.new.items }
     ensures at_end { result ≡ Ok false → IsAtEnd (R.left source.new) }
-    ensures reads_later { R.faults source.old ≤ R.faults source.new }
-    ensures writes_later { W.faults out.old ≤ W.faults out.new }
-    ensures read_fault { result ≡ Err SessionFault.ReadFault → HasRisen (R.faults source.old) (R.faults source.new) }
-    ensures write_fault { result ≡ Err SessionFault.WriteFault → HasRisen (W.faults out.old) (W.faults out.new) }
+    ensures counted { IsCounted (R.faults source.old) (R.faults source.new) (W.faults out.old) (W.faults out.new) result }
 {
     if moments.reserve(1).is_err() {
         return Err(SessionFault::NoMemory);
@@ -126,8 +117,6 @@ pub fn serve<V: Server, R: Source, W: Sink, C: Clock>(
     requires none_read { moments.old.items ≡ [] }
     ensures session { IsSession V.serves server.old (passage R.left R.faults source.old source.new) (passage W.taken W.faults out.old out.new) moments.new.items server.new result }
     ensures ticks { TicksEach (C.readings clock.old) (C.readings clock.new) moments.new.items }
-    ensures reads_later { R.faults source.old ≤ R.faults source.new }
-    ensures writes_later { W.faults out.old ≤ W.faults out.new }
 {
     let mut held = Held::new(alloc);
     for _ in 0..MOST_REQUESTS {
@@ -140,13 +129,11 @@ pub fn serve<V: Server, R: Source, W: Sink, C: Clock>(
 
 /// The reply where the rest of the input is no request.
 fn refusal(alloc: Global) -> Response
-    ensures { result ≡ record { status = 400; fields = []; body = []; length = 0; head_only = false } }
+    ensures { result ≡ record { status = 400; fields = []; body = ReplyBody.Whole [] } }
 {
     Response {
         status: 400,
         fields: FieldList::from(Vec::new(alloc)),
-        body: Bytes::from(Vec::new(alloc)),
-        length: 0,
-        head_only: false,
+        body: ReplyBody::Whole(Bytes::from(Vec::new(alloc))),
     }
 }

@@ -1,6 +1,6 @@
 use Rattle.std.proofs.Common.{refl}
 use Rattle.std.specs.Io.KnownBytes.{prepend_known}
-use Rattle.sw_session.proofs.Turns.{refused}
+use Rattle.sw_session.proofs.Turns.{counted_after, refused}
 use Rattle.sw_session.proofs.session.receive.Goals as goal
 
 -- the rest was refused, or its refusal not written whole
@@ -8,3 +8,8 @@ pub returns-in-Err-Bad-clause-received : goal.returns-in-Err-Bad-clause-received
 returns-in-Err-Bad-clause-received g c =
     refused _ (prepend_known c.next_request.new.held (g.R.Source.left c.next_request.new.source)) _ _ _ c.refuse.result
     ((rw c.in-Err-Bad.field-0-is at c.in-Err-Bad.ensures.bad) refl) c.refuse.ensures.refused
+
+-- the reading of a rest that is none fails no call
+pub returns-in-Err-Bad-clause-counted : goal.returns-in-Err-Bad-clause-counted
+returns-in-Err-Bad-clause-counted g c =
+    counted_after _ _ _ _ _ c.refuse.result (c.in-Err-Bad.ensures.sound (λ is. cc)) (c.in-Err-Bad.ensures.written_sound (λ is. cc)) (c.refuse.ensures.counted _)

@@ -1,16 +1,16 @@
-use Rattle.std.proofs.Common.{ap, arith, refl, Err, Ok}
+use Rattle.std.proofs.Common.{ap, arith, refl, sym, ◌∙◌, Err, Ok}
 use Rattle.std.specs.Io.KnownBytes.{prepend_known}
 use Rattle.std.proofs.lemmas.Result.{err_from_is_err_and}
 use Rattle.sw_session.specs.Passages.{Passage, passage}
-use Rattle.sw_session.proofs.Ends.{begun_with, ended, ended_by, filled, risen_since, turn_made}
+use Rattle.sw_session.proofs.Ends.{begun_with, ended, ended_by, filled, turn_made}
 use Rattle.sw_session.proofs.session.serve.Goals as goal
 
 pub loop-init : goal.loop-init
 loop-init g c = record {
   progress = rw c.requires.none_read (rw c.new-held.ensures (begun_with g.V.Server.serves _ _ _));
   ticks = rw c.requires.none_read refl;
-  reads = omega arith;
-  writes = omega arith;
+  reads = refl;
+  writes = refl;
 }
 
 -- a fault ended it
@@ -20,8 +20,8 @@ returns-in_err-turn-clause-session g c =
     let source : Passage = passage g.R.Source.left g.R.Source.faults c.args.source.now c.turn.new.source in
     let sink : Passage = passage g.W.Sink.taken g.W.Sink.faults c.args.out.now c.turn.new.out in
     rw (exit.1, exit.2) (
-    ended_by g.V.Server.serves _ _ _ source sink _ (prepend_known c.turn.new.held (g.R.Source.left c.turn.new.source)) _ _ _ _ _ c.loop.invariant.progress c.loop-test.true c.in_err-turn.ensures.turn
-    (λ is. risen_since _ _ _ c.loop.invariant.reads (c.in_err-turn.ensures.read_fault (ap Err is))) (λ is. risen_since _ _ _ c.loop.invariant.writes (c.in_err-turn.ensures.write_fault (ap Err is)))
+    ended_by g.V.Server.serves _ _ _ source sink _ (prepend_known c.turn.new.held (g.R.Source.left c.turn.new.source)) _ _ _ _ _ _ _ c.loop.invariant.progress c.loop-test.true c.in_err-turn.ensures.turn
+    c.loop.invariant.reads c.loop.invariant.writes c.in_err-turn.ensures.counted
     )
 
 -- the input ended
@@ -29,17 +29,19 @@ pub returns-then-not-branch-clause-session : goal.returns-then-not-branch-clause
 returns-then-not-branch-clause-session g c =
     let source : Passage = passage g.R.Source.left g.R.Source.faults c.args.source.now c.turn.new.source in
     let sink : Passage = passage g.W.Sink.taken g.W.Sink.faults c.args.out.now c.turn.new.out in
-    ended g.V.Server.serves _ _ _ source sink _ (prepend_known c.turn.new.held (g.R.Source.left c.turn.new.source)) _ _ _ _ c.loop.invariant.progress c.loop-test.true (rw c.if-not-branch.true at c.in_ok-turn.ensures.turn) (c.in_ok-turn.ensures.at_end (ap Ok c.if-not-branch.true))
+    ended g.V.Server.serves _ _ _ source sink _ (prepend_known c.turn.new.held (g.R.Source.left c.turn.new.source)) _ _ _ _ _ _ c.loop.invariant.progress c.loop-test.true (rw c.if-not-branch.true at c.in_ok-turn.ensures.turn) (c.in_ok-turn.ensures.at_end (ap Ok c.if-not-branch.true))
+    c.loop.invariant.reads c.loop.invariant.writes c.in_ok-turn.ensures.counted
 
 -- one request more
 pub loop-preserved : goal.loop-preserved
 loop-preserved g c = record {
   progress = turn_made g.V.Server.serves _ _ _ _ _ _ _ _ _ _ _ _ c.loop.invariant.progress (rw c.if-not-branch.false at c.in_ok-turn.ensures.turn);
   ticks = c.turn.ensures.ticks _ c.loop.invariant.ticks;
-  reads = omega arith;
-  writes = omega arith;
+  reads = c.in_ok-turn.ensures.counted.0 ∙ c.loop.invariant.reads;
+  writes = c.in_ok-turn.ensures.counted.1 ∙ c.loop.invariant.writes;
 }
 
+-- as many requests were answered as a session has at most
 pub returns-clause-session : goal.returns-clause-session
 returns-clause-session g c =
-    filled g.V.Server.serves _ _ _ _ _ _ _ _ c.loop.invariant.progress (omega (arith, c.loop-test.false, c.loop.auto.counter-end))
+    (filled g.V.Server.serves _ _ _ _ _ _ _ _ c.loop.invariant.progress (omega (arith, c.loop-test.false, c.loop.auto.counter-end)), c.loop.invariant.reads, c.loop.invariant.writes)

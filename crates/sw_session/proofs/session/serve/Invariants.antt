@@ -1,4 +1,4 @@
-use Rattle.std.proofs.Common.{◌≤◌}
+use Rattle.std.proofs.Common.{◌≡◌}
 use Rattle.std.specs.Io.KnownBytes.{prepend_known}
 use Rattle.sw_outside.specs.Readings.{TicksEach}
 use Rattle.sw_session.proofs.Ends.{Progress}
@@ -10,6 +10,6 @@ invariant-loop g l = record {
   progress : Progress g.V.Server.serves l.initial.server (g.R.Source.left l.initial.source) (prepend_known l.held (g.R.Source.left l.source))
       (g.W.Sink.taken l.initial.out) (g.W.Sink.taken l.out) l.moments.items l.server l.counter;
   ticks : TicksEach (g.C.Clock.readings l.initial.clock) (g.C.Clock.readings l.clock) l.moments.items;
-  reads : g.R.Source.faults l.initial.source ≤ g.R.Source.faults l.source;
-  writes : g.W.Sink.faults l.initial.out ≤ g.W.Sink.faults l.out;
+  reads : g.R.Source.faults l.source ≡ g.R.Source.faults l.initial.source;
+  writes : g.W.Sink.faults l.out ≡ g.W.Sink.faults l.initial.out;
 }
