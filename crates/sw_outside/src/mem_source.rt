@@ -67,6 +67,7 @@ impl Source for MemSource {
         ensures piece { IfOk result (λ n. n ≡ min (length into.new) (min (length self.old.left) (piece_at self.old.pieces self.old.calls))) }
         ensures calls { self.new.calls ≡ raised self.old.calls }
         ensures given { IfOk result (λ n. self.new ≡ record self.old { left = drop n self.old.left; calls = raised self.old.calls }) }
+        ensures untouched { OnErr result (into.new ≡ into.old) }
         ensures failed { OnErr result (self.new ≡ record self.old { calls = raised self.old.calls; faults = raised self.old.faults }) }
     {
         let call = self.calls;
