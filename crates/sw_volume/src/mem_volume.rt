@@ -1,4 +1,4 @@
-ghost use Rattle.std.specs.Prelude.{◌≡◌, ◌≤◌, ◌↔◌, true, Some, None, Err, IsSome, IsErr, IfOk, OnOk, OnErr};
+ghost use Rattle.std.specs.Prelude.{◌≡◌, ◌≤◌, ◌↔◌, true, false, Some, None, Err, IsSome, IsErr, IfOk, OnOk, OnErr};
 ghost use Rattle.sw_outside.specs.Faults as outside;
 ghost use Rattle.sw_outside.specs.Counts.{raised};
 ghost use Rattle.sw_volume.specs.MemState.{failure_at, GoesAs};
@@ -20,8 +20,9 @@ pub struct FailingCall {
     pub made: bool,
 }
 
-/// A volume in memory, which tells what it holds. Tests choose which calls fail. The time of a call grows with the
-/// logarithm of the number of files, and with what the call takes and answers.
+/// A volume in memory, which tells what it holds. Tests choose which calls fail: each of these fails, and no other does. One
+/// whose change is to be made all the same may find no memory for it, and then makes nothing and isn't counted as failed. The
+/// time of a call grows with the logarithm of the number of files, and with what the call takes and answers.
 #[derive(Debug, Drop)]
 pub struct MemVolume {
     tree: Tree,
@@ -89,7 +90,7 @@ fn failure_of(failing: &[FailingCall], call: u64) -> Option<bool>
 impl Volume for MemVolume {
     ghost tells = { λ _. true };
 
-    ghost holds = { λ v. contents v.folders };
+    ghost holds = { λ v. v.folders };
 
     ghost faults = { λ v. v.faults };
 
@@ -146,6 +147,7 @@ impl Volume for MemVolume {
         ensures calls { self.new.calls ≡ raised self.old.calls }
         ensures lists { self.new.lists ≡ self.old.lists }
         ensures fails { IsSome (failure_at self.old.failing self.old.calls) → IsErr result }
+        ensures unmade { failure_at self.old.failing self.old.calls ≡ Some false → result ≡ Err VolumeError.Failed }
         ensures made { OnFailed result (GoesAs (failure_at self.old.failing self.old.calls) (contents self.old.folders) (contents self.new.folders) dir.now file.now (Some bytes.now)) }
         ensures plan { self.new.failing ≡ self.old.failing }
     {
