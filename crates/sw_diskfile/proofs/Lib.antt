@@ -1,3 +1,4 @@
 pub mod Greatest
 pub mod Suffixes
 pub mod Names
+pub mod Naming

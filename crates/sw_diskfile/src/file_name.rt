@@ -1,8 +1,8 @@
-ghost use Rattle.std.specs.Prelude.{◌≡◌, ◌≢◌, ◌≤◌, ◌↔◌, ◌++◌, ℕ, IsTrue, length, drop, IfOk, IsErr, IfSome, IsNone};
+ghost use Rattle.std.specs.Prelude.{◌≡◌, ◌≢◌, ◌≤◌, ◌↔◌, ◌++◌, ℕ, IsTrue, length, drop, IfOk, IsErr, IfSome, IsNone, Some, None, MatchResult};
 ghost use Rattle.sw_timestamp.specs.TimeText.{text_of};
 ghost use Rattle.sw_timestamp.specs.declared.timestamp.TheConstants.{GREATEST};
 ghost use Rattle.sw_timestamp.specs.declared.tag.Tag.{Tag};
-ghost use Rattle.sw_diskfile.specs.FileNames.{ending, name_text};
+ghost use Rattle.sw_diskfile.specs.FileNames.{ending, name_text, named};
 
 use sw_timestamp::{Tag, Timestamp};
 use thiserror::Error;
@@ -24,6 +24,7 @@ pub struct NotOurs;
 
 /// Reads a time as it is written, and then `.data`, `.ts` or `.meta`. Every other text is [`NotOurs`].
 pub fn read_name(text: &[u8]) -> Result<FileName, NotOurs>
+    ensures is { MatchResult result (λ file. named text.now ≡ Some file) (λ _. named text.now ≡ None) }
     ensures reads { IfOk result (λ file. text.now ≡ name_text file) }
     ensures bound { IfOk result (λ file. file.time ≤ GREATEST) }
     ensures refuses { IsErr result → (time : ℕ) (tag : Tag) → time ≤ GREATEST → text.now ≢ name_text (record { time = time; tag = tag }) }
