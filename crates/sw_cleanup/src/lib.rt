@@ -10,9 +10,13 @@
 
 mod cleaning;
 pub mod laws;
+mod names;
 mod obsolete_files;
 #[cfg(test)]
 mod tests;
+mod unlinks;
 
 pub use cleaning::cleanup;
+pub use names::names_of_writes;
 pub use obsolete_files::obsolete;
+pub use unlinks::unlink_each;
