@@ -12,8 +12,6 @@ mod cleaning;
 pub mod laws;
 mod names;
 mod obsolete_files;
-#[cfg(test)]
-mod tests;
 mod unlinks;
 
 pub use cleaning::cleanup;

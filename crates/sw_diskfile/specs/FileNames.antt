@@ -6,7 +6,6 @@ use Rattle.sw_diskfile.specs.declared.file_name.FileName.{FileName}
 use Rattle.sw_timestamp.specs.TimeText.{text_of, units_of_digits}
 use Rattle.sw_timestamp.specs.declared.tag.Tag.{Tag}
 use Rattle.sw_timestamp.specs.declared.tag.Tag.TheVariants.{Put, Del, Meta}
-use Rattle.sw_timestamp.specs.declared.timestamp.TheConstants.{GREATEST}
 
 -- the ending of a kind of file
 abbrev pub ending : Tag → List ℕ
@@ -22,9 +21,10 @@ name_text file = text_of file.time ++ ending file.tag
 abbrev pub file_with_tag : List ℕ → Tag → FileName
 file_with_tag text tag = record { time = units_of_digits (take 10 text) (take 5 (drop 11 text)); tag = tag }
 
--- whether the text is the name of this file, and its time is one that a write can have
+-- whether the text is the name of this file, and its time is one that a write can have: at most 9999999999.99999 seconds, as
+-- a number of 10-microsecond units
 abbrev pub is_name_of : List ℕ → FileName → Bool
-is_name_of text file = bytes_eq (name_text file) text && nat_le file.time GREATEST
+is_name_of text file = bytes_eq (name_text file) text && nat_le file.time 999_999_999_999_999
 
 -- the file of a write that has this name, or none
 unfoldable pub named : List ℕ → Option FileName

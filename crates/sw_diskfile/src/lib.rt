@@ -10,8 +10,6 @@
 mod file_name;
 pub mod laws;
 mod picking;
-#[cfg(test)]
-mod tests;
 
 pub use file_name::{FileName, NAME_ROOM, NotOurs, read_name, write_name};
 pub use picking::{Picked, pick};

@@ -1,5 +1,6 @@
-use crate::{FileName, NAME_ROOM, NotOurs, laws, pick, read_name, write_name};
+use crate::fixtures::{Named, names_of};
 use std::test::Fail;
+use sw_diskfile::{FileName, NAME_ROOM, NotOurs, laws, pick, read_name, write_name};
 use sw_timestamp::{Tag, Timestamp};
 
 /// The names of writes, with their times in 10-microsecond units.
@@ -26,31 +27,30 @@ const OTHERS: [&[u8]; 12] = [
     b" 0000000005.00000.ts",
 ];
 
-fn named(units: u64, tag: Tag) -> Result<FileName, Fail> {
-    let time = Timestamp::from_units(units).ok_or("no time")?;
-    Ok(FileName { time, tag })
+/// Whether the text is read as this file, and the file written as the text, at the front of its room alone.
+fn is_name_of(text: &[u8], units: u64, tag: Tag) -> bool {
+    let Some(time) = Timestamp::from_units(units) else {
+        return false;
+    };
+    let file = FileName { time, tag };
+    let mut room = [b'-'; 48];
+    let count = write_name(&file, &mut room);
+    read_name(text) == Ok(file) && &room[..count] == text && room[count..].iter().all(|b| *b == b'-')
 }
 
 #[test]
-fn names_are_read_and_written_alike(rt: HostRuntime) -> Result<(), Fail> {
+fn names_are_read_and_written_alike(rt: HostRuntime) {
+    assert_eq!(rt; NAME_ROOM, 48);
     for (text, units, tag) in NAMES {
-        let file = named(units, tag)?;
-        assert_eq!(rt; read_name(text), Ok(file));
-        let mut room = [b'-'; NAME_ROOM];
-        let count = write_name(&file, &mut room);
-        assert_eq!(rt; count, text.len());
-        assert!(rt; room.starts_with(text));
-        assert_eq!(rt; room[NAME_ROOM - 1], b'-');
+        assert!(rt; is_name_of(text, units, tag));
     }
     for text in OTHERS {
-        assert_eq!(rt; read_name(text), Err(NotOurs));
+        assert!(rt; read_name(text) == Err(NotOurs));
     }
     laws::names_differ();
-    Ok(())
+    laws::named_is();
+    laws::one_pick();
 }
-
-/// A file's name, as units and kind.
-type Named = (u64, Tag);
 
 /// Names, and which of them are the base and the metadata.
 const PICKS: [(&[Named], Option<Named>, Option<Named>); 5] = [
@@ -73,19 +73,17 @@ const PICKS: [(&[Named], Option<Named>, Option<Named>); 5] = [
     (&[(5, Tag::Meta)], None, Some((5, Tag::Meta))),
 ];
 
+fn is_file(found: Option<FileName>, wanted: Option<Named>) -> bool {
+    found.map(|file| (file.time.units(), file.tag)) == wanted
+}
+
 #[test]
 fn tombstones_win_over_data_and_data_over_metadata_of_the_same_time(
     rt: HostRuntime,
 ) -> Result<(), Fail> {
     for (pairs, base, meta) in PICKS {
-        let mut names = Vec::new(rt.alloc());
-        for (units, tag) in pairs {
-            names.push(named(*units, *tag)?)?;
-        }
-        let picked = pick(&names);
-        assert_eq!(rt; picked.base.map(|file| (file.time.units(), file.tag)), base);
-        assert_eq!(rt; picked.meta.map(|file| (file.time.units(), file.tag)), meta);
+        let picked = pick(&names_of(rt.alloc(), pairs)?);
+        assert!(rt; is_file(picked.base, base) && is_file(picked.meta, meta));
     }
-    laws::one_pick();
     Ok(())
 }

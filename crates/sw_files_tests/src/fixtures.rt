@@ -1,0 +1,23 @@
+use std::alloc::Global;
+use std::test::Fail;
+use sw_diskfile::FileName;
+use sw_outside::Bytes;
+use sw_timestamp::{Tag, Timestamp};
+
+/// A file's name, as units of 10 microseconds and a kind.
+pub(crate) type Named = (u64, Tag);
+
+pub(crate) fn names_of(alloc: Global, pairs: &[Named]) -> Result<Vec<FileName>, Fail> {
+    let mut names = Vec::new(alloc);
+    for (units, tag) in pairs {
+        if let Some(time) = Timestamp::from_units(*units) {
+            names.push(FileName { time, tag: *tag })?;
+        }
+    }
+    Ok(names)
+}
+
+/// Whether the byte strings are these, in their order.
+pub(crate) fn are_these(found: &[Bytes], wanted: &[&[u8]]) -> bool {
+    found.len() == wanted.len() && found.iter().zip(wanted).all(|(f, w)| f.as_slice() == *w)
+}

@@ -1,0 +1,16 @@
+//! Tests of the crates of files over their public calls: where files are kept, how they are named and written, and which of
+//! them are taken away. What the contracts say is proved for every input, so these show what no contract can: that the
+//! worked values are the ones that were meant, that a call succeeds while there is memory, that the unlinks of a clean-up
+//! come in byte order, and that generic code works at both volumes in memory.
+#![tactic(auto)]
+
+#[cfg(test)]
+mod cleanup;
+#[cfg(test)]
+mod diskfile;
+#[cfg(test)]
+mod fixtures;
+#[cfg(test)]
+mod metafile;
+#[cfg(test)]
+mod volume;

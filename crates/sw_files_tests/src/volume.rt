@@ -1,0 +1,145 @@
+use crate::fixtures::are_these;
+use std::alloc::Global;
+use std::test::Fail;
+use sw_outside::Bytes;
+use sw_volume::{FailingCall, Listing, MemVolume, SoundVolume, Volume, VolumeError};
+
+/// A call of a volume, with what a listing or a reading tells.
+#[derive(Clone, Copy)]
+enum Call<'a> {
+    Put(&'a [u8], &'a [u8], &'a [u8]),
+    Unlink(&'a [u8], &'a [u8]),
+    Read(&'a [u8], &'a [u8], Option<&'a [u8]>),
+    List(&'a [u8], &'a [&'a [u8]], &'a [&'a [u8]]),
+}
+
+use Call::{List, Put, Read, Unlink};
+
+const HASH: &[u8] = b"objects/0/a83/06fbf0b514e5199dfc4e00f42eb5ea83";
+
+const DATA: &[u8] = b"0000000005.00000.data";
+
+const TOMBSTONE: &[u8] = b"0000000005.00000.ts";
+
+/// Calls in their order, none of which fails: files in a hash directory, in its suffix, in folders beside that and in one
+/// whose name goes on behind it.
+const CALLS: [Call; 18] = [
+    List(b"objects", &[], &[]),
+    Put(HASH, DATA, b"data"),
+    Put(HASH, TOMBSTONE, b""),
+    Put(b"objects/0/59e/x", b"f", b"x"),
+    Put(b"objects/0/a83", b"hashes", b"h"),
+    Put(b"objects/0/a83-old/y", b"f", b"y"),
+    Put(b"objects/0", b"power", b"2"),
+    List(b"objects/0", &[b"power"], &[b"59e", b"a83", b"a83-old"]),
+    List(HASH, &[DATA, TOMBSTONE], &[]),
+    List(b"", &[], &[]),
+    List(b"objects/0/a8", &[], &[]),
+    Put(HASH, DATA, b"more data"),
+    Read(HASH, DATA, Some(b"more data")),
+    Read(HASH, TOMBSTONE, Some(b"")),
+    Unlink(HASH, TOMBSTONE),
+    Unlink(HASH, TOMBSTONE),
+    Read(HASH, TOMBSTONE, None),
+    List(HASH, &[DATA], &[]),
+];
+
+/// Whether the call tells what it is to tell, where it doesn't fail.
+fn is_as_told<V: Volume>(alloc: Global, volume: &mut V, call: Call) -> Result<bool, VolumeError> {
+    match call {
+        Put(dir, file, bytes) => {
+            volume.put(alloc, dir, file, bytes)?;
+            Ok(true)
+        }
+        Unlink(dir, file) => {
+            volume.unlink(dir, file)?;
+            Ok(true)
+        }
+        Read(dir, file, wanted) => Ok(is_some_of(&volume.read(alloc, dir, file)?, wanted)),
+        List(dir, files, folders) => Ok(has_names(&volume.list(alloc, dir)?, files, folders)),
+    }
+}
+
+fn is_some_of(found: &Option<Bytes>, wanted: Option<&[u8]>) -> bool {
+    match (found, wanted) {
+        (Some(bytes), Some(wanted)) => bytes.as_slice() == wanted,
+        (None, None) => true,
+        _ => false,
+    }
+}
+
+fn has_names(listing: &Listing, files: &[&[u8]], folders: &[&[u8]]) -> bool {
+    are_these(listing.files.as_slice(), files) && are_these(listing.folders.as_slice(), folders)
+}
+
+/// The number of the first call that answers otherwise, or fails.
+fn first_other<V: Volume>(alloc: Global, volume: &mut V, calls: &[Call]) -> Option<usize> {
+    for (number, call) in calls.iter().enumerate() {
+        if is_as_told(alloc, volume, *call) != Ok(true) {
+            return Some(number);
+        }
+    }
+    None
+}
+
+#[test]
+fn files_and_folders_are_listed_read_and_taken_away(rt: HostRuntime) {
+    let alloc = rt.alloc();
+    assert_eq!(rt; first_other(alloc, &mut SoundVolume::new(alloc), &CALLS), None);
+    let mut volume = MemVolume::new(alloc, Vec::new(alloc));
+    assert_eq!(rt; first_other(alloc, &mut volume, &CALLS), None);
+}
+
+/// Calls in their order, and whether each of them fails, and if so with its change made.
+const FAILURES: [(Call, Option<bool>); 12] = [
+    (Put(b"d", b"f", b"1"), Some(false)),
+    (Read(b"d", b"f", None), None),
+    (Put(b"d", b"f", b"2"), Some(true)),
+    (Read(b"d", b"f", Some(b"2")), None),
+    (Put(b"d", b"f", b"3"), Some(false)),
+    (Read(b"d", b"f", Some(b"2")), None),
+    (Unlink(b"d", b"f"), Some(false)),
+    (List(b"d", &[b"f"], &[]), None),
+    (Unlink(b"d", b"f"), Some(true)),
+    (Read(b"d", b"f", None), None),
+    (List(b"d", &[], &[]), Some(false)),
+    (Read(b"d", b"f", None), Some(true)),
+];
+
+/// The calls of these that fail, by their numbers.
+fn plan(alloc: Global, calls: &[(Call, Option<bool>)]) -> Result<Vec<FailingCall>, Fail> {
+    let mut failing = Vec::new(alloc);
+    for (number, (_, fails)) in calls.iter().enumerate() {
+        if let Some(made) = *fails {
+            let call = number as u64;
+            failing.push(FailingCall { call, made })?;
+        }
+    }
+    Ok(failing)
+}
+
+#[test]
+fn calls_fail_where_they_are_planned_to_and_make_their_changes_as_planned(
+    rt: HostRuntime,
+) -> Result<(), Fail> {
+    let alloc = rt.alloc();
+    let mut volume = MemVolume::new(alloc, plan(alloc, &FAILURES)?);
+    for (call, fails) in FAILURES {
+        let wanted = match fails {
+            Some(_) => Err(VolumeError::Failed),
+            None => Ok(true),
+        };
+        assert!(rt; is_as_told(alloc, &mut volume, call) == wanted);
+    }
+    Ok(())
+}
+
+#[test]
+fn a_listing_and_its_copy_have_the_same_names(rt: HostRuntime) -> Result<(), Fail> {
+    let alloc = rt.alloc();
+    let mut volume = SoundVolume::new(alloc);
+    assert_eq!(rt; first_other(alloc, &mut volume, &CALLS), None);
+    let copy = volume.list(alloc, b"objects/0")?.copy(alloc)?;
+    assert!(rt; has_names(&copy, &[b"power"], &[b"59e", b"a83", b"a83-old"]));
+    Ok(())
+}
