@@ -1,0 +1,2 @@
+mod Acknowledging
+mod Silences

@@ -1,0 +1,83 @@
+-- Steps that change nothing, over nodes of which nothing is known.
+use Rattle.std.proofs.Common.{◌≡◌, ℕ, Bool, true, false, List, [], Option, None, refl, inl, ◌⊎◌, Ok}
+use Rattle.sw_hashpath.specs.declared.name.Name.{Name}
+use Rattle.sw_peer.proofs.Calls.{calls-once, grows-refl, made-step, moves-refl, read-step}
+use Rattle.sw_peer.specs.Histories.{History}
+use Rattle.sw_peer.specs.Journals.{Answers, Hash, Journal}
+use Rattle.sw_peer.specs.Sights.{Calls, IsAt, IsMade, IsRead, Moves, Sight}
+use Rattle.sw_peer.specs.declared.answer.Answer.{Answer}
+use Rattle.sw_peer.specs.declared.answer.Answer.TheVariants as answers
+use Rattle.sw_peer.specs.declared.change.Change.{Change}
+use Rattle.sw_peer.specs.declared.got.Got.TheVariants as gots
+use Rattle.sw_peer.specs.declared.link.Link.{Link}
+use Rattle.sw_state.specs.States.{state_of}
+use Rattle.sw_state.specs.declared.state.State.{State}
+use Rattle.sw_door_tests.specs.Silent.{is_refusal, silent, untold}
+
+abbrev h : History
+h = untold (state_of [])
+
+no : {P : Type 0} → false ≡ true → P
+no {P} is = cc
+
+unmade : (s : State) (name : Name) (change : Change) (a : Answer) → is_refusal a ≡ true → Answers false s h.journal name change a false h.journal
+unmade s name change (answers.Done front) is = no is
+unmade s name change (answers.Buried front) is = no is
+unmade s name change (answers.Conflict time) is = record { leaves = record { not_made = refl; same = refl }; refused = λ when. no when }
+unmade s name change (answers.NotFound time) is = record { leaves = record { not_made = refl; same = refl }; refused = λ when. no when }
+unmade s name change (answers.Mismatch second) is = record { leaves = record { not_made = refl; same = refl }; refused = λ when. no when }
+unmade s name change answers.Exists is = record { leaves = record { not_made = refl; same = refl }; refused = λ when. no when }
+unmade s name change answers.JournalFull is = record { leaves = record { not_made = refl; same = refl }; not_refused = λ when. no when; full = refl }
+unmade s name change (answers.Damaged bad) is = (refl, record { not_made = refl; same = refl })
+unmade s name change answers.Failed is = no is
+unmade s name change answers.NoMemory is = record { not_made = refl; same = refl }
+
+unfailed : (a : Answer) → is_refusal a ≡ true → a ≡ answers.Failed → ⊥
+unfailed a is failed = no (rw failed at is)
+
+refused-step : (link : Link) (device : ℕ) (name : Name) (change : Change) (a : Answer) → is_refusal a ≡ true → IsMade link device name change silent a silent
+refused-step link device name change a is = record {
+  moves = moves-refl (IsAt device name.hash) silent;
+  step = record {
+    before = h;
+    made = false;
+    follows = grows-refl h;
+    settles = λ alone. no alone;
+    settled = λ settles. refl;
+    answered = unmade (state_of []) name change a is;
+    after = grows-refl h;
+    failed = λ failed. absurd (unfailed a is failed);
+    held = λ alone. no alone;
+    leaves = λ alone. no alone;
+    added = [];
+    adds = λ alone. no alone;
+  };
+  trail = inl refl;
+}
+
+pub refused-call : (link : Link) (device : ℕ) (name : Name) (change : Change) (a : Answer) → is_refusal a ≡ true → Calls (IsMade link device name change) silent link (Ok a) silent
+refused-call link device name change a is =
+    calls-once (Moves (IsAt device name.hash)) (IsMade link device name change) (made-step link device name change) silent silent link a
+    (refused-step link device name change a is)
+
+missed-step : (link : Link) (device : ℕ) (name : Name) → IsRead link device name silent (gots.NotFound None) silent
+missed-step link device name = record {
+  moves = moves-refl (IsAt device name.hash) silent;
+  holds_all = λ alone d hash. refl;
+  step = record {
+    follows = grows-refl h;
+    settles = λ alone. no alone;
+    settled = λ shown. refl;
+    shown = λ told. no told;
+    failed = λ failed. cc;
+    held = λ alone. no alone;
+    added = [];
+    adds = λ alone. no alone;
+  };
+  trail = inl refl;
+}
+
+pub missed-call : (link : Link) (device : ℕ) (name : Name) → Calls (IsRead link device name) silent link (Ok (gots.NotFound None)) silent
+missed-call link device name =
+    calls-once (Moves (IsAt device name.hash)) (IsRead link device name) (read-step link device name) silent silent link (gots.NotFound None)
+    (missed-step link device name)

@@ -1,0 +1,47 @@
+-- A door over nodes of which nothing is known. (This project's own.)
+use Rattle.std.specs.Prelude.{ℕ, Bool, true, false, List, [], Option, None}
+use Rattle.sw_hashpath.specs.declared.place.Place.{Place}
+use Rattle.sw_peer.specs.Halves.{Half, HistoryOf}
+use Rattle.sw_peer.specs.Histories.{History}
+use Rattle.sw_peer.specs.Journals.{Hash}
+use Rattle.sw_peer.specs.Sights.{Nodes, Sight}
+use Rattle.sw_peer.specs.declared.answer.Answer.{Answer}
+use Rattle.sw_peer.specs.declared.answer.Answer.TheVariants as answers
+use Rattle.sw_state.specs.States.{state_of}
+use Rattle.sw_state.specs.declared.state.State.{State}
+
+-- whether the answer says that the step changed nothing
+abbrev pub is_refusal : Answer → Bool
+is_refusal (answers.Done front) = false
+is_refusal (answers.Buried front) = false
+is_refusal (answers.Conflict time) = true
+is_refusal (answers.NotFound time) = true
+is_refusal (answers.Mismatch second) = true
+is_refusal answers.Exists = true
+is_refusal answers.JournalFull = true
+is_refusal (answers.Damaged bad) = true
+is_refusal answers.Failed = false
+is_refusal answers.NoMemory = true
+
+-- a journal that has no room for an entry, over contents that aren't told
+abbrev pub untold : {K V E : Type 0} → V → HistoryOf K V E
+untold nothing = record {
+  told = false;
+  opening = λ key. nothing;
+  journal = record { entries = []; doubts = []; max_entries = 0; max_bytes = 0 };
+  faults = 0;
+}
+
+abbrev pub silent_nodes : Nodes
+silent_nodes = record { devices = 256; fits = λ name. true; lock = λ device hash. 0 }
+
+abbrev pub silent : Sight
+silent = record {
+  nodes = silent_nodes;
+  objects = record { seen = λ lock. untold (state_of []); holds = λ device hash. state_of [] };
+  containers = record { seen = λ lock. untold tt; holds = λ device place. tt };
+  alone = false;
+  faults = 0;
+  asks = 0;
+  trail = None;
+}

@@ -1,0 +1,67 @@
+-- What becomes of the messages through a door that loses and repeats them. (This project's own.)
+use Rattle.std.specs.Prelude.{◌≡◌, ℕ, ◌+◌, ◌==◌, Bool, true, false, Option, None, Some, if◌then◌else◌, Result, Ok, IsErr}
+use Rattle.sw_outside.specs.Counts.{raised}
+use Rattle.sw_peer.specs.Sights.{Calls, Sight}
+use Rattle.sw_peer.specs.declared.answer.Answer.{Answer}
+use Rattle.sw_peer.specs.declared.answer.Answer.TheVariants as answers
+use Rattle.sw_peer.specs.declared.link.Link.{Link}
+use Rattle.sw_peer.specs.declared.link.Link.TheVariants.{Local, Sent}
+use Rattle.sw_peer.specs.declared.link.Lost.{Lost}
+use Rattle.sw_lossy.specs.declared.acts.Acts.{Acts}
+use Rattle.sw_lossy.specs.declared.acts.Fate.{Fate}
+use Rattle.sw_lossy.specs.declared.acts.Fate.TheVariants.{Goes, IsLost, LosesReply, ComesTwice}
+
+-- a door around another shows the other, with its own losses beside those of the other
+abbrev pub around : Sight → ℕ → Sight
+around s faults = record s { faults = s.faults + faults }
+
+-- ---- which message
+
+abbrev pub is_number : Option ℕ → ℕ → Bool
+is_number None number = false
+is_number (Some named) number = named == number
+
+-- what becomes of the message of this number
+abbrev pub fate_of_message : Acts → ℕ → Fate
+fate_of_message acts number =
+    if is_number acts.lose number then IsLost
+    else if is_number acts.lose_reply number then LosesReply
+    else if is_number acts.repeat number then ComesTwice
+    else Goes
+
+-- what becomes of a step that is said so, after so many messages
+abbrev pub fate_of : Acts → Link → ℕ → Fate
+fate_of acts Local messages = Goes
+fate_of acts Sent messages = fate_of_message acts (raised messages)
+
+-- ---- counts
+
+-- each message counts, and a step that is said at the device itself is none
+abbrev pub messages_after : Link → ℕ → ℕ
+messages_after Local messages = messages
+messages_after Sent messages = raised messages
+
+abbrev pub is_loss : Fate → Bool
+is_loss Goes = false
+is_loss IsLost = true
+is_loss LosesReply = true
+is_loss ComesTwice = false
+
+abbrev pub faults_after : Fate → ℕ → ℕ
+faults_after fate faults = if is_loss fate then raised faults else faults
+
+-- ---- what comes to the door inside, and what is heard
+
+module _ {D A : Type 0} (sight : D → Sight) (step : Sight → A → Sight → Type 0) where
+  abbrev pub Happens : Link → Fate → D → Result A Lost → D → Type 0
+  Happens link Goes old result new = Calls step (sight old) link result (sight new)
+  Happens link IsLost old result new = (new ≡ old) × IsErr result
+  Happens link LosesReply old result new = ((unheard : Result A Lost) × Calls step (sight old) link unheard (sight new)) × IsErr result
+  Happens link ComesTwice old result new =
+      (mid : D) × ((first : Result A Lost) × Calls step (sight old) link first (sight mid)) × Calls step (sight mid) link result (sight new)
+
+-- a change that is to come twice found no memory for its copy: it never came
+pub record IsUncopied {D : Type 0} (fate : Fate) (old : D) (result : Result Answer Lost) (new : D) : Type 0 where
+  pub twice : fate ≡ ComesTwice
+  pub same : new ≡ old
+  pub answer : result ≡ Ok answers.NoMemory

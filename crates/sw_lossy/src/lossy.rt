@@ -1,0 +1,153 @@
+ghost use Rattle.std.specs.Prelude.{◌≡◌, ◌<◌, ◌≤◌, true, ◌⊎◌};
+ghost use Rattle.sw_outside.specs.Faults.{HasRisen};
+ghost use Rattle.sw_outside.specs.Counts.{raised};
+ghost use Rattle.sw_peer.specs.Sights.{Calls, IsMade, IsRead};
+ghost use Rattle.sw_lossy.specs.Losses.{Happens, IsUncopied, around, fate_of, faults_after, is_loss, messages_after};
+
+use crate::acts::{Acts, Fate};
+use std::alloc::Global;
+use sw_hashpath::Name;
+use sw_outside::NoMemory;
+use sw_peer::{Answer, Change, Door, Got, Link, Lost, ObjectDoor};
+
+/// A door around another, which loses and repeats messages. A step that is said at the device itself goes through.
+#[derive(Drop)]
+pub struct Lossy<D: Drop> {
+    /// The door inside.
+    pub door: D,
+    pub acts: Acts,
+    /// How many messages were sent through it.
+    pub messages: u64,
+    /// How many of them it lost, or their answers.
+    pub faults: u64,
+}
+
+impl<D: Drop> Lossy<D> {
+    /// A door around this one, through which no message was sent yet.
+    pub fn new(door: D, acts: Acts) -> Lossy<D>
+        ensures door { result.door ≡ door }
+        ensures acts { result.acts ≡ acts }
+        ensures messages { result.messages ≡ 0 }
+        ensures faults { result.faults ≡ 0 }
+    {
+        Lossy {
+            door,
+            acts,
+            messages: 0,
+            faults: 0,
+        }
+    }
+
+    /// The door inside.
+    pub fn into_door(self) -> D
+        ensures { result ≡ self.door }
+    {
+        let Lossy { door, .. } = self;
+        door
+    }
+
+    /// What becomes of a step that is said so. It is counted where it is a message, and where it is to be lost.
+    fn next(&mut self, link: Link) -> Fate
+        ensures fate { result ≡ fate_of self.old.acts link self.old.messages }
+        ensures door { self.new.door ≡ self.old.door }
+        ensures acts { self.new.acts ≡ self.old.acts }
+        ensures messages { self.new.messages ≡ messages_after link self.old.messages }
+        ensures faults { self.new.faults ≡ faults_after (fate_of self.old.acts link self.old.messages) self.old.faults }
+        ensures later { self.old.faults ≤ self.new.faults }
+        ensures risen { is_loss (fate_of self.old.acts link self.old.messages) ≡ true → HasRisen self.old.faults self.new.faults }
+    {
+        let fate = self.acts.fate_of(link, self.messages);
+        self.messages = messages_with(link, self.messages);
+        self.faults = faults_with(fate, self.faults);
+        fate
+    }
+}
+
+/// The count of messages after a step that is said so.
+fn messages_with(link: Link, messages: u64) -> u64
+    ensures { result ≡ messages_after link messages }
+{
+    match link {
+        Link::Local => messages,
+        Link::Sent => messages.saturating_add(1),
+    }
+}
+
+/// The count of losses after a step of this fate.
+fn faults_with(fate: Fate, faults: u64) -> u64
+    ensures count { result ≡ faults_after fate faults }
+    ensures later { faults ≤ result }
+    ensures risen { is_loss fate ≡ true → HasRisen faults result }
+{
+    match fate {
+        Fate::Goes | Fate::ComesTwice => faults,
+        Fate::IsLost | Fate::LosesReply => faults.saturating_add(1),
+    }
+}
+
+impl<D: Door + Drop> Door for Lossy<D> {
+    ghost sight = { λ w. around (D.sight w.door) w.faults };
+}
+
+impl<D: ObjectDoor + Drop> ObjectDoor for Lossy<D> {
+    /// A message that is to come twice is copied first. Where the copy finds no memory the answer is [`Answer::NoMemory`], and none is sent.
+    fn change(
+        &mut self,
+        alloc: Global,
+        link: Link,
+        device: u8,
+        name: &Name,
+        change: Change,
+    ) -> Result<Answer, Lost>
+        requires device { device < (D.sight self.old.door).nodes.devices }
+        requires fits { (D.sight self.old.door).nodes.fits name.now ≡ true }
+        ensures made { Calls (IsMade link device name.now change) (around (D.sight self.old.door) self.old.faults) link result (around (D.sight self.new.door) self.new.faults) }
+        ensures asks { (D.sight self.new.door).asks ≡ (D.sight self.old.door).asks }
+        ensures happens { let fate = fate_of self.old.acts link self.old.messages in
+            Happens D.sight (IsMade link device name.now change) link fate self.old.door result self.new.door
+            ⊎ IsUncopied fate self.old.door result self.new.door }
+        ensures acts { self.new.acts ≡ self.old.acts }
+        ensures messages { self.new.messages ≡ messages_after link self.old.messages }
+        ensures faults { self.new.faults ≡ faults_after (fate_of self.old.acts link self.old.messages) self.old.faults }
+    {
+        match self.next(link) {
+            Fate::Goes => self.door.change(alloc, link, device, name, change),
+            Fate::IsLost => Err(Lost),
+            Fate::LosesReply => {
+                let _ = self.door.change(alloc, link, device, name, change);
+                Err(Lost)
+            }
+            Fate::ComesTwice => match change.copy(alloc) {
+                Ok(copy) => {
+                    let _ = self.door.change(alloc, link, device, name, copy);
+                    self.door.change(alloc, link, device, name, change)
+                }
+                Err(NoMemory) => Ok(Answer::NoMemory),
+            },
+        }
+    }
+
+    fn get(&mut self, alloc: Global, link: Link, device: u8, name: &Name) -> Result<Got, Lost>
+        requires device { device < (D.sight self.old.door).nodes.devices }
+        requires fits { (D.sight self.old.door).nodes.fits name.now ≡ true }
+        ensures read { Calls (IsRead link device name.now) (around (D.sight self.old.door) self.old.faults) link result (around (D.sight self.new.door) self.new.faults) }
+        ensures asks { (D.sight self.new.door).asks ≡ (D.sight self.old.door).asks }
+        ensures happens { Happens D.sight (IsRead link device name.now) link (fate_of self.old.acts link self.old.messages) self.old.door result self.new.door }
+        ensures acts { self.new.acts ≡ self.old.acts }
+        ensures messages { self.new.messages ≡ messages_after link self.old.messages }
+        ensures faults { self.new.faults ≡ faults_after (fate_of self.old.acts link self.old.messages) self.old.faults }
+    {
+        match self.next(link) {
+            Fate::Goes => self.door.get(alloc, link, device, name),
+            Fate::IsLost => Err(Lost),
+            Fate::LosesReply => {
+                let _ = self.door.get(alloc, link, device, name);
+                Err(Lost)
+            }
+            Fate::ComesTwice => {
+                let _ = self.door.get(alloc, link, device, name);
+                self.door.get(alloc, link, device, name)
+            }
+        }
+    }
+}
