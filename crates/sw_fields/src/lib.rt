@@ -14,8 +14,6 @@ mod heads;
 mod items;
 pub mod laws;
 mod limits;
-#[cfg(test)]
-mod tests;
 
 pub use expiry::{BadExpiry, expiry_of, is_expired};
 pub use field_tests::{agrees_with, asks_for_none, has_value, is_replicated, time_of, type_of};

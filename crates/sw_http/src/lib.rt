@@ -26,8 +26,6 @@ mod line_end;
 mod opening;
 mod reader;
 mod run;
-#[cfg(test)]
-mod tests;
 mod trailer;
 
 pub use held::Held;
