@@ -1,4 +1,10 @@
+pub mod Anew
+pub mod Fresh
 pub mod Maps
+pub mod Placed
 pub mod Reaching
+pub mod Recasts
 pub mod Standing
 pub mod Steps
+pub mod Stripes
+pub mod Wanting

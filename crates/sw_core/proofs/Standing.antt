@@ -17,39 +17,9 @@ use Rattle.sw_state.proofs.StateLaws.{joins_one_more}
 use Rattle.sw_state.specs.States.{state_of}
 use Rattle.sw_state.specs.declared.state.State.{State}
 use Rattle.sw_state.specs.declared.write.Write.{Write}
+use Rattle.sw_core.proofs.Recasts.{recast, recast-read}
 use Rattle.sw_core.specs.Doors.{ChangeRuns, ReadRuns, RestartRuns, StandsFor}
 use Rattle.sw_core.specs.Machine.{Machine, MachineMakes, MachineReads, MachineRestarts, made_writes, reached_with, state}
-
--- the same step, of equal histories and states
-abbrev recast : (alone : Bool) (h i : History) (s u : State) (name : Name) (change : Change) (answer : Answer) (g : History) (t v : State) → alone ≡ true → h ≡ i → s ≡ u → t ≡ v
-    → StepChanges alone h s name change answer g t → StepChanges true i u name change answer g v
-recast alone h i s u name change answer g t v al hi su tv step = record {
-  before = step.before;
-  made = step.made;
-  follows = subst (λ (x : History). Grows x step.before) hi step.follows;
-  settles = λ is. subst (λ (x : History). OnlySettles x step.before) hi (step.settles al);
-  settled = step.settled;
-  answered = step.answered;
-  after = step.after;
-  failed = λ is. subst (λ (x : History). HasRisen x.faults g.faults) hi (step.failed is);
-  held = λ is told clean. step.held al told clean ∙ su;
-  leaves = λ is told. sym tv ∙ (step.leaves al told ∙ ap (λ (x : State). left_by x change step.made) su);
-  added = step.added;
-  adds = λ is. subst (λ (x : History). g.journal.entries ≡ x.journal.entries ++ step.added) hi (step.adds al);
-}
-
-abbrev recast-read : (alone : Bool) (h i : History) (hash : Hash) (got : Got) (g : History) (t v : State) → alone ≡ true → h ≡ i → t ≡ v
-    → StepReads alone h hash got g t → StepReads true i hash got g v
-recast-read alone h i hash got g t v al hi tv step = record {
-  follows = subst (λ (x : History). Grows x g) hi step.follows;
-  settles = λ is. subst (λ (x : History). OnlySettles x g) hi (step.settles al);
-  settled = step.settled;
-  shown = step.shown;
-  failed = λ is. subst (λ (x : History). HasRisen x.faults g.faults) hi (step.failed is);
-  held = λ is told clean. step.held al told clean ∙ tv;
-  added = step.added;
-  adds = λ is. subst (λ (x : History). g.journal.entries ≡ x.journal.entries ++ step.added) hi (step.adds al);
-}
 
 -- what told goes on telling
 told-on : (s t : Sight) → t.nodes ≡ s.nodes → ((l : ℕ) → (t.objects.seen l).told ≡ (s.objects.seen l).told) → ((d : ℕ) (k : Hash) → (s.objects.seen (s.nodes.lock d k)).told ≡ true)
@@ -97,7 +67,7 @@ module _ (link : Link) (device : ℕ) (name : Name) (change : Change) (s : Sight
   makes : MachineMakes s.nodes.lock m device name change answer made.step.added after
   makes = record {
     step = recast t.alone (s.objects.seen (s.nodes.lock device name.hash)) (m.seen (s.nodes.lock device name.hash)) (s.objects.holds device name.hash) (state m device name.hash) name change answer
-        (t.objects.seen (s.nodes.lock device name.hash)) (t.objects.holds device name.hash) (state after device name.hash) alone (stands.seen (s.nodes.lock device name.hash)) (stands.states device name.hash) (states device name.hash) made.step;
+        (t.objects.seen (s.nodes.lock device name.hash)) (t.objects.seen (s.nodes.lock device name.hash)) (t.objects.holds device name.hash) (state after device name.hash) alone (stands.seen (s.nodes.lock device name.hash)) (stands.states device name.hash) refl (states device name.hash) made.step;
     added_is = refl;
     reached = λ d k. refl;
     elsewhere = λ x away. made.moves.objects.elsewhere x (λ d hash is same. away (same ∙ lock-at d hash is)) ∙ stands.seen x;
@@ -115,8 +85,8 @@ pub read_runs : ReadRuns
 read_runs link device name s got t m stands alone read = (
   record { reached = m.reached; seen = t.objects.seen; sent = m.sent },
   record {
-    step = recast-read t.alone (s.objects.seen (s.nodes.lock device name.hash)) (m.seen (s.nodes.lock device name.hash)) name.hash got (t.objects.seen (s.nodes.lock device name.hash)) (t.objects.holds device name.hash) (state m device name.hash)
-        alone (stands.seen (s.nodes.lock device name.hash)) (read.holds_all alone device name.hash ∙ stands.states device name.hash) read.step;
+    step = recast-read t.alone (s.objects.seen (s.nodes.lock device name.hash)) (m.seen (s.nodes.lock device name.hash)) name.hash got (t.objects.seen (s.nodes.lock device name.hash)) (t.objects.seen (s.nodes.lock device name.hash)) (t.objects.holds device name.hash) (state m device name.hash)
+        alone (stands.seen (s.nodes.lock device name.hash)) refl (read.holds_all alone device name.hash ∙ stands.states device name.hash) read.step;
     added_is = refl;
     reached = λ d k. refl;
     elsewhere = λ x away. read.moves.objects.elsewhere x (λ d hash is same. away (same ∙ (ap (λ (e : ℕ). s.nodes.lock e hash) is.0 ∙ ap (λ (y : Hash). s.nodes.lock device y) is.1))) ∙ stands.seen x;

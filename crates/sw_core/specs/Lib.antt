@@ -4,3 +4,4 @@ pub mod Limits
 pub mod Machine
 pub mod Nodes
 pub mod Shelves
+pub mod Worlds

@@ -1,0 +1,40 @@
+-- The same step, of equal histories and states. The records are written anew, so that their fields stay what they are.
+use Rattle.std.proofs.Common.{◌≡◌, ◌≤◌, Bool, true, List, [], ◌++◌, length, sym, ◌∙◌, ap, subst}
+use Rattle.sw_hashpath.specs.declared.name.Name.{Name}
+use Rattle.sw_outside.specs.Faults.{HasRisen}
+use Rattle.sw_peer.specs.Histories.{Grows, History, OnlySettles, StepChanges, StepReads, stands}
+use Rattle.sw_peer.specs.Journals.{Answers, Hash, Shows, left_by, written}
+use Rattle.sw_peer.specs.declared.answer.Answer.{Answer}
+use Rattle.sw_peer.specs.declared.change.Change.{Change}
+use Rattle.sw_peer.specs.declared.got.Got.{Got}
+use Rattle.sw_state.specs.declared.state.State.{State}
+
+abbrev pub recast : (alone : Bool) (h i : History) (s u : State) (name : Name) (change : Change) (answer : Answer) (g j : History) (t v : State) → alone ≡ true → h ≡ i → s ≡ u → g ≡ j → t ≡ v
+    → StepChanges alone h s name change answer g t → StepChanges true i u name change answer j v
+recast alone h i s u name change answer g j t v al hi su gj tv step = record {
+  before = step.before;
+  made = step.made;
+  follows = subst (λ (x : History). Grows x step.before) hi step.follows;
+  settles = λ is. subst (λ (x : History). OnlySettles x step.before) hi (step.settles al);
+  settled = step.settled;
+  answered = subst (λ (x : History). Answers step.before.told (stands step.before name.hash) step.before.journal name change answer step.made x.journal) gj step.answered;
+  after = subst (λ (x : History). Grows step.before x) gj step.after;
+  failed = λ is. subst (λ (x : History). HasRisen x.faults j.faults) hi (subst (λ (x : History). HasRisen h.faults x.faults) gj (step.failed is));
+  held = λ is told clean. step.held al told clean ∙ su;
+  leaves = λ is told. sym tv ∙ (step.leaves al told ∙ ap (λ (x : State). left_by x change step.made) su);
+  added = step.added;
+  adds = λ is. subst (λ (x : History). j.journal.entries ≡ x.journal.entries ++ step.added) hi (subst (λ (x : History). x.journal.entries ≡ h.journal.entries ++ step.added) gj (step.adds al));
+}
+
+abbrev pub recast-read : (alone : Bool) (h i : History) (hash : Hash) (got : Got) (g j : History) (t v : State) → alone ≡ true → h ≡ i → g ≡ j → t ≡ v
+    → StepReads alone h hash got g t → StepReads true i hash got j v
+recast-read alone h i hash got g j t v al hi gj tv step = record {
+  follows = subst (λ (x : History). Grows x j) hi (subst (λ (x : History). Grows h x) gj step.follows);
+  settles = λ is. subst (λ (x : History). OnlySettles x j) hi (subst (λ (x : History). OnlySettles h x) gj (step.settles al));
+  settled = λ is. subst (λ (x : History). written hash x.journal.doubts ≡ []) gj (step.settled is);
+  shown = subst (λ (x : History). Shows x.told (stands x hash) (length x.journal.entries) got) gj step.shown;
+  failed = λ is. subst (λ (x : History). HasRisen x.faults j.faults) hi (subst (λ (x : History). HasRisen h.faults x.faults) gj (step.failed is));
+  held = λ is told clean. subst (λ (x : History). stands x hash ≡ t) gj (step.held al (ap (λ (x : History). x.told) gj ∙ told) clean) ∙ tv;
+  added = step.added;
+  adds = λ is. subst (λ (x : History). j.journal.entries ≡ x.journal.entries ++ step.added) hi (subst (λ (x : History). x.journal.entries ≡ h.journal.entries ++ step.added) gj (step.adds al));
+}

@@ -1,0 +1,6 @@
+use Rattle.sw_core.proofs.Fresh.{begins-ok}
+use Rattle.sw_core.proofs.world.World+MemShelf.new.Goals as goal
+
+pub returns : goal.returns
+returns c =
+    begins-ok c.args.devices c.args.lock_bits c.open.result c.in_ok-shelves.shelves.items c.open.ensures.nodes c.open.ensures.shape c.open.ensures.lines c.in_ok-shelves.ensures.empty
