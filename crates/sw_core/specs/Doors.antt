@@ -1,13 +1,14 @@
 -- How a door that is alone stands for the machine: each of its steps is one of the machine's. (This project's own.)
-use Rattle.std.specs.Prelude.{◌≡◌, ℕ, Bool, true}
+use Rattle.std.specs.Prelude.{◌≡◌, ℕ, Bool, true, List, Option, Some, map}
 use Rattle.sw_hashpath.specs.declared.name.Name.{Name}
 use Rattle.sw_peer.specs.Journals.{Hash}
 use Rattle.sw_peer.specs.Sights.{IsMade, IsRead, Restarts, Sight}
 use Rattle.sw_peer.specs.declared.answer.Answer.{Answer}
 use Rattle.sw_peer.specs.declared.change.Change.{Change}
 use Rattle.sw_peer.specs.declared.got.Got.{Got}
+use Rattle.sw_peer.specs.declared.line.Line.{Line}
 use Rattle.sw_peer.specs.declared.link.Link.{Link}
-use Rattle.sw_core.specs.Machine.{Machine, MachineMakes, MachineReads, MachineRestarts, state}
+use Rattle.sw_core.specs.Machine.{Came, Machine, MachineMakes, MachineReads, MachineRestarts, Runs, state}
 
 -- the devices hold what reached, and their journals are the machine's
 pub record StandsFor (s : Sight) (m : Machine) : Type 0 where
@@ -31,3 +32,11 @@ ReadRuns = (link : Link) (device : ℕ) (name : Name) (s : Sight) (got : Got) (t
 abbrev pub RestartRuns : Type 0
 RestartRuns = (device : ℕ) (s t : Sight) (m : Machine) → StandsFor s m → t.alone ≡ true → Restarts device s t
     → (after : Machine) × MachineRestarts s.nodes.lock m device after × StandsFor t after
+
+-- the lines that the door kept are a run of the machine from `start`, and the door stands for the machine after it
+pub record HasRun (start : Machine) (s : Sight) : Type 0 where
+  pub lines : List Line
+  pub kept : s.trail ≡ Some lines
+  pub after : Machine
+  pub run : Runs s.nodes.lock start (map Came lines) after
+  pub stands : StandsFor s after

@@ -1,0 +1,144 @@
+-- What a session knows of a door that is alone, call by call: the lines that the door kept are a run of the machine, and the door stands
+-- for the machine after it.
+use Rattle.std.proofs.Common.{◌≡◌, ℕ, ◌≤◌, Bool, true, false, List, [], ◌∷◌, ◌++◌, map, refl, sym, ◌∙◌, ap, subst, Option, Some, None, Result, Ok, Err, ◌⊎◌, inl, inr}
+use Rattle.std.proofs.lemmas.List.{map-append}
+use Rattle.std.specs.Option.{option_map}
+use Rattle.sw_hashpath.specs.declared.name.Name.{Name}
+use Rattle.sw_peer.specs.Histories.{History}
+use Rattle.sw_peer.specs.Journals.{Hash}
+use Rattle.sw_peer.specs.Sights.{Calls, Comes, IsMade, IsRead, IsSame, Nodes, Restarts, Sight, is_wanting, is_wanting_read}
+use Rattle.sw_peer.specs.declared.answer.Answer.{Answer}
+use Rattle.sw_peer.specs.declared.change.Change.{Change}
+use Rattle.sw_peer.specs.declared.got.Got.{Got}
+use Rattle.sw_peer.specs.declared.line.Event.TheVariants.{Changed, Read}
+use Rattle.sw_peer.specs.declared.line.Line.{Line}
+use Rattle.sw_peer.specs.declared.link.Link.TheVariants.{Local, Sent}
+use Rattle.sw_peer.specs.declared.link.Lost.{Lost}
+use Rattle.sw_core.proofs.Reaching.{from_nothing, joins}
+use Rattle.sw_core.proofs.Standing.{change_runs, read_runs}
+use Rattle.sw_core.specs.Doors.{HasRun, StandsFor}
+use Rattle.sw_core.specs.Laws.{NoneFailed, told_by}
+use Rattle.sw_state.specs.States.{state_of}
+use Rattle.sw_core.specs.Machine.{Came, Machine, MachineComes, RunLine, Runs, empty_machine}
+use Rattle.sw_core.specs.Worlds.{Begins}
+
+-- a door that stands for a machine, and has kept no lines yet
+pub run-begins : (m : Machine) (s : Sight) → StandsFor s m → s.trail ≡ Some [] → HasRun m s
+run-begins m s stands none = record { lines = []; kept = none; after = m; run = refl; stands = stands }
+
+pub run-fresh : (devices lock_bits : ℕ) (s : Sight) → Begins devices lock_bits s → HasRun empty_machine s
+run-fresh devices lock_bits s b = run-begins empty_machine s b.stands b.trail
+
+-- no step came
+pub stands-same : (s t : Sight) (m : Machine) → IsSame s t → StandsFor s m → StandsFor t m
+stands-same s t m p stands = subst (λ (x : Sight). StandsFor x m) (sym p.same) (record { states = stands.states; seen = stands.seen; told = stands.told })
+
+pub run-kept : (start : Machine) (s t : Sight) → IsSame s t → HasRun start s → HasRun start t
+run-kept start s t p has = record {
+  lines = has.lines;
+  kept = ap (λ (x : Sight). x.trail) p.same ∙ has.kept;
+  after = has.after;
+  run = subst (λ (n : Nodes). Runs n.lock start (map Came has.lines) has.after) (sym (ap (λ (x : Sight). x.nodes) p.same)) has.run;
+  stands = stands-same s t has.after p has.stands;
+}
+
+-- one step more
+one-more : (start : Machine) (s t : Sight) (line : Line) (has : HasRun start s) → t.nodes ≡ s.nodes → t.trail ≡ option_map (λ lines. lines ++ line ∷ []) s.trail
+    → (after : Machine) → MachineComes s.nodes.lock has.after line.link line.device line.event line.added after → StandsFor t after → HasRun start t
+one-more start s t line has nodes trail after comes stands = record {
+  lines = has.lines ++ line ∷ [];
+  kept = trail ∙ ap (option_map (λ (lines : List Line). lines ++ line ∷ [])) has.kept;
+  after = after;
+  run = subst (λ (n : Nodes). Runs n.lock start (map Came (has.lines ++ line ∷ [])) after) (sym nodes)
+      (subst (λ (ls : List RunLine). Runs s.nodes.lock start ls after) (sym (map-append Came has.lines (line ∷ [])))
+      (joins s.nodes.lock start (map Came has.lines) has.after (Came line ∷ []) after has.run (after, comes, refl)));
+  stands = stands;
+}
+
+-- a step that may change something came to a device itself
+pub run-changed : (start : Machine) (device : ℕ) (name : Name) (change : Change) (s : Sight) (answer : Answer) (t : Sight) → t.alone ≡ true → IsMade Local device name change s answer t → HasRun start s → HasRun start t
+run-changed start device name change s answer t alone made has = by made.trail
+  where
+    line : Line
+    line = record { device = device; link = Local; event = Changed name change answer; added = made.step.added }
+
+    by : (t.trail ≡ option_map (λ lines. lines ++ line ∷ []) s.trail) ⊎ ((is_wanting answer ≡ true) × IsSame s t) → HasRun start t
+    by (inl kept) =
+        let runs = change_runs Local device name change s answer t has.after has.stands alone made in
+        one-more start s t line has made.moves.nodes kept runs.0 (tt, runs.1) runs.2
+    by (inr none) = run-kept start s t none.1 has
+
+-- a read came
+pub run-read : (start : Machine) (device : ℕ) (name : Name) (s : Sight) (got : Got) (t : Sight) → t.alone ≡ true → IsRead Local device name s got t → HasRun start s → HasRun start t
+run-read start device name s got t alone read has = by read.trail
+  where
+    line : Line
+    line = record { device = device; link = Local; event = Read name got; added = read.step.added }
+
+    by : (t.trail ≡ option_map (λ lines. lines ++ line ∷ []) s.trail) ⊎ ((is_wanting_read got ≡ true) × IsSame s t) → HasRun start t
+    by (inl kept) =
+        let runs = read_runs Local device name s got t has.after has.stands alone read in
+        one-more start s t line has read.moves.nodes kept runs.0 runs.1 runs.2
+    by (inr none) = run-kept start s t none.1 has
+
+-- ---- calls at the device itself
+
+-- such a call is its step, once
+pub comes-once : {A : Type 0} (step : Sight → A → Sight → Type 0) (s : Sight) (answer : A) (t : Sight) → Calls step s Local (Ok answer) t → (mid : Sight) × step s answer mid × IsSame mid t
+comes-once {A} step s answer t call = subst (λ (xs : List A). Comes step s (xs ++ answer ∷ []) t) (call.1 refl) call.2
+
+-- and nothing is lost
+pub none-lost : {A : Type 0} (step : Sight → A → Sight → Type 0) (s : Sight) (lost : Lost) (t : Sight) → Calls step s Local (Err lost) t → ⊥
+none-lost step s lost t call = absurd (apart call.0)
+  where
+    apart : Local ≡ Sent → ⊥
+    apart same = cc
+
+pub run-changed-call : (start : Machine) (device : ℕ) (name : Name) (change : Change) (s : Sight) (answer : Answer) (t : Sight) → t.alone ≡ true → Calls (IsMade Local device name change) s Local (Ok answer) t → HasRun start s → HasRun start t
+run-changed-call start device name change s answer t alone call has =
+    let once = comes-once (IsMade Local device name change) s answer t call in
+    run-kept start once.0 t once.2 (run-changed start device name change s answer once.0 (sym (ap (λ (x : Sight). x.alone) once.2.same) ∙ alone) once.1 has)
+
+pub run-read-call : (start : Machine) (device : ℕ) (name : Name) (s : Sight) (got : Got) (t : Sight) → t.alone ≡ true → Calls (IsRead Local device name) s Local (Ok got) t → HasRun start s → HasRun start t
+run-read-call start device name s got t alone call has =
+    let once = comes-once (IsRead Local device name) s got t call in
+    run-kept start once.0 t once.2 (run-read start device name s got once.0 (sym (ap (λ (x : Sight). x.alone) once.2.same) ∙ alone) once.1 has)
+
+-- the lines that such a call kept: one, or none where it wanted memory
+pub changed-lines : (device : ℕ) (name : Name) (change : Change) (s : Sight) (answer : Answer) (t : Sight) → Calls (IsMade Local device name change) s Local (Ok answer) t
+    → ((line : Line) × (line.device ≡ device) × (line.link ≡ Local) × (line.event ≡ Changed name change answer) × (t.trail ≡ option_map (λ lines. lines ++ line ∷ []) s.trail))
+    ⊎ ((is_wanting answer ≡ true) × (t.trail ≡ s.trail))
+changed-lines device name change s answer t call =
+    let once = comes-once (IsMade Local device name change) s answer t call in
+    by once.0 once.1 (ap (λ (x : Sight). x.trail) once.2.same) once.1.trail
+  where
+    by : (mid : Sight) (made : IsMade Local device name change s answer mid) → t.trail ≡ mid.trail
+        → (mid.trail ≡ option_map (λ lines. lines ++ record { device = device; link = Local; event = Changed name change answer; added = made.step.added } ∷ []) s.trail) ⊎ ((is_wanting answer ≡ true) × IsSame s mid)
+        → ((line : Line) × (line.device ≡ device) × (line.link ≡ Local) × (line.event ≡ Changed name change answer) × (t.trail ≡ option_map (λ lines. lines ++ line ∷ []) s.trail))
+        ⊎ ((is_wanting answer ≡ true) × (t.trail ≡ s.trail))
+    by mid made last (inl kept) = inl (record { device = device; link = Local; event = Changed name change answer; added = made.step.added }, refl, refl, refl, last ∙ kept)
+    by mid made last (inr none) = inr (none.0, last ∙ ap (λ (x : Sight). x.trail) none.1.same)
+
+pub read-lines : (device : ℕ) (name : Name) (s : Sight) (got : Got) (t : Sight) → Calls (IsRead Local device name) s Local (Ok got) t
+    → ((line : Line) × (line.device ≡ device) × (line.link ≡ Local) × (line.event ≡ Read name got) × (t.trail ≡ option_map (λ lines. lines ++ line ∷ []) s.trail))
+    ⊎ ((is_wanting_read got ≡ true) × (t.trail ≡ s.trail))
+read-lines device name s got t call =
+    let once = comes-once (IsRead Local device name) s got t call in
+    by once.0 once.1 (ap (λ (x : Sight). x.trail) once.2.same) once.1.trail
+  where
+    by : (mid : Sight) (read : IsRead Local device name s got mid) → t.trail ≡ mid.trail
+        → (mid.trail ≡ option_map (λ lines. lines ++ record { device = device; link = Local; event = Read name got; added = read.step.added } ∷ []) s.trail) ⊎ ((is_wanting_read got ≡ true) × IsSame s mid)
+        → ((line : Line) × (line.device ≡ device) × (line.link ≡ Local) × (line.event ≡ Read name got) × (t.trail ≡ option_map (λ lines. lines ++ line ∷ []) s.trail))
+        ⊎ ((is_wanting_read got ≡ true) × (t.trail ≡ s.trail))
+    by mid read last (inl kept) = inl (record { device = device; link = Local; event = Read name got; added = read.step.added }, refl, refl, refl, last ∙ kept)
+    by mid read last (inr none) = inr (none.0, last ∙ ap (λ (x : Sight). x.trail) none.1.same)
+
+-- the lines were taken
+pub run-taken : (start : Machine) (s t : Sight) → t ≡ record s { trail = Some [] } → (has : HasRun start s) → HasRun has.after t
+run-taken start s t taken has =
+    run-begins has.after t (subst (λ (x : Sight). StandsFor x has.after) (sym taken) (record { states = has.stands.states; seen = has.stands.seen; told = has.stands.told })) (ap (λ (x : Sight). x.trail) taken)
+
+-- from nothing, where no step failed: each hash stands at each device for the state of what the lines tell
+pub run-holds : (s : Sight) (has : HasRun empty_machine s) → NoneFailed (map Came has.lines) → (device : ℕ) (hash : Hash)
+    → s.objects.holds device hash ≡ state_of (told_by (map Came has.lines) device hash)
+run-holds s has fine device hash = has.stands.states device hash ∙ ap state_of (from_nothing s.nodes.lock (map Came has.lines) has.after has.run fine device hash)
