@@ -18,7 +18,7 @@ impl<T: Drop> From<AllocFailed<T>> for NoMemory {
     }
 }
 
-/// Something that the caller handed in failed while it was called. Its count of faults has risen by then.
+/// Something that the caller handed in failed while it was called. Its count of faults has risen by one.
 #[derive(Clone, Copy, Debug, PartialEq, Eq, Error)]
 #[error("a call on the outside failed")]
 pub struct Failed;

@@ -1,10 +1,11 @@
 //! Everything that a storage node takes from outside itself, as traits whose contracts say what may be relied on.
 //!
-//! A [`Source`] is where requests come from and a [`Sink`] where replies go. Each has two meanings that contracts see:
-//! its content, which a source or sink in memory tells and a real one doesn't, and a count of the calls that failed.
-//! Code above is generic over these traits and proved once: what it promises about content holds wherever the content is
-//! told, and "only where the count rose" holds everywhere, since generic code can't raise a count by itself. A [`Clock`] is
-//! where the present moment comes from: its meaning is the list of its readings to come, and it can't fail.
+//! A [`Source`] is where requests come from and a [`Sink`] where replies go. Each has three meanings that contracts see:
+//! its content, which a source or sink in memory tells and a real one doesn't, how many calls there were, and how many of
+//! them failed. A call counts once, whatever it answers, and one fault exactly where it failed. Code above is generic over
+//! these traits and proved once: what it promises about content holds wherever the content is told, and what it says of
+//! counts holds everywhere, since generic code can't raise a count by itself. A [`Clock`] is where the present moment
+//! comes from: its meaning is the list of its readings to come, and it can't fail.
 //!
 //! The same crate has the byte string [`Bytes`] and the list [`BytesList`] of such, the errors [`NoMemory`] and
 //! [`Failed`], the ends in memory that tests use, and the adapters over std's reader, writer and clock. The next layer up is
