@@ -24,7 +24,7 @@ file_with_tag text tag = record { time = units_of_digits (take 10 text) (take 5 
 -- whether the text is the name of this file, and its time is one that a write can have: at most 9999999999.99999 seconds, as
 -- a number of 10-microsecond units
 abbrev pub is_name_of : List ℕ → FileName → Bool
-is_name_of text file = bytes_eq (name_text file) text && nat_le file.time 999_999_999_999_999
+is_name_of text file = bytes_eq (name_text file) text && nat_le file.time 999999999999999
 
 -- the file of a write that has this name, or none
 unfoldable pub named : List ℕ → Option FileName

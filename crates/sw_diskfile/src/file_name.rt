@@ -25,8 +25,8 @@ pub struct NotOurs;
 pub fn read_name(text: &[u8]) -> Result<FileName, NotOurs>
     ensures is { MatchResult result (λ file. named text.now ≡ Some file) (λ _. named text.now ≡ None) }
     ensures reads { IfOk result (λ file. text.now ≡ name_text file) }
-    ensures bound { IfOk result (λ file. file.time ≤ 999_999_999_999_999) }
-    ensures refuses { IsErr result → (time : ℕ) (tag : Tag) → time ≤ 999_999_999_999_999 → text.now ≢ name_text (record { time = time; tag = tag }) }
+    ensures bound { IfOk result (λ file. file.time ≤ 999999999999999) }
+    ensures refuses { IsErr result → (time : ℕ) (tag : Tag) → time ≤ 999999999999999 → text.now ≢ name_text (record { time = time; tag = tag }) }
 {
     if let Some(time) = time_before(text, b".data") {
         return Ok(FileName {
@@ -52,8 +52,8 @@ pub fn read_name(text: &[u8]) -> Result<FileName, NotOurs>
 /// The time that is written before this ending.
 fn time_before(text: &[u8], ending: &[u8]) -> Option<Timestamp>
     ensures some { IfSome result (λ time. text.now ≡ text_of time ++ ending.now) }
-    ensures bound { IfSome result (λ time. time ≤ 999_999_999_999_999) }
-    ensures none { IsNone result → (time : ℕ) → time ≤ 999_999_999_999_999 → text.now ≢ text_of time ++ ending.now }
+    ensures bound { IfSome result (λ time. time ≤ 999999999999999) }
+    ensures none { IsNone result → (time : ℕ) → time ≤ 999999999999999 → text.now ≢ text_of time ++ ending.now }
 {
     let stem = text.strip_suffix(ending)?;
     let Ok(time) = Timestamp::parse(stem) else {

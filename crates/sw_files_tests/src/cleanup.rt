@@ -82,9 +82,11 @@ fn leaves<V: Volume>(
     put_all(alloc, volume, OTHER, files)?;
     let picked = cleanup(alloc, volume, HASH)?;
     let again = cleanup(alloc, volume, HASH)?;
-    Ok(picked == again
-        && has_files(alloc, volume, HASH, left)
-        && has_files(alloc, volume, OTHER, files))
+    Ok(
+        picked == again
+            && has_files(alloc, volume, HASH, left)
+            && has_files(alloc, volume, OTHER, files),
+    )
 }
 
 #[test]

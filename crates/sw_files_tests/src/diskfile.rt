@@ -35,7 +35,9 @@ fn is_name_of(text: &[u8], units: u64, tag: Tag) -> bool {
     let file = FileName { time, tag };
     let mut room = [b'-'; 48];
     let count = write_name(&file, &mut room);
-    read_name(text) == Ok(file) && &room[..count] == text && room[count..].iter().all(|b| *b == b'-')
+    read_name(text) == Ok(file)
+        && &room[..count] == text
+        && room[count..].iter().all(|b| *b == b'-')
 }
 
 #[test]

@@ -85,7 +85,10 @@ fn first_other<V: Volume>(alloc: Global, volume: &mut V, calls: &[Call]) -> Opti
 #[test]
 fn files_and_folders_are_listed_read_and_taken_away(rt: HostRuntime) {
     let alloc = rt.alloc();
-    assert_eq!(rt; first_other(alloc, &mut SoundVolume::new(alloc), &CALLS), None);
+    assert_eq!(rt;
+        first_other(alloc, &mut SoundVolume::new(alloc), &CALLS),
+        None
+    );
     let mut volume = MemVolume::new(alloc, Vec::new(alloc));
     assert_eq!(rt; first_other(alloc, &mut volume, &CALLS), None);
 }

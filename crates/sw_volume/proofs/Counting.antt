@@ -1,5 +1,5 @@
 -- Calls that are counted one by one.
-use Rattle.std.proofs.Common.{◌≡◌, ℕ, zero, suc, ◌+◌, ◌-◌, ◌^◌, ◌≤◌, refl, sym, ◌∙◌, ap, arith}
+use Rattle.std.proofs.Common.{◌≡◌, ℕ, zero, suc, ◌+◌, ◌-◌, ◌^◌, ◌≤◌, refl, ◌∙◌, ap, arith}
 use Rattle.sw_outside.specs.Counts.{raised}
 use Rattle.sw_volume.specs.Volume.{raised_by}
 
