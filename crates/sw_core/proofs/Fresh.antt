@@ -9,7 +9,7 @@ use Rattle.sw_core.specs.Doors.{StandsFor}
 use Rattle.sw_core.specs.Limits.{journal_bytes, journal_entries}
 use Rattle.sw_core.specs.Machine.{empty_history, empty_machine}
 use Rattle.sw_core.specs.Nodes.{Kept, begun}
-use Rattle.sw_core.specs.Shelves.{ShelfState, empty_shelf, shelf_faults, shelf_holds, shelf_tells}
+use Rattle.sw_core.specs.Shelves.{SoundState, empty_sound, sound_faults, sound_holds, sound_tells}
 use Rattle.sw_core.specs.Worlds.{AllNodes, Begins, held_of, lock_of, nodes_of, seen_of, sight_of}
 
 equal-all : {A B : Type 0} (f : A → B) (e : A) (xs : List A) → ((k : ℕ) (d : A) → k < length xs → slice_index_or xs k d ≡ e)
@@ -18,9 +18,9 @@ equal-all f e [] all l = inl refl
 equal-all f e (x ∷ xs) all zero = inr (ap (λ y. Some (f y)) (all zero x (omega arith)))
 equal-all f e (x ∷ xs) all (suc l) = equal-all f e xs (λ k d h. all (suc k) d (omega (arith, h))) l
 
-pub begins : (devices bits : ℕ) (w : AllNodes ShelfState) (shelves : List ShelfState) → w.devices ≡ devices → w.lock_bits ≡ bits → w.nodes ≡ map (begun journal_entries journal_bytes) shelves
-    → ((k : ℕ) (d : ShelfState) → k < length shelves → slice_index_or shelves k d ≡ empty_shelf) → w.lines ≡ []
-    → Begins devices bits (sight_of shelf_tells shelf_holds shelf_faults w)
+pub begins : (devices bits : ℕ) (w : AllNodes SoundState) (shelves : List SoundState) → w.devices ≡ devices → w.lock_bits ≡ bits → w.nodes ≡ map (begun journal_entries journal_bytes) shelves
+    → ((k : ℕ) (d : SoundState) → k < length shelves → slice_index_or shelves k d ≡ empty_sound) → w.lines ≡ []
+    → Begins devices bits (sight_of sound_tells sound_holds sound_faults w)
 begins devices bits w shelves first second over all lines = record {
   nodes = rw (first, second) refl;
   stands = record {
@@ -32,23 +32,23 @@ begins devices bits w shelves first second over all lines = record {
   trail = ap Some lines;
 }
   where
-    node : Kept ShelfState
-    node = begun journal_entries journal_bytes empty_shelf
+    node : Kept SoundState
+    node = begun journal_entries journal_bytes empty_sound
 
     at : (l : ℕ) → (slice_get w.nodes l ≡ None) ⊎ (slice_get w.nodes l ≡ Some node)
-    at l = subst (λ (ns : List (Kept ShelfState)). (slice_get ns l ≡ None) ⊎ (slice_get ns l ≡ Some node)) (sym over) (equal-all (begun journal_entries journal_bytes) empty_shelf shelves all l)
+    at l = subst (λ (ns : List (Kept SoundState)). (slice_get ns l ≡ None) ⊎ (slice_get ns l ≡ Some node)) (sym over) (equal-all (begun journal_entries journal_bytes) empty_sound shelves all l)
 
-    seen : (o : Option (Kept ShelfState)) → (o ≡ None) ⊎ (o ≡ Some node) → seen_of shelf_tells shelf_holds shelf_faults o ≡ empty_history
-    seen o (inl is) = ap (seen_of shelf_tells shelf_holds shelf_faults) is
-    seen o (inr is) = ap (seen_of shelf_tells shelf_holds shelf_faults) is
+    seen : (o : Option (Kept SoundState)) → (o ≡ None) ⊎ (o ≡ Some node) → seen_of sound_tells sound_holds sound_faults o ≡ empty_history
+    seen o (inl is) = ap (seen_of sound_tells sound_holds sound_faults) is
+    seen o (inr is) = ap (seen_of sound_tells sound_holds sound_faults) is
 
-    held : (o : Option (Kept ShelfState)) (hash : Hash) → (o ≡ None) ⊎ (o ≡ Some node) → held_of shelf_holds o hash ≡ state_of []
-    held o hash (inl is) = ap (λ (x : Option (Kept ShelfState)). held_of shelf_holds x hash) is
-    held o hash (inr is) = ap (λ (x : Option (Kept ShelfState)). held_of shelf_holds x hash) is
+    held : (o : Option (Kept SoundState)) (hash : Hash) → (o ≡ None) ⊎ (o ≡ Some node) → held_of sound_holds o hash ≡ state_of []
+    held o hash (inl is) = ap (λ (x : Option (Kept SoundState)). held_of sound_holds x hash) is
+    held o hash (inr is) = ap (λ (x : Option (Kept SoundState)). held_of sound_holds x hash) is
 
-pub begins-ok : {E : Type 0} (devices bits : ℕ) (r : Result (AllNodes ShelfState) E) (shelves : List ShelfState) → IfOk r (λ w. w.nodes ≡ map (begun journal_entries journal_bytes) shelves)
+pub begins-ok : {E : Type 0} (devices bits : ℕ) (r : Result (AllNodes SoundState) E) (shelves : List SoundState) → IfOk r (λ w. w.nodes ≡ map (begun journal_entries journal_bytes) shelves)
     → IfOk r (λ w. (w.devices ≡ devices) × (w.lock_bits ≡ bits)) → IfOk r (λ w. w.lines ≡ [])
-    → ((k : ℕ) (d : ShelfState) → k < length shelves → slice_index_or shelves k d ≡ empty_shelf)
-    → IfOk r (λ w. Begins devices bits (sight_of shelf_tells shelf_holds shelf_faults w))
+    → ((k : ℕ) (d : SoundState) → k < length shelves → slice_index_or shelves k d ≡ empty_sound)
+    → IfOk r (λ w. Begins devices bits (sight_of sound_tells sound_holds sound_faults w))
 begins-ok devices bits (Ok w) shelves over shape lines all = begins devices bits w shelves shape.0 shape.1 over all lines
 begins-ok devices bits (Err e) shelves over shape lines all = tt

@@ -9,3 +9,4 @@ pub mod Standing
 pub mod Steps
 pub mod Stripes
 pub mod Wanting
+pub mod Sound

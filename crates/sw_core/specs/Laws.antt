@@ -89,3 +89,8 @@ RunEnters = (lock : ℕ → Hash → ℕ) (m : Machine) (lines : List RunLine) (
 abbrev pub RunsJoin : Type 0
 RunsJoin = (lock : ℕ → Hash → ℕ) (m : Machine) (lines : List RunLine) (mid : Machine) (more : List RunLine) (after : Machine) → Runs lock m lines mid → Runs lock mid more after
     → Runs lock m (lines ++ more) after
+
+-- where no lock has counted a fault at the end, no step failed
+abbrev pub RunSound : Type 0
+RunSound = (lock : ℕ → Hash → ℕ) (m : Machine) (lines : List RunLine) (after : Machine) → Runs lock m lines after → ((device : ℕ) (hash : Hash) → (after.seen (lock device hash)).faults ≡ 0)
+    → NoneFailed lines

@@ -27,12 +27,24 @@ shelf_holds s = state_at s.states
 abbrev pub shelf_faults : ShelfState → ℕ
 shelf_faults s = s.faults
 
--- a shelf on which nothing stands, and whose calls don't fail
-abbrev pub empty_shelf : ShelfState
-empty_shelf = record { states = []; failing = []; calls = 0; faults = 0 }
-
 -- how a call that adds a write leaves the states where it failed: the write is joined, or isn't. Where it isn't to fail, it has not failed
 abbrev pub GoesAs : Option Bool → (Hash → State) → (Hash → State) → Hash → Write → Type 0
 GoesAs None old new hash write = ⊥
 GoesAs (Some true) old new hash write = new hash ≡ joined (old hash) write
 GoesAs (Some false) old new hash write = (h : Hash) → new h ≡ old h
+
+-- a shelf in memory no call of which fails
+pub record SoundState : Type 0 where
+  pub states : List (Hash × State)  -- what it holds
+
+abbrev pub sound_tells : SoundState → Bool
+sound_tells s = true
+
+abbrev pub sound_holds : SoundState → Hash → State
+sound_holds s = state_at s.states
+
+abbrev pub sound_faults : SoundState → ℕ
+sound_faults s = 0
+
+abbrev pub empty_sound : SoundState
+empty_sound = record { states = [] }

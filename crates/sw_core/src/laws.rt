@@ -1,7 +1,7 @@
 //! Laws of runs. Each function does nothing: its clause is the law.
 
 ghost use Rattle.sw_core.specs.Doors.{ChangeRuns, ReadRuns, RestartRuns};
-ghost use Rattle.sw_core.specs.Laws.{RunEnters, RunFromNothing, RunReaches, RunStands, RunsJoin};
+ghost use Rattle.sw_core.specs.Laws.{RunEnters, RunFromNothing, RunReaches, RunSound, RunStands, RunsJoin};
 
 /// After a run in which no step failed, there have reached what had reached before it, and then what its lines tell.
 pub fn run_reaches()
@@ -41,4 +41,9 @@ pub fn read_runs()
 /// So is a restart.
 pub fn restart_runs()
     ensures { RestartRuns }
+{}
+
+/// Where no lock has counted a fault at the end, no step failed.
+pub fn run_sound()
+    ensures { RunSound }
 {}

@@ -17,6 +17,7 @@ mod lines;
 mod mem_shelf;
 mod node;
 mod shelf;
+mod sound_shelf;
 mod trail;
 mod world;
 
@@ -25,5 +26,6 @@ pub use lines::LineList;
 pub use mem_shelf::MemShelf;
 pub use node::Node;
 pub use shelf::Shelf;
+pub use sound_shelf::SoundShelf;
 pub use trail::{MomentList, Trail};
 pub use world::World;

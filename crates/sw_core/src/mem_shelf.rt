@@ -1,7 +1,7 @@
 ghost use Rattle.std.specs.Prelude.{◌≡◌, ◌≢◌, ◌≤◌, ◌↔◌, ◌⊎◌, true, [], Some, Err, IsSome, IsErr, IfOk, OnOk, OnErr};
 ghost use Rattle.sw_core.specs.Shelves.{ShelfState, shelf_faults, shelf_holds, shelf_tells, GoesAs, state_at};
 ghost use Rattle.sw_outside.specs.Faults as outside;
-ghost use Rattle.sw_outside.specs.Supply.{raised};
+ghost use Rattle.sw_outside.specs.Counts.{raised};
 ghost use Rattle.sw_peer.specs.Journals.{Hash};
 ghost use Rattle.sw_state.specs.States.{joined};
 ghost use Rattle.sw_volume.specs.MemState.{failure_at};

@@ -17,7 +17,9 @@ use std::mem;
 use std::snapshot::Snapshot;
 use sw_hashpath::Name;
 use sw_outside::NoMemory;
-use sw_peer::{Added, Answer, Change, Got, ObjEntry, Outline, standing_expiry, made_answer, refusal};
+use sw_peer::{
+    Added, Answer, Change, Got, ObjEntry, Outline, made_answer, refusal, standing_expiry,
+};
 use sw_state::{Base, Kind, State, Write};
 use sw_volume::VolumeError;
 

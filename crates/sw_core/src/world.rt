@@ -1,7 +1,7 @@
 ghost use Rattle.std.specs.Prelude.{◌≡◌, ◌*◌, ◌<◌, ◌≤◌, ◌^◌, [], length, map, All, IfOk};
 ghost use Rattle.sw_core.specs.Limits.{journal_bytes, journal_entries};
 ghost use Rattle.sw_core.specs.Nodes.{begun};
-ghost use Rattle.sw_core.specs.Shelves.{empty_shelf, shelf_faults, shelf_holds, shelf_tells};
+ghost use Rattle.sw_core.specs.Shelves.{empty_sound, sound_faults, sound_holds, sound_tells};
 ghost use Rattle.sw_core.specs.Worlds.{AreAnew, Begins, lock_of, sight_of, without_lines};
 ghost use Rattle.sw_peer.specs.Sights.{Restarts};
 
@@ -9,9 +9,9 @@ mod door;
 
 use crate::limits::{JOURNAL_BYTES, JOURNAL_ENTRIES};
 use crate::lines::LineList;
-use crate::mem_shelf::MemShelf;
 use crate::node::Node;
 use crate::shelf::Shelf;
+use crate::sound_shelf::SoundShelf;
 use std::alloc::Global;
 use std::marker::Model;
 use std::mem;
@@ -40,12 +40,12 @@ impl<V: Shelf> Model for World<V> {
     ghost invariant = { λ w. IsWorld (record { devices = w.devices; lock_bits = w.lock_bits; nodes = w.nodes.items; lines = w.lines.items }) };
 }
 
-impl World<MemShelf> {
-    /// Nodes in memory, where nothing stands and nothing has happened.
-    pub fn new(alloc: Global, devices: u16, lock_bits: u8) -> Result<World<MemShelf>, NoMemory>
+impl World<SoundShelf> {
+    /// Nodes in memory, where nothing stands and nothing has happened, and whose shelves never fail.
+    pub fn new(alloc: Global, devices: u16, lock_bits: u8) -> Result<World<SoundShelf>, NoMemory>
         requires devices { devices ≤ 256 }
         requires lock_bits { lock_bits ≤ 4 }
-        ensures { IfOk result (λ w. Begins devices lock_bits (sight_of shelf_tells shelf_holds shelf_faults w)) }
+        ensures { IfOk result (λ w. Begins devices lock_bits (sight_of sound_tells sound_holds sound_faults w)) }
     {
         let shelves = empty_shelves(alloc, usize::from(devices) * stripes(lock_bits))?;
         World::open(alloc, devices, lock_bits, shelves)
@@ -54,7 +54,12 @@ impl World<MemShelf> {
 
 impl<V: Shelf> World<V> {
     /// Nodes over these shelves: those of the first device, one a stripe, then those of the next. Each begins with what its shelf holds.
-    pub fn open(alloc: Global, devices: u16, lock_bits: u8, shelves: Vec<V>) -> Result<World<V>, NoMemory>
+    pub fn open(
+        alloc: Global,
+        devices: u16,
+        lock_bits: u8,
+        shelves: Vec<V>,
+    ) -> Result<World<V>, NoMemory>
         requires devices { devices ≤ 256 }
         requires lock_bits { lock_bits ≤ 4 }
         requires shelves { length shelves.items ≡ devices * 2 ^ lock_bits }
@@ -114,13 +119,13 @@ fn stripes(lock_bits: u8) -> usize
     1 << lock_bits
 }
 
-fn empty_shelves(alloc: Global, count: usize) -> Result<Vec<MemShelf>, NoMemory>
+fn empty_shelves(alloc: Global, count: usize) -> Result<Vec<SoundShelf>, NoMemory>
     ensures count { IfOk result (λ shelves. length shelves.items ≡ count) }
-    ensures empty { IfOk result (λ shelves. All (λ shelf. shelf ≡ empty_shelf) shelves.items) }
+    ensures empty { IfOk result (λ shelves. All (λ shelf. shelf ≡ empty_sound) shelves.items) }
 {
     let mut shelves = Vec::with_capacity(alloc, count)?;
     for _ in 0..count {
-        shelves.push(MemShelf::new(alloc, Vec::new(alloc)))?;
+        shelves.push(SoundShelf::new(alloc))?;
     }
     Ok(shelves)
 }

@@ -1,5 +1,5 @@
 use Rattle.sw_core.proofs.Fresh.{begins-ok}
-use Rattle.sw_core.proofs.world.World+MemShelf.new.Goals as goal
+use Rattle.sw_core.proofs.world.World+SoundShelf.new.Goals as goal
 
 pub returns : goal.returns
 returns c =
