@@ -58,9 +58,13 @@ impl From<Failed> for HttpFault {
 /// the sink. Nothing else is ever written.
 ///
 /// `None` comes where the input ended and nothing but CR and LF to be skipped was left. [`HttpFault::Bad`] comes where no front of the
-/// input is a request's text, [`HttpFault::ReadFault`] only where a read failed in this call, and [`HttpFault::WriteFault`] only where
-/// that write failed. Where a read failed before a head was whole, nothing but line ends before it was taken, and the next call goes
-/// on. After the other errors a part of the input may be gone.
+/// input is a request's text.
+///
+/// [`HttpFault::ReadFault`] comes exactly where a read failed. What was held and read till then has no whole request, so no read is made
+/// for what is there; and where a whole head stands in it the client had been told by then what that head asks for. Before a whole head
+/// nothing but line ends was taken, and the next call goes on. [`HttpFault::WriteFault`] comes exactly where the write failed: then that
+/// head and the line ends before it were taken, and nothing else. After [`HttpFault::Bad`], [`HttpFault::NoMemory`] and a read that
+/// failed behind the head a part of the input may be gone.
 ///
 /// A body over [`MAX_BODY`](crate::MAX_BODY) is read to its end and not kept. No more is held than a head and a piece, beside the body.
 pub fn next_request<R: Source, W: Sink>(
