@@ -1,23 +1,20 @@
 -- What an acknowledgement tells, however often the message came.
-use Rattle.std.proofs.Common.{◌≡◌, ℕ, Bool, true, false, List, [], ◌∷◌, ◌++◌, refl, sym, ◌∙◌, ap, subst, ◌⊎◌, inl, inr, Option, Some, None, Result, Ok, Err}
+use Rattle.std.proofs.Common.{◌≡◌, ℕ, Bool, true, false, List, [], ◌∷◌, ◌++◌, refl, sym, ◌∙◌, ap, subst, ◌⊎◌, inl, inr, Result, Ok, Err}
 use Rattle.sw_hashpath.specs.declared.name.Name.{Name}
 use Rattle.sw_peer.proofs.Answering.{refused-held}
-use Rattle.sw_peer.proofs.Calls.{IsStep, calls-moves, comes-moves, made-step}
+use Rattle.sw_peer.proofs.Calls.{calls-moves, comes-moves, made-step}
 use Rattle.sw_peer.proofs.Hashes.{left, left-entered}
-use Rattle.sw_peer.specs.Histories.{Grows, History, StepChanges, stands}
-use Rattle.sw_peer.specs.Journals.{Answers, Hash, Journal, has_settled, left_by, with_entry}
-use Rattle.sw_peer.specs.Sights.{Calls, Comes, IsAt, IsMade, IsSame, Moves, Sight}
-use Rattle.sw_peer.specs.Steps.{is_held, refusal_of}
+use Rattle.sw_peer.specs.Histories.{History, StepChanges, stands}
+use Rattle.sw_peer.specs.Journals.{Answers, Journal, has_settled, left_by, with_entry}
+use Rattle.sw_peer.specs.Sights.{Calls, Comes, IsAt, IsMade, Moves, Sight}
+use Rattle.sw_peer.specs.Steps.{is_held}
 use Rattle.sw_peer.specs.declared.answer.Answer.{Answer}
 use Rattle.sw_peer.specs.declared.answer.Answer.TheVariants as answers
-use Rattle.sw_peer.specs.declared.change.Change.{Change}
 use Rattle.sw_peer.specs.declared.change.Change.TheVariants.{Receive}
-use Rattle.sw_peer.specs.declared.entry.ObjEntry.TheVariants.{Wrote}
-use Rattle.sw_peer.specs.declared.link.Link.{Link}
-use Rattle.sw_peer.specs.declared.link.Link.TheVariants.{Local, Sent}
+use Rattle.sw_peer.specs.declared.link.Link.TheVariants.{Sent}
 use Rattle.sw_peer.specs.declared.link.Lost.{Lost}
 use Rattle.sw_state.proofs.JoinLaws.{comes_again}
-use Rattle.sw_state.specs.States.{joined, state_of, writes_of}
+use Rattle.sw_state.specs.States.{joined}
 use Rattle.sw_state.specs.declared.state.State.{State}
 use Rattle.sw_state.specs.declared.write.Write.{Write}
 use Rattle.sw_door_tests.specs.Sent.{Acknowledged, HeldBy, acknowledges, is_acknowledgement}

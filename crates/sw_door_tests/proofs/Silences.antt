@@ -1,10 +1,10 @@
 -- Steps that change nothing, over nodes of which nothing is known.
-use Rattle.std.proofs.Common.{◌≡◌, ℕ, Bool, true, false, List, [], Option, None, refl, inl, ◌⊎◌, Ok}
+use Rattle.std.proofs.Common.{◌≡◌, ℕ, true, false, [], None, refl, inl, Ok}
 use Rattle.sw_hashpath.specs.declared.name.Name.{Name}
 use Rattle.sw_peer.proofs.Calls.{calls-once, grows-refl, made-step, moves-refl, read-step}
 use Rattle.sw_peer.specs.Histories.{History}
-use Rattle.sw_peer.specs.Journals.{Answers, Hash, Journal}
-use Rattle.sw_peer.specs.Sights.{Calls, IsAt, IsMade, IsRead, Moves, Sight}
+use Rattle.sw_peer.specs.Journals.{Answers}
+use Rattle.sw_peer.specs.Sights.{Calls, IsAt, IsMade, IsRead, Moves}
 use Rattle.sw_peer.specs.declared.answer.Answer.{Answer}
 use Rattle.sw_peer.specs.declared.answer.Answer.TheVariants as answers
 use Rattle.sw_peer.specs.declared.change.Change.{Change}

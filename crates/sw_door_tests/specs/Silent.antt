@@ -1,14 +1,10 @@
 -- A door over nodes of which nothing is known. (This project's own.)
-use Rattle.std.specs.Prelude.{ℕ, Bool, true, false, List, [], Option, None}
-use Rattle.sw_hashpath.specs.declared.place.Place.{Place}
-use Rattle.sw_peer.specs.Halves.{Half, HistoryOf}
-use Rattle.sw_peer.specs.Histories.{History}
-use Rattle.sw_peer.specs.Journals.{Hash}
+use Rattle.std.specs.Prelude.{Bool, true, false, [], None}
+use Rattle.sw_peer.specs.Halves.{HistoryOf}
 use Rattle.sw_peer.specs.Sights.{Nodes, Sight}
 use Rattle.sw_peer.specs.declared.answer.Answer.{Answer}
 use Rattle.sw_peer.specs.declared.answer.Answer.TheVariants as answers
 use Rattle.sw_state.specs.States.{state_of}
-use Rattle.sw_state.specs.declared.state.State.{State}
 
 -- whether the answer says that the step changed nothing
 abbrev pub is_refusal : Answer → Bool

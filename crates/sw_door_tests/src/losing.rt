@@ -1,5 +1,8 @@
 //! What of its messages a door loses and repeats, told by how many steps come to the door inside.
 
+ghost use Rattle.std.specs.Prelude.{◌≡◌, true};
+ghost use Rattle.sw_door_tests.specs.Silent.{is_refusal};
+
 use crate::refusing::Refusing;
 use crate::sending::send;
 use std::alloc::Global;
@@ -39,12 +42,14 @@ fn name(alloc: Global) -> Result<Name, Fail> {
     Ok(Name::new(alloc, &secrets, b"a", b"c", b"o")?)
 }
 
-/// A door around one that refuses: as what stands has the write already, or for another reason.
-fn door(has_write: bool, time: Timestamp, acts: Acts) -> Lossy<Refusing> {
+/// A refusal: as what stands has the write already, or for another reason.
+fn refusal(has_write: bool, time: Timestamp) -> Answer
+    ensures { is_refusal result ≡ true }
+{
     if has_write {
-        Lossy::new(Refusing::new(Answer::Conflict(time)), acts)
+        Answer::Conflict(time)
     } else {
-        Lossy::new(Refusing::new(Answer::Exists), acts)
+        Answer::Exists
     }
 }
 
@@ -132,7 +137,7 @@ fn the_named_messages_are_lost_and_repeated(rt: HostRuntime) -> Result<(), Fail>
     let time = Timestamp::parse(b"5")?;
     for (acts, expected) in ROWS {
         for reads in [false, true] {
-            let mut door = door(true, time, acts);
+            let mut door = Lossy::new(Refusing::new(refusal(true, time)), acts);
             assert!(rt; shows(alloc, &mut door, &name, time, reads, &expected));
         }
     }
@@ -165,7 +170,7 @@ fn what_is_heard_acknowledges_a_write(rt: HostRuntime) -> Result<(), Fail> {
         (twice, false, false),
     ];
     for (acts, has_write, acknowledged) in table {
-        let mut door = door(has_write, time, acts);
+        let mut door = Lossy::new(Refusing::new(refusal(has_write, time)), acts);
         let write = Write {
             time,
             kind: Kind::Del,

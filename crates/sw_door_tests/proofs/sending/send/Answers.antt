@@ -1,4 +1,4 @@
-use Rattle.std.proofs.Common.{◌≡◌, sym, ◌∙◌}
+use Rattle.std.proofs.Common.{sym, ◌∙◌}
 use Rattle.sw_door_tests.proofs.Acknowledging.{sent-has, sent-holds, sent-moves}
 use Rattle.sw_door_tests.proofs.sending.send.Goals as goal
 
