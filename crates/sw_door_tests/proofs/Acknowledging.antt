@@ -20,7 +20,8 @@ use Rattle.sw_state.specs.declared.write.Write.{Write}
 use Rattle.sw_door_tests.specs.Sent.{Acknowledged, HeldBy, acknowledges, is_acknowledgement}
 
 -- an acknowledgement is an entry, or a refusal by what has the write
-held-way : (told : Bool) (s : State) (j : Journal) (name : Name) (w : Write) (a : Answer) (made : Bool) (after : Journal) → is_held (Receive w) a ≡ true → Answers told s j name (Receive w) a made after
+held-way : (told : Bool) (s : State) (j : Journal) (name : Name) (w : Write) (a : Answer) (made : Bool) (after : Journal)
+    → is_held (Receive w) a ≡ true → Answers told s j name (Receive w) a made after
     → ((made ≡ true) × (after ≡ with_entry j name w)) ⊎ ((made ≡ false) × (after ≡ j) × (told ≡ true → joined s w ≡ s))
 held-way told s j name w (answers.Done front) made after held p = inl (p.is_made, p.entered)
 held-way told s j name w (answers.Buried front) made after held p = inl (p.is_made, p.entered)
@@ -34,7 +35,8 @@ held-way told s j name w answers.Failed made after held p = cc
 held-way told s j name w answers.NoMemory made after held p = cc
 
 -- what is known after it has the write
-step-has : (alone : Bool) (h g : History) (s t : State) (name : Name) (w : Write) (a : Answer) → StepChanges alone h s name (Receive w) a g t → is_held (Receive w) a ≡ true → g.told ≡ true
+step-has : (alone : Bool) (h g : History) (s t : State) (name : Name) (w : Write) (a : Answer) → StepChanges alone h s name (Receive w) a g t
+    → is_held (Receive w) a ≡ true → g.told ≡ true
     → joined (stands g name.hash) w ≡ stands g name.hash
 step-has alone h g s t name w a step held told =
     by (held-way step.before.told (stands step.before name.hash) step.before.journal name w a step.made g.journal held step.answered)
@@ -54,7 +56,8 @@ step-has alone h g s t name w a step held told =
         subst (λ (x : State). joined x w ≡ x) (sym is) (same.2 (sym step.after.told ∙ told))
 
 -- and the device holds it, where nobody else changes it
-step-holds : (h g : History) (s t : State) (name : Name) (w : Write) (a : Answer) → StepChanges true h s name (Receive w) a g t → is_held (Receive w) a ≡ true → g.told ≡ true
+step-holds : (h g : History) (s t : State) (name : Name) (w : Write) (a : Answer) → StepChanges true h s name (Receive w) a g t
+    → is_held (Receive w) a ≡ true → g.told ≡ true
     → t ≡ joined s w
 step-holds h g s t name w a step held told =
     by (held-way step.before.told (stands step.before name.hash) step.before.journal name w a step.made g.journal held step.answered)
@@ -84,7 +87,8 @@ step-holds h g s t name w a step held told =
         step.leaves refl told_before ∙ (ap (λ (b : Bool). left_by s (Receive w) b) same.0 ∙ sym has)
 
 -- of a copy that nobody heard: the write, or nothing
-step-either : (h g : History) (s t : State) (name : Name) (w : Write) (a : Answer) → StepChanges true h s name (Receive w) a g t → g.told ≡ true → (t ≡ s) ⊎ (t ≡ joined s w)
+step-either : (h g : History) (s t : State) (name : Name) (w : Write) (a : Answer) → StepChanges true h s name (Receive w) a g t → g.told ≡ true
+    → (t ≡ s) ⊎ (t ≡ joined s w)
 step-either h g s t name w a step told = by step.made refl
   where
     by : (b : Bool) → step.made ≡ b → (t ≡ s) ⊎ (t ≡ joined s w)
@@ -96,17 +100,20 @@ module _ (device : ℕ) (name : Name) (w : Write) (l : ℕ) where
       → StepChanges t.alone (s.objects.seen l) (s.objects.holds device name.hash) name (Receive w) a (t.objects.seen l) (t.objects.holds device name.hash)
   at-lock s t a e p = subst (λ (k : ℕ). StepChanges t.alone (s.objects.seen k) (s.objects.holds device name.hash) name (Receive w) a (t.objects.seen k) (t.objects.holds device name.hash)) e p.step
 
-  kept : (s t : Sight) (a : Answer) → s.nodes.lock device name.hash ≡ l → IsMade Sent device name (Receive w) s a t → t.nodes.lock device name.hash ≡ l
+  kept : (s t : Sight) (a : Answer) → s.nodes.lock device name.hash ≡ l → IsMade Sent device name (Receive w) s a t
+      → t.nodes.lock device name.hash ≡ l
   kept s t a e p = ap (λ n. n.lock device name.hash) p.moves.nodes ∙ e
 
-  pub heard-has : (s : Sight) (xs : List Answer) (a : Answer) (t : Sight) → s.nodes.lock device name.hash ≡ l → Comes (IsMade Sent device name (Receive w)) s (xs ++ a ∷ []) t → is_held (Receive w) a ≡ true
+  pub heard-has : (s : Sight) (xs : List Answer) (a : Answer) (t : Sight) → s.nodes.lock device name.hash ≡ l
+      → Comes (IsMade Sent device name (Receive w)) s (xs ++ a ∷ []) t → is_held (Receive w) a ≡ true
       → (t.objects.seen l).told ≡ true → joined (stands (t.objects.seen l) name.hash) w ≡ stands (t.objects.seen l) name.hash
   heard-has s [] a t e p held =
       subst (λ (x : Sight). (x.objects.seen l).told ≡ true → joined (stands (x.objects.seen l) name.hash) w ≡ stands (x.objects.seen l) name.hash) (sym p.2.same)
       (step-has p.0.alone (s.objects.seen l) ((p.0).objects.seen l) (s.objects.holds device name.hash) ((p.0).objects.holds device name.hash) name w a (at-lock s p.0 a e p.1) held)
   heard-has s (x ∷ xs) a t e p held = heard-has p.0 xs a t (kept s p.0 x e p.1) p.2 held
 
-  pub heard-holds : (s : Sight) (xs : List Answer) (a : Answer) (t : Sight) → s.nodes.lock device name.hash ≡ l → Comes (IsMade Sent device name (Receive w)) s (xs ++ a ∷ []) t → is_held (Receive w) a ≡ true
+  pub heard-holds : (s : Sight) (xs : List Answer) (a : Answer) (t : Sight) → s.nodes.lock device name.hash ≡ l
+      → Comes (IsMade Sent device name (Receive w)) s (xs ++ a ∷ []) t → is_held (Receive w) a ≡ true
       → t.alone ≡ true → (t.objects.seen l).told ≡ true → t.objects.holds device name.hash ≡ joined (s.objects.holds device name.hash) w
   heard-holds s [] a t e p held =
       subst (λ (x : Sight). x.alone ≡ true → (x.objects.seen l).told ≡ true → x.objects.holds device name.hash ≡ joined (s.objects.holds device name.hash) w) (sym p.2.same)
@@ -125,12 +132,14 @@ module _ (device : ℕ) (name : Name) (w : Write) (l : ℕ) where
       one was mid now (inr made) is = is ∙ (ap (λ (x : State). joined x w) made ∙ comes_again was w)
 
 -- an acknowledgement over any door
-pub acknowledged-has : (device : ℕ) (name : Name) (w : Write) (s t : Sight) (a : Answer) → Calls (IsMade Sent device name (Receive w)) s Sent (Ok a) t → is_held (Receive w) a ≡ true → Acknowledged t device name.hash w
+pub acknowledged-has : (device : ℕ) (name : Name) (w : Write) (s t : Sight) (a : Answer)
+    → Calls (IsMade Sent device name (Receive w)) s Sent (Ok a) t → is_held (Receive w) a ≡ true → Acknowledged t device name.hash w
 acknowledged-has device name w s t a p held =
     let frame = comes-moves (Moves (IsAt device name.hash)) (IsMade Sent device name (Receive w)) (made-step Sent device name (Receive w)) s (p.0 ++ a ∷ []) t p.2 in
     heard-has device name w (t.nodes.lock device name.hash) s p.0 a t (sym (ap (λ n. n.lock device name.hash) frame.nodes)) p.2 held
 
-pub acknowledged-holds : (device : ℕ) (name : Name) (w : Write) (s t : Sight) (a : Answer) → Calls (IsMade Sent device name (Receive w)) s Sent (Ok a) t → is_held (Receive w) a ≡ true → HeldBy s t device name.hash w
+pub acknowledged-holds : (device : ℕ) (name : Name) (w : Write) (s t : Sight) (a : Answer)
+    → Calls (IsMade Sent device name (Receive w)) s Sent (Ok a) t → is_held (Receive w) a ≡ true → HeldBy s t device name.hash w
 acknowledged-holds device name w s t a p held =
     let frame = comes-moves (Moves (IsAt device name.hash)) (IsMade Sent device name (Receive w)) (made-step Sent device name (Receive w)) s (p.0 ++ a ∷ []) t p.2 in
     heard-holds device name w (t.nodes.lock device name.hash) s p.0 a t (sym (ap (λ n. n.lock device name.hash) frame.nodes)) p.2 held
@@ -147,13 +156,16 @@ acknowledged-held w (answers.Damaged bad) is = cc
 acknowledged-held w answers.Failed is = cc
 acknowledged-held w answers.NoMemory is = cc
 
-pub sent-has : (device : ℕ) (name : Name) (w : Write) (s t : Sight) (r : Result Answer Lost) → Calls (IsMade Sent device name (Receive w)) s Sent r t → acknowledges r ≡ true → Acknowledged t device name.hash w
+pub sent-has : (device : ℕ) (name : Name) (w : Write) (s t : Sight) (r : Result Answer Lost)
+    → Calls (IsMade Sent device name (Receive w)) s Sent r t → acknowledges r ≡ true → Acknowledged t device name.hash w
 sent-has device name w s t (Ok a) p is = acknowledged-has device name w s t a p (acknowledged-held w a is)
 sent-has device name w s t (Err lost) p is = cc
 
-pub sent-holds : (device : ℕ) (name : Name) (w : Write) (s t : Sight) (r : Result Answer Lost) → Calls (IsMade Sent device name (Receive w)) s Sent r t → acknowledges r ≡ true → HeldBy s t device name.hash w
+pub sent-holds : (device : ℕ) (name : Name) (w : Write) (s t : Sight) (r : Result Answer Lost)
+    → Calls (IsMade Sent device name (Receive w)) s Sent r t → acknowledges r ≡ true → HeldBy s t device name.hash w
 sent-holds device name w s t (Ok a) p is = acknowledged-holds device name w s t a p (acknowledged-held w a is)
 sent-holds device name w s t (Err lost) p is = cc
 
-pub sent-moves : (device : ℕ) (name : Name) (w : Write) (s t : Sight) (r : Result Answer Lost) → Calls (IsMade Sent device name (Receive w)) s Sent r t → Moves (IsAt device name.hash) s t
+pub sent-moves : (device : ℕ) (name : Name) (w : Write) (s t : Sight) (r : Result Answer Lost)
+    → Calls (IsMade Sent device name (Receive w)) s Sent r t → Moves (IsAt device name.hash) s t
 sent-moves device name w s t r p = calls-moves (Moves (IsAt device name.hash)) (IsMade Sent device name (Receive w)) (made-step Sent device name (Receive w)) s Sent r t p

@@ -35,7 +35,8 @@ unmade s name change answers.NoMemory is = record { not_made = refl; same = refl
 unfailed : (a : Answer) → is_refusal a ≡ true → a ≡ answers.Failed → ⊥
 unfailed a is failed = no (rw failed at is)
 
-refused-step : (link : Link) (device : ℕ) (name : Name) (change : Change) (a : Answer) → is_refusal a ≡ true → IsMade link device name change silent a silent
+refused-step : (link : Link) (device : ℕ) (name : Name) (change : Change) (a : Answer) → is_refusal a ≡ true
+    → IsMade link device name change silent a silent
 refused-step link device name change a is = record {
   moves = moves-refl (IsAt device name.hash) silent;
   step = record {
@@ -55,7 +56,8 @@ refused-step link device name change a is = record {
   trail = inl refl;
 }
 
-pub refused-call : (link : Link) (device : ℕ) (name : Name) (change : Change) (a : Answer) → is_refusal a ≡ true → Calls (IsMade link device name change) silent link (Ok a) silent
+pub refused-call : (link : Link) (device : ℕ) (name : Name) (change : Change) (a : Answer) → is_refusal a ≡ true
+    → Calls (IsMade link device name change) silent link (Ok a) silent
 refused-call link device name change a is =
     calls-once (Moves (IsAt device name.hash)) (IsMade link device name change) (made-step link device name change) silent silent link a
     (refused-step link device name change a is)
