@@ -1,5 +1,5 @@
 -- A device whose nodes begin anew.
-use Rattle.std.proofs.Common.{◌≡◌, ◌≢◌, ℕ, zero, suc, ◌+◌, ◌*◌, ◌%◌, ◌^◌, ◌<◌, ◌≤◌, Bool, true, false, ◌==◌, List, [], ◌∷◌, length, refl, sym, ◌∙◌, ap, subst, arith, Option, Some, None, ◌⊎◌, inl, inr, slice_set, length-set}
+use Rattle.std.proofs.Common.{◌≡◌, ◌≢◌, ℕ, zero, suc, ◌+◌, ◌*◌, ◌%◌, ◌^◌, ◌<◌, ◌≤◌, Bool, true, false, ◌==◌, List, [], ◌∷◌, length, refl, sym, ◌∙◌, ap, subst, arith, Option, Some, ◌⊎◌, inl, inr, slice_set, length-set}
 use Rattle.std.specs.List.{slice_get}
 use Rattle.std.proofs.lemmas.Bool.{cases_lt}
 use Rattle.std.proofs.lemmas.Bool.Decides.{nat_tests}
@@ -7,13 +7,11 @@ use Rattle.std.proofs.Math.Nat.{mul-le-mul_right, suc-mul}
 use Rattle.std.proofs.lemmas.Nat.{rows}
 use borrow.Author.Tests.{eqb-true, eqb-false}
 use Rattle.sw_hashpath.specs.HashParts.{stripe_of}
-use Rattle.sw_peer.specs.Histories.{History}
 use Rattle.sw_peer.specs.Journals.{Hash}
 use Rattle.sw_peer.specs.Sights.{Restarts}
-use Rattle.sw_peer.specs.declared.line.Line.{Line}
 use Rattle.sw_state.specs.declared.state.State.{State}
 use Rattle.sw_core.proofs.Placed.{slice_get-set_other, slice_get-set_same, stripe-below}
-use Rattle.sw_core.specs.Nodes.{Kept, anew, history_of}
+use Rattle.sw_core.specs.Nodes.{Kept, anew}
 use Rattle.sw_core.specs.Worlds.{AllNodes, AreAnew, IsWorld, held_of, lock_of, seen_of, sight_of}
 
 module _ {V : Type 0} (tells : V → Bool) (first : ℕ) (nodes : List (Kept V)) where

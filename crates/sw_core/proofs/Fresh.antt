@@ -1,16 +1,14 @@
 -- Nodes in which nothing has happened.
-use Rattle.std.proofs.Common.{◌≡◌, ℕ, zero, suc, ◌<◌, Bool, true, List, [], ◌∷◌, length, map, refl, sym, ◌∙◌, ap, subst, arith, Option, Some, None, ◌⊎◌, inl, inr, slice_index_or, Result, Ok, Err, IfOk}
+use Rattle.std.proofs.Common.{◌≡◌, ℕ, zero, suc, ◌<◌, List, [], ◌∷◌, length, map, refl, sym, ap, subst, arith, Option, Some, None, ◌⊎◌, inl, inr, slice_index_or, Result, Ok, Err, IfOk}
 use Rattle.std.specs.List.{slice_get}
 use Rattle.sw_peer.specs.Histories.{History}
 use Rattle.sw_peer.specs.Journals.{Hash}
 use Rattle.sw_state.specs.States.{state_of}
-use Rattle.sw_state.specs.declared.state.State.{State}
-use Rattle.sw_core.specs.Doors.{StandsFor}
 use Rattle.sw_core.specs.Limits.{journal_bytes, journal_entries}
-use Rattle.sw_core.specs.Machine.{empty_history, empty_machine}
+use Rattle.sw_core.specs.Machine.{empty_history}
 use Rattle.sw_core.specs.Nodes.{Kept, begun}
 use Rattle.sw_core.specs.Shelves.{SoundState, empty_sound, sound_faults, sound_holds, sound_tells}
-use Rattle.sw_core.specs.Worlds.{AllNodes, Begins, held_of, lock_of, nodes_of, seen_of, sight_of}
+use Rattle.sw_core.specs.Worlds.{AllNodes, Begins, held_of, lock_of, seen_of, sight_of}
 
 equal-all : {A B : Type 0} (f : A → B) (e : A) (xs : List A) → ((k : ℕ) (d : A) → k < length xs → slice_index_or xs k d ≡ e)
     → (l : ℕ) → (slice_get (map f xs) l ≡ None) ⊎ (slice_get (map f xs) l ≡ Some (f e))

@@ -4,6 +4,7 @@ pub mod Maps
 pub mod Placed
 pub mod Reaching
 pub mod Recasts
+pub mod Running
 pub mod Sessions
 pub mod Standing
 pub mod Steps

@@ -1,5 +1,5 @@
 -- Ordered maps by hash, read by the hash.
-use Rattle.std.proofs.Common.{◌≡◌, ◌≢◌, ℕ, refl, sym, ◌∙◌, ap, subst, Bool, true, false, List, [], ◌∷◌, Option, Some, None, Result, Ok, Err, IfOk}
+use Rattle.std.proofs.Common.{◌≡◌, ◌≢◌, refl, sym, ◌∙◌, ap, subst, false, List, [], ◌∷◌, Option, Some, Result, Ok, Err, IfOk}
 use Rattle.std.proofs.lemmas.Map.Text.{is_eq-slice_cmp}
 use Rattle.std.specs.BTreeMap.{BTreeMap, UpdatesBy, WritesThrough, get_by}
 use Rattle.std.specs.Cmp.Lexicographic.{slice_cmp}

@@ -1,5 +1,5 @@
 -- A step at one node, as the world tells it.
-use Rattle.std.proofs.Common.{◌≡◌, ◌≢◌, ℕ, ◌+◌, ◌*◌, ◌/◌, ◌%◌, ◌^◌, ◌<◌, ◌≤◌, Bool, true, false, ◌==◌, List, [], ◌∷◌, ◌++◌, length, refl, sym, ◌∙◌, ap, subst, arith, Option, Some, None, ◌⊎◌, inl, inr, slice_set, length-set}
+use Rattle.std.proofs.Common.{◌≡◌, ◌≢◌, ℕ, ◌%◌, ◌^◌, ◌<◌, ◌≤◌, Bool, true, false, ◌==◌, List, [], ◌∷◌, ◌++◌, length, refl, sym, ◌∙◌, ap, subst, arith, Option, Some, ◌⊎◌, inl, inr, slice_set, length-set}
 use Rattle.std.specs.List.{slice_get}
 use Rattle.std.proofs.lemmas.Option.{slice_get-get_or, slice_get_within, slice_get_past}
 use Rattle.std.proofs.lemmas.List.{get_or-set_same, get_or-set_other}
@@ -12,10 +12,9 @@ use Rattle.sw_hashpath.specs.declared.name.Name.{Name}
 use Rattle.sw_peer.proofs.Calls.{grows-refl, grows-trans}
 use Rattle.sw_peer.specs.Histories.{Grows, History, StepChanges, StepReads, is_shown, stands}
 use Rattle.sw_peer.specs.Journals.{Hash, Shows}
-use Rattle.sw_peer.specs.Sights.{IsAt, IsMade, IsRead, Moves, Trails, is_wanting, is_wanting_read}
+use Rattle.sw_peer.specs.Sights.{IsAt, IsMade, IsRead, Moves}
 use Rattle.sw_peer.specs.declared.answer.Answer.{Answer}
 use Rattle.sw_peer.specs.declared.change.Change.{Change}
-use Rattle.sw_peer.specs.declared.entry.ObjEntry.{ObjEntry}
 use Rattle.sw_peer.specs.declared.got.Got.{Got}
 use Rattle.sw_peer.specs.declared.got.Got.TheVariants as gots
 use Rattle.sw_peer.specs.declared.line.Event.TheVariants.{Changed, Read}
@@ -24,7 +23,7 @@ use Rattle.sw_peer.specs.declared.link.Link.{Link}
 use Rattle.sw_state.specs.declared.state.State.{State}
 use Rattle.sw_core.proofs.Recasts.{recast, recast-read}
 use Rattle.sw_core.specs.Nodes.{Kept, history_of}
-use Rattle.sw_core.specs.Worlds.{AllNodes, held_of, lock_of, nodes_of, seen_of, sight_of}
+use Rattle.sw_core.specs.Worlds.{AllNodes, held_of, lock_of, seen_of, sight_of}
 
 pub slice_get-set_same : {X : Type 0} (xs : List X) (i : ℕ) (x : X) → i < length xs → slice_get (slice_set xs i x) i ≡ Some x
 slice_get-set_same xs i x h =

@@ -1,9 +1,9 @@
 -- Why a run without failures reaches what its lines tell.
-use Rattle.std.proofs.Common.{◌≡◌, ◌≢◌, ℕ, ◌+◌, ◌≤◌, Bool, true, false, ◌&&◌, nat_eq, List, [], ◌∷◌, ◌++◌, length, bytes_eq, refl, sym, ◌∙◌, ap, subst, arith, append_assoc, ◌⊎◌, inl, inr, if◌then◌else◌}
+use Rattle.std.proofs.Common.{◌≡◌, ◌≢◌, ℕ, ◌≤◌, Bool, true, false, ◌&&◌, nat_eq, List, [], ◌∷◌, ◌++◌, length, bytes_eq, refl, sym, ◌∙◌, ap, subst, arith, append_assoc, ◌⊎◌, inl, inr, if◌then◌else◌}
 use Rattle.std.proofs.lemmas.List.{append-nil, append_cancel_left}
 use Rattle.std.proofs.lemmas.Bool.{eq-eqb, eqb-true}
 use Rattle.sw_hashpath.specs.declared.name.Name.{Name}
-use Rattle.sw_peer.specs.Histories.{History, OnlySettles, StepChanges, StepReads, stands}
+use Rattle.sw_peer.specs.Histories.{History, OnlySettles, StepChanges, stands}
 use Rattle.sw_peer.specs.Journals.{Answers, Hash, Journal, Settles, with_entry, written}
 use Rattle.sw_peer.specs.Steps.{write_of}
 use Rattle.sw_peer.specs.declared.answer.Answer.{Answer}
@@ -11,15 +11,14 @@ use Rattle.sw_peer.specs.declared.answer.Answer.TheVariants as answers
 use Rattle.sw_peer.specs.declared.change.Change.{Change}
 use Rattle.sw_peer.specs.declared.entry.ObjEntry.{ObjEntry}
 use Rattle.sw_peer.specs.declared.entry.ObjEntry.TheVariants.{Wrote}
-use Rattle.sw_peer.specs.declared.got.Got.{Got}
 use Rattle.sw_peer.specs.declared.line.Event.{Event}
 use Rattle.sw_peer.specs.declared.line.Event.TheVariants.{Changed, Read}
 use Rattle.sw_peer.specs.declared.line.Line.{Line}
 use Rattle.sw_state.specs.States.{state_of}
 use Rattle.sw_state.specs.declared.state.State.{State}
 use Rattle.sw_state.specs.declared.write.Write.{Write}
-use Rattle.sw_core.specs.Laws.{NoDoubts, NoneFailed, NoneRestarted, RunEnters, RunFromNothing, RunReaches, RunStands, RunsJoin, entered_by, has_failed, hash_in, is_failed, told_by}
-use Rattle.sw_core.specs.Machine.{Came, Machine, MachineComes, MachineMakes, MachineReads, MachineRestarts, Restarted, RunLine, Runs, Steps, Went, empty_machine, made_writes, reached_with, state}
+use Rattle.sw_core.specs.Laws.{NoDoubts, NoneFailed, RunEnters, RunFromNothing, RunReaches, RunStands, RunsJoin, entered_by, has_failed, hash_in, is_failed, told_by}
+use Rattle.sw_core.specs.Machine.{Came, Machine, MachineComes, MachineRestarts, Restarted, RunLine, Runs, Went, empty_machine, made_writes, reached_with, state}
 
 empty : {A : Type 0} (xs : List A) → length xs ≤ 0 → xs ≡ []
 empty [] h = refl

@@ -1,5 +1,5 @@
 -- The same step, of equal histories and states. The records are written anew, so that their fields stay what they are.
-use Rattle.std.proofs.Common.{◌≡◌, ◌≤◌, Bool, true, List, [], ◌++◌, length, sym, ◌∙◌, ap, subst}
+use Rattle.std.proofs.Common.{◌≡◌, Bool, true, [], ◌++◌, length, sym, ◌∙◌, ap, subst}
 use Rattle.sw_hashpath.specs.declared.name.Name.{Name}
 use Rattle.sw_outside.specs.Faults.{HasRisen}
 use Rattle.sw_peer.specs.Histories.{Grows, History, OnlySettles, StepChanges, StepReads, stands}

@@ -1,12 +1,11 @@
 -- What a session knows of a door that is alone, call by call: the lines that the door kept are a run of the machine, and the door stands
 -- for the machine after it.
-use Rattle.std.proofs.Common.{◌≡◌, ℕ, ◌≤◌, Bool, true, false, List, [], ◌∷◌, ◌++◌, map, refl, sym, ◌∙◌, ap, subst, Option, Some, None, Result, Ok, Err, ◌⊎◌, inl, inr}
+use Rattle.std.proofs.Common.{◌≡◌, ℕ, true, List, [], ◌∷◌, ◌++◌, map, refl, sym, ◌∙◌, ap, subst, Some, Ok, Err, ◌⊎◌, inl, inr}
 use Rattle.std.proofs.lemmas.List.{map-append}
 use Rattle.std.specs.Option.{option_map}
 use Rattle.sw_hashpath.specs.declared.name.Name.{Name}
-use Rattle.sw_peer.specs.Histories.{History}
 use Rattle.sw_peer.specs.Journals.{Hash}
-use Rattle.sw_peer.specs.Sights.{Calls, Comes, IsMade, IsRead, IsSame, Nodes, Restarts, Sight, is_wanting, is_wanting_read}
+use Rattle.sw_peer.specs.Sights.{Calls, Comes, IsMade, IsRead, IsSame, Nodes, Sight, is_wanting, is_wanting_read}
 use Rattle.sw_peer.specs.declared.answer.Answer.{Answer}
 use Rattle.sw_peer.specs.declared.change.Change.{Change}
 use Rattle.sw_peer.specs.declared.got.Got.{Got}

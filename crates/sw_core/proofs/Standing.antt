@@ -1,17 +1,15 @@
 -- Why a door that is alone runs the machine.
-use Rattle.std.proofs.Common.{◌≡◌, ◌≢◌, ℕ, ◌≤◌, Bool, true, false, ◌&&◌, nat_eq, List, [], ◌∷◌, ◌++◌, bytes_eq, refl, sym, ◌∙◌, ap, subst, if◌then◌else◌}
+use Rattle.std.proofs.Common.{◌≡◌, ◌≢◌, ℕ, ◌≤◌, Bool, true, false, ◌&&◌, nat_eq, List, ◌++◌, bytes_eq, refl, sym, ◌∙◌, ap, subst, if◌then◌else◌}
 use Rattle.std.proofs.lemmas.List.{append-nil}
 use Rattle.std.proofs.lemmas.Bool.{eq-eqb, eqb-true}
 use Rattle.sw_hashpath.specs.declared.name.Name.{Name}
-use Rattle.sw_outside.specs.Faults.{HasRisen}
 use Rattle.sw_peer.proofs.Hashes.{hash-same, hash-self}
-use Rattle.sw_peer.specs.Histories.{Grows, History, OnlySettles, StepChanges, StepReads}
+use Rattle.sw_peer.specs.Histories.{History}
 use Rattle.sw_peer.specs.Journals.{Hash, left_by}
 use Rattle.sw_peer.specs.Steps.{write_of}
-use Rattle.sw_peer.specs.Sights.{IsAt, IsMade, IsRead, Nodes, Restarts, Sight}
+use Rattle.sw_peer.specs.Sights.{IsAt, IsMade, Nodes, Sight}
 use Rattle.sw_peer.specs.declared.answer.Answer.{Answer}
 use Rattle.sw_peer.specs.declared.change.Change.{Change}
-use Rattle.sw_peer.specs.declared.got.Got.{Got}
 use Rattle.sw_peer.specs.declared.link.Link.{Link}
 use Rattle.sw_state.proofs.StateLaws.{joins_one_more}
 use Rattle.sw_state.specs.States.{state_of}
@@ -19,7 +17,7 @@ use Rattle.sw_state.specs.declared.state.State.{State}
 use Rattle.sw_state.specs.declared.write.Write.{Write}
 use Rattle.sw_core.proofs.Recasts.{recast, recast-read}
 use Rattle.sw_core.specs.Doors.{ChangeRuns, ReadRuns, RestartRuns, StandsFor}
-use Rattle.sw_core.specs.Machine.{Machine, MachineMakes, MachineReads, MachineRestarts, made_writes, reached_with, state}
+use Rattle.sw_core.specs.Machine.{Machine, MachineMakes, made_writes, reached_with, state}
 
 -- what told goes on telling
 told-on : (s t : Sight) → t.nodes ≡ s.nodes → ((l : ℕ) → (t.objects.seen l).told ≡ (s.objects.seen l).told) → ((d : ℕ) (k : Hash) → (s.objects.seen (s.nodes.lock d k)).told ≡ true)

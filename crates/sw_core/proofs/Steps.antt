@@ -1,5 +1,5 @@
 -- How a node keeps what it promises, over plain histories and states.
-use Rattle.std.proofs.Common.{◌≡◌, ◌≢◌, ℕ, ◌+◌, ◌-◌, ◌<◌, ◌≤◌, Bool, true, false, not, List, [], ◌∷◌, ◌++◌, length, refl, sym, ◌∙◌, ap, subst, arith, append_assoc, length-append, nat_le, ◌&&◌, Option, Some, None, ◌⊎◌, inl, inr, option_to_list, if◌then◌else◌}
+use Rattle.std.proofs.Common.{◌≡◌, ◌≢◌, ℕ, ◌+◌, ◌-◌, ◌≤◌, Bool, true, false, not, List, [], ◌∷◌, ◌++◌, length, refl, sym, ◌∙◌, ap, subst, arith, append_assoc, length-append, nat_le, ◌&&◌, Option, Some, None, ◌⊎◌, inl, inr}
 use Rattle.std.proofs.lemmas.List.{append-nil}
 use Rattle.std.specs.Str.{bytes_eq}
 use Rattle.sw_hashpath.specs.declared.name.Name.{Name}
@@ -15,8 +15,7 @@ use Rattle.sw_peer.proofs.Answering.{is_refusal, refusals}
 use Rattle.sw_peer.proofs.Calls.{grows-refl, grows-trans}
 use Rattle.sw_peer.proofs.Hashes.{bodies-append, hash-apart, hash-same, left, left-apart, left-entered, written-append, written-other}
 use Rattle.sw_peer.specs.Histories.{Grows, History, OnlySettles, is_shown, StepChanges, StepReads, stands}
-use Rattle.sw_peer.specs.Halves.{Leaves}
-use Rattle.sw_peer.specs.Journals.{Answers, Doubts, Hash, Journal, Settles, Shows, bodies, body_size, has_room, has_settled, left_by, with_doubt, with_entry, written}
+use Rattle.sw_peer.specs.Journals.{Answers, Hash, Journal, Settles, Shows, bodies, body_size, has_room, has_settled, left_by, with_doubt, with_entry, written}
 use Rattle.std.proofs.lemmas.Bool.Decides.{nat_tests}
 use Rattle.sw_peer.specs.Outlines.{standing_expiry, has_object, outline_of}
 use Rattle.sw_peer.specs.declared.outline.Outline.{Outline}

@@ -1,5 +1,5 @@
 -- A step that wants memory before it is made.
-use Rattle.std.proofs.Common.{◌≡◌, ◌<◌, ◌≤◌, ◌+◌, ℕ, Bool, true, false, List, [], refl, sym, ap, subst, arith, Result, Ok, Err, OnOk, inr}
+use Rattle.std.proofs.Common.{◌≡◌, ◌<◌, ◌≤◌, ◌+◌, ℕ, Bool, true, false, List, [], refl, sym, arith, Result, Ok, Err, OnOk, inr}
 use Rattle.std.specs.Result.{is_err}
 use Rattle.std.proofs.lemmas.List.{append-nil}
 use Rattle.sw_hashpath.specs.declared.name.Name.{Name}

@@ -6,7 +6,6 @@ use Rattle.sw_peer.specs.declared.answer.Answer.TheVariants as answers
 use Rattle.sw_peer.specs.declared.entry.ObjEntry.{ObjEntry}
 use Rattle.sw_peer.specs.declared.line.Event.{Event}
 use Rattle.sw_peer.specs.declared.line.Event.TheVariants.{Changed, Read}
-use Rattle.sw_peer.specs.declared.line.Line.{Line}
 use Rattle.sw_state.specs.States.{state_of}
 use Rattle.sw_state.specs.declared.write.Write.{Write}
 use Rattle.sw_core.specs.Machine.{Came, Machine, Restarted, RunLine, Runs, Went, empty_machine, state}

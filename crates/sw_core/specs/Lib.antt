@@ -4,4 +4,5 @@ pub mod Limits
 pub mod Machine
 pub mod Nodes
 pub mod Shelves
+pub mod Stepping
 pub mod Worlds

@@ -1,6 +1,6 @@
 -- The machine: what reached every device, what the journals of its locks have, and the messages that were ever sent. (This project's
 -- own; the answers are those of OpenStack Swift's object server, as `sw_peer` has them.)
-use Rattle.std.specs.Prelude.{◌≡◌, ◌≢◌, ⊤, ℕ, ◌≤◌, Bool, true, false, ◌&&◌, List, [], ◌∷◌, ◌++◌, nat_eq, if◌then◌else◌, Contains}
+use Rattle.std.specs.Prelude.{◌≡◌, ◌≢◌, ⊤, ℕ, ◌≤◌, Bool, true, ◌&&◌, List, [], ◌∷◌, ◌++◌, nat_eq, if◌then◌else◌, Contains}
 use Rattle.std.specs.Str.{bytes_eq}
 use Rattle.sw_core.specs.Limits.{empty_journal}
 use Rattle.sw_hashpath.specs.declared.name.Name.{Name}

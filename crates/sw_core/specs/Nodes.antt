@@ -1,5 +1,5 @@
 -- What contracts see of a node.
-use Rattle.std.specs.Prelude.{◌≡◌, ◌≢◌, ℕ, ◌+◌, ◌≤◌, Bool, true, not, List, [], ◌∷◌, length, Option, ◌⊎◌, option_to_list}
+use Rattle.std.specs.Prelude.{◌≡◌, ◌≢◌, ℕ, ◌+◌, ◌≤◌, Bool, true, not, List, [], ◌∷◌, ◌⊎◌}
 use Rattle.sw_peer.specs.Histories.{History, stands}
 use Rattle.sw_peer.specs.Journals.{Hash, Journal, bodies}
 use Rattle.sw_peer.specs.declared.entry.ObjEntry.{ObjEntry}

@@ -5,7 +5,6 @@ use Rattle.sw_core.specs.Doors.{StandsFor}
 use Rattle.sw_core.specs.Machine.{empty_history, empty_machine}
 use Rattle.sw_core.specs.Nodes.{Kept, anew, history_of}
 use Rattle.sw_hashpath.specs.HashParts.{stripe_of}
-use Rattle.sw_hashpath.specs.declared.name.Name.{Name}
 use Rattle.sw_hashpath.specs.declared.place.Place.{Place}
 use Rattle.sw_peer.specs.Halves.{HistoryOf}
 use Rattle.sw_peer.specs.Histories.{History}

@@ -1,4 +1,4 @@
-use Rattle.std.proofs.Common.{◌≡◌, Some, None, refl, ◌∙◌, sym, ap}
+use Rattle.std.proofs.Common.{Some, None, ◌∙◌, ap}
 use Rattle.sw_core.proofs.Maps.{copied, finds}
 use Rattle.sw_core.proofs.mem_shelf.MemShelf.find.Goals as goal
 

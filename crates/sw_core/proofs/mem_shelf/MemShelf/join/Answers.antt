@@ -1,6 +1,5 @@
-use Rattle.std.proofs.Common.{◌≡◌, Some, None, refl, ◌∙◌, sym, ap}
+use Rattle.std.proofs.Common.{Some, None, ◌∙◌, ap}
 use Rattle.sw_state.specs.States.{joined}
-use Rattle.sw_core.specs.Shelves.{ShelfState, state_at}
 use Rattle.sw_core.proofs.Maps.{finds, sets, sets-others, lends}
 use Rattle.sw_core.proofs.mem_shelf.MemShelf.join.Goals as goal
 

@@ -1,4 +1,4 @@
-use Rattle.std.proofs.Common.{◌≡◌, refl, sym, ◌∙◌, inl}
+use Rattle.std.proofs.Common.{◌≡◌, refl, inl}
 use Rattle.sw_peer.specs.declared.answer.Answer.TheVariants as answers
 use Rattle.sw_core.specs.Nodes.{history_of}
 use Rattle.sw_core.proofs.Steps.{after-settling, unsettled}

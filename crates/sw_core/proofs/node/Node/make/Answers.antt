@@ -1,9 +1,7 @@
-use Rattle.std.proofs.Common.{◌≡◌, ◌≤◌, ◌+◌, Bool, true, false, List, [], ◌∷◌, ◌++◌, Option, Some, None, refl, sym, ◌∙◌, ap, subst, arith, inl, inr, ◌⊎◌, nat_le, length, option_to_list}
+use Rattle.std.proofs.Common.{◌≡◌, ◌≤◌, ◌+◌, true, List, [], ◌∷◌, ◌++◌, Some, None, refl, sym, ◌∙◌, ap, subst, arith, inl, ◌⊎◌, nat_le, length, option_to_list}
 use Rattle.sw_peer.proofs.Answering.{answers-entered, answers-refused, allowed-new}
-use Rattle.sw_peer.specs.Journals.{Journal, body_size, has_room, with_entry}
+use Rattle.sw_peer.specs.Journals.{body_size, has_room, with_entry}
 use Rattle.sw_peer.specs.Steps.{made_answer, refusal_of, write_of}
-use Rattle.sw_hashpath.specs.declared.name.Name.{Name}
-use Rattle.sw_peer.specs.declared.answer.Answer.{Answer}
 use Rattle.sw_peer.specs.declared.answer.Answer.TheVariants as answers
 use Rattle.sw_peer.specs.declared.entry.ObjEntry.{ObjEntry}
 use Rattle.sw_peer.specs.declared.entry.ObjEntry.TheVariants.{Wrote}

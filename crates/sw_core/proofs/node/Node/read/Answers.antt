@@ -1,7 +1,5 @@
-use Rattle.std.proofs.Common.{◌≡◌, ◌≤◌, ◌+◌, Bool, true, false, List, [], ◌∷◌, ◌++◌, Option, Some, None, refl, sym, ◌∙◌, ap, subst, arith, inl, inr, length, option_to_list}
-use Rattle.sw_peer.specs.declared.entry.ObjEntry.{ObjEntry}
+use Rattle.std.proofs.Common.{◌≡◌, [], sym, ◌∙◌, ap, length, option_to_list}
 use Rattle.sw_core.specs.Nodes.{Kept, history_of}
-use Rattle.std.specs.Prelude.{⊤}
 use Rattle.sw_peer.proofs.Answering.{shows-got}
 use Rattle.sw_peer.specs.Histories.{stands}
 use Rattle.sw_peer.specs.Steps.{got_of}

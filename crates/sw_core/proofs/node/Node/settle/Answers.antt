@@ -1,6 +1,5 @@
-use Rattle.std.proofs.Common.{◌≡◌, ◌≤◌, ◌+◌, Bool, true, false, List, [], ◌∷◌, ◌++◌, Option, Some, None, refl, sym, ◌∙◌, ap, subst, arith, inl, inr, length, option_to_list}
-use Rattle.sw_peer.specs.declared.entry.ObjEntry.{ObjEntry}
-use Rattle.sw_core.specs.Nodes.{Kept, history_of}
+use Rattle.std.proofs.Common.{◌≡◌, [], ◌∷◌, ◌++◌, refl, sym, ◌∙◌, ap, option_to_list}
+use Rattle.sw_core.specs.Nodes.{Kept}
 use Rattle.sw_core.proofs.Steps.{kept-dropped, kept-settled, settles-dropped, settles-kept, settles-made}
 use Rattle.sw_core.proofs.node.Node.settle.Goals as goal
 

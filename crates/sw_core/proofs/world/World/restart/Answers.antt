@@ -1,6 +1,5 @@
-use Rattle.std.proofs.Common.{◌≡◌, ◌+◌, ◌*◌, ◌^◌, ◌<◌, ℕ, sym, ◌∙◌, ap, subst}
+use Rattle.std.proofs.Common.{◌+◌, ◌*◌, ◌^◌, ◌<◌, sym, subst}
 use Rattle.sw_core.proofs.Anew.{world-restarts}
-use Rattle.sw_core.specs.Nodes.{Kept}
 use Rattle.sw_core.specs.Worlds.{AllNodes, AreAnew}
 use Rattle.sw_core.proofs.world.World.restart.Goals as goal
 

@@ -1,0 +1,112 @@
+ghost use Rattle.std.specs.Prelude.{◌≡◌, ◌<◌, true, false, List, [], ◌∷◌, ◌++◌, All, OnOk, OnErr, ◌⊎◌};
+ghost use Rattle.sw_core.specs.Stepping.{AreMade, device_of};
+ghost use Rattle.sw_core.specs.Worlds.{sight_of};
+ghost use Rattle.sw_peer.specs.Sights.{is_wanting, is_wanting_read};
+ghost use Rattle.sw_core.specs.declared.step.Step.{Step};
+ghost use Rattle.sw_core.specs.declared.step.Step.TheVariants as step_kinds;
+
+use crate::shelf::Shelf;
+use crate::step::Step;
+use crate::world::World;
+use std::alloc::Global;
+use sw_hashpath::Name;
+use sw_outside::NoMemory;
+use sw_peer::{Answer, Change, Got, Link, ObjectDoor};
+
+/// Makes the steps in their order. The world keeps their lines.
+///
+/// After [`NoMemory`] the steps before the one that wanted memory were made, and their lines are kept; and that one too, where it wanted
+/// memory only after it had come.
+pub fn run_steps<V: Shelf>(
+    alloc: Global,
+    world: &mut World<V>,
+    steps: &[Step],
+) -> Result<(), NoMemory>
+    requires { All (λ step. device_of step < world.old.devices) steps.now }
+    ensures all { OnOk result (AreMade steps.now (sight_of V.tells V.holds V.faults world.old) (sight_of V.tells V.holds V.faults world.new)) }
+    ensures some { OnErr result ((done rest : List Step) × (steps.now ≡ done ++ rest) × AreMade done (sight_of V.tells V.holds V.faults world.old) (sight_of V.tells V.holds V.faults world.new)) }
+{
+    for step in steps {
+        make(alloc, world, step)?;
+    }
+    Ok(())
+}
+
+/// Makes a step.
+fn make<V: Shelf>(alloc: Global, world: &mut World<V>, step: &Step) -> Result<(), NoMemory>
+    requires { device_of step.now < world.old.devices }
+    ensures made { OnOk result (AreMade (step.now ∷ []) (sight_of V.tells V.holds V.faults world.old) (sight_of V.tells V.holds V.faults world.new)) }
+    ensures tried { OnErr result (AreMade (step.now ∷ []) (sight_of V.tells V.holds V.faults world.old) (sight_of V.tells V.holds V.faults world.new)
+        ⊎ AreMade [] (sight_of V.tells V.holds V.faults world.old) (sight_of V.tells V.holds V.faults world.new)) }
+{
+    match step {
+        Step::Change {
+            device,
+            name,
+            change,
+        } => change_at(alloc, world, *device, name, change),
+        Step::Read { device, name } => read_at(alloc, world, *device, name),
+        Step::Restart { device } => {
+            world.restart(alloc, *device);
+            Ok(())
+        }
+    }
+}
+
+fn change_at<V: Shelf>(
+    alloc: Global,
+    world: &mut World<V>,
+    device: u8,
+    name: &Name,
+    change: &Change,
+) -> Result<(), NoMemory>
+    requires { device < world.old.devices }
+    ensures made { OnOk result (AreMade (step_kinds.Change device name.now change.now ∷ []) (sight_of V.tells V.holds V.faults world.old) (sight_of V.tells V.holds V.faults world.new)) }
+    ensures tried { OnErr result (AreMade (step_kinds.Change device name.now change.now ∷ []) (sight_of V.tells V.holds V.faults world.old) (sight_of V.tells V.holds V.faults world.new)
+        ⊎ AreMade [] (sight_of V.tells V.holds V.faults world.old) (sight_of V.tells V.holds V.faults world.new)) }
+{
+    let change = change.copy(alloc)?;
+    match world.change(alloc, Link::Local, device, name, change) {
+        Ok(answer) => unless_wanting(answer),
+        Err(_) => unreachable!(),
+    }
+}
+
+fn read_at<V: Shelf>(
+    alloc: Global,
+    world: &mut World<V>,
+    device: u8,
+    name: &Name,
+) -> Result<(), NoMemory>
+    requires { device < world.old.devices }
+    ensures made { OnOk result (AreMade (step_kinds.Read device name.now ∷ []) (sight_of V.tells V.holds V.faults world.old) (sight_of V.tells V.holds V.faults world.new)) }
+    ensures tried { OnErr result (AreMade (step_kinds.Read device name.now ∷ []) (sight_of V.tells V.holds V.faults world.old) (sight_of V.tells V.holds V.faults world.new)
+        ⊎ AreMade [] (sight_of V.tells V.holds V.faults world.old) (sight_of V.tells V.holds V.faults world.new)) }
+{
+    match world.get(alloc, Link::Local, device, name) {
+        Ok(got) => unless_wanting_read(got),
+        Err(_) => unreachable!(),
+    }
+}
+
+/// Whether the step wanted no memory.
+fn unless_wanting(answer: Answer) -> Result<(), NoMemory>
+    ensures ok { OnOk result (is_wanting answer ≡ false) }
+    ensures err { OnErr result (is_wanting answer ≡ true) }
+{
+    match answer {
+        Answer::NoMemory => Err(NoMemory),
+        _ => Ok(()),
+    }
+}
+
+/// Whether the read wanted no memory.
+fn unless_wanting_read(got: Got) -> Result<(), NoMemory>
+    ensures ok { OnOk result (is_wanting_read got ≡ false) }
+    ensures err { OnErr result (is_wanting_read got ≡ true) }
+{
+    match got {
+        Got::NoMemory => Err(NoMemory),
+        _ => Ok(()),
+    }
+}

@@ -1,0 +1,23 @@
+use sw_hashpath::Name;
+use sw_peer::Change;
+
+/// A step that is to be made of a world.
+#[derive(Debug, Drop)]
+pub enum Step {
+    /// A change of the object of this name at a device, said to the device itself.
+    Change {
+        /// The device, as its place in the ring's list of devices.
+        device: u8,
+        name: Name,
+        change: Change,
+    },
+    /// A read of this name at a device.
+    Read {
+        device: u8,
+        name: Name,
+    },
+    /// A restart of a device.
+    Restart {
+        device: u8,
+    },
+}
