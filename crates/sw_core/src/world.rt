@@ -45,7 +45,8 @@ impl World<SoundShelf> {
     pub fn new(alloc: Global, devices: u16, lock_bits: u8) -> Result<World<SoundShelf>, NoMemory>
         requires devices { devices ≤ 256 }
         requires lock_bits { lock_bits ≤ 4 }
-        ensures { IfOk result (λ w. Begins devices lock_bits (sight_of sound_tells sound_holds sound_faults w)) }
+        ensures begins { IfOk result (λ w. Begins devices lock_bits (sight_of sound_tells sound_holds sound_faults w)) }
+        ensures shape { IfOk result (λ w. (w.devices ≡ devices) × (w.lock_bits ≡ lock_bits)) }
     {
         let shelves = empty_shelves(alloc, usize::from(devices) * stripes(lock_bits))?;
         World::open(alloc, devices, lock_bits, shelves)

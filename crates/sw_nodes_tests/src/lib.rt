@@ -1,0 +1,11 @@
+//! Tests of the nodes over their public calls: what doors carry, nodes and the world. What the contracts say is proved for every input, so
+//! these show what no contract can: that the worked values are the ones that were meant, that a call succeeds while there is memory, and
+//! that generic code works over the shelf and the world in memory.
+#![tactic(auto)]
+
+#[cfg(test)]
+mod asked;
+#[cfg(test)]
+mod core;
+#[cfg(test)]
+mod peer;
