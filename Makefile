@@ -1,9 +1,13 @@
-# `make run` shows the product at work, `make test` passes all its tests. Both need only the Rattle toolchain (`rt`).
-.PHONY: run test check
+# `make run` shows the product at work, `make test` passes all its tests. Both need only the Rattle toolchain (`rt`) and Python 3.
+.PHONY: run example test check runs on-demand
 
 # The worked example: a PUT and a GET of one object, from standard input to standard output.
 run:
 	@tools/run-example examples/put-and-get.http
+
+# A longer one: writes of all methods at two devices, and the trail of the steps that they made.
+example:
+	@tools/run-example examples/writes-and-trail.http
 
 # The merge gate: proves everything from nothing where no earlier run did, and runs every test and program.
 test:
@@ -12,3 +16,11 @@ test:
 # The quick checks of the tree alone.
 check:
 	@tools/check-tree
+
+# The stored runs of the program alone: all that it writes, and its status.
+runs:
+	@tools/stored-runs
+
+# The wrong bodies that the gate leaves out.
+on-demand:
+	@tools/must-fail-on-demand
