@@ -1,6 +1,6 @@
-pub mod ReportLemmas
-pub mod SessionLemmas
-pub mod OpeningLemmas
-pub mod TurnLemmas
-pub mod ServingLemmas
-pub mod TrailLemmas
+mod NodesLemmas
+mod OpeningLemmas
+mod ReportLemmas
+mod RunningLemmas
+mod ServingLemmas
+mod TrailLemmas

@@ -1,223 +1,137 @@
--- What a request that was served at the world's door leaves in its lines.
-use Rattle.std.proofs.Common.{◌≡◌, ℕ, Bool, List, [], ◌∷◌, ◌++◌, map, zip, None, refl, sym, ap, ◌∙◌, subst, inl, inr, ◌⊎◌, Result, Ok, Err, IfOk, OnErr}
-use Rattle.std.proofs.lemmas.List.{map-append}
+-- What a request that was served at the world's door leaves in its trail.
+use Rattle.std.proofs.Common.{◌≡◌, ℕ, Bool, true, false, List, [], ◌∷◌, ◌++◌, Option, Some, None, option_map, refl, sym, ap, ◌∙◌, subst, inl, inr, ◌⊎◌, Result, Ok, Err, IfOk, OnErr}
 use Rattle.sw_hashpath.specs.declared.name.Name.{Name}
-use Rattle.sw_http.specs.declared.request.Request.{Request}
-use Rattle.sw_http.specs.declared.response.Response.{Response}
-use Rattle.sw_peer.specs.Sights.{Call, Changed, IsChanged, IsRead, Keeps, KeepsChange, KeepsRead, Moves, Read}
-use Rattle.sw_peer.specs.Steps.{Change, Put, Post, Delete, Receive, write_of}
+use Rattle.sw_message.specs.declared.request.Request.{Request}
+use Rattle.sw_message.specs.declared.response.Response.{Response}
+use Rattle.sw_peer.specs.Sights.{Comes, IsMade, IsRead, IsSame, Sight, Trails, is_wanting, is_wanting_read}
+use Rattle.sw_peer.specs.Steps.{is_entered, write_of}
 use Rattle.sw_peer.specs.declared.answer.Answer.{Answer}
 use Rattle.sw_peer.specs.declared.answer.Answer.TheVariants as answers
+use Rattle.sw_peer.specs.declared.change.Change.{Change}
+use Rattle.sw_peer.specs.declared.entry.ObjEntry.{ObjEntry}
 use Rattle.sw_peer.specs.declared.got.Got.{Got}
 use Rattle.sw_peer.specs.declared.got.Got.TheVariants as gots
+use Rattle.sw_peer.specs.declared.line.Event.{Event}
+use Rattle.sw_peer.specs.declared.line.Event.TheVariants.{Changed, Read}
+use Rattle.sw_peer.specs.declared.line.Line.{Line}
+use Rattle.sw_peer.specs.declared.link.Link.TheVariants.{Local}
 use Rattle.sw_ring.specs.declared.ring.Ring.{Ring}
-use Rattle.sw_core.specs.Recording.{IsRecorded, line_by, line_for}
-use Rattle.sw_core.specs.Stored.{state_at}
-use Rattle.sw_core.specs.World.{World, call_of, sight_of}
 use Rattle.sw_object_server.specs.Asking.{IsAsked}
-use Rattle.sw_object_server.specs.Replies.{made_reply, reply_to}
-use Rattle.sw_object_server.specs.Serving.{IsAnswered, IsChangeLeft, IsGivenUp, IsLeft, IsReadLeft, IsServed as IsServedAt, IsStepLeft, IsStepServed}
+use Rattle.sw_object_server.specs.Replies.{bare, made_reply, reply_to, shows_field}
+use Rattle.sw_object_server.specs.Serving.{IsAnswered, IsChangeLeft, IsGivenUp, IsLeft, IsReadLeft, IsServed, IsStepped}
 use Rattle.sw_object_server.specs.Showing.{IsShown}
 use Rattle.sw_object_server.specs.declared.asked.Asked.{Asked}
 use Rattle.sw_object_server.specs.declared.asked.Asked.TheVariants as asks
-use Rattle.sw_object_server.specs.declared.asked.Step.{Step}
-use Rattle.sw_object_server.specs.declared.asked.Step.TheVariants as steps
-use Rattle.sw_cluster.specs.Server.{IsServed, IsUnchanged, IsWanting, Makes}
-use Rattle.sw_cluster.specs.Worlds.{BeginsAlike}
+use Rattle.sw_cluster.specs.Server.{HasLine, IsDone, IsIdle, IsRight, IsWanting}
 
--- ---- lines
+-- ---- the line of one step
 
--- a call that was kept left its line
-one_line : (old new : World) (call : Call) → IsRecorded old → IsRecorded new → Keeps (sight_of old).calls (sight_of new).calls call
-    → new.lines ≡ old.lines ++ line_for call ∷ []
-one_line old new call before after kept =
-    let made : List Call = map call_of (zip old.lines old.hashes) in
-    after (made ++ call ∷ []) kept ∙ (map-append line_for made (call ∷ []) ∙ ap (λ l. l ++ line_for call ∷ []) (sym (before made refl)))
+some_is : {A : Type 0} {x y : A} → Some x ≡ Some y → x ≡ y
+some_is is = cc
 
--- and without one there are the same lines
-no_line : (old new : World) → IsRecorded old → IsRecorded new → (sight_of new).calls ≡ (sight_of old).calls → new.lines ≡ old.lines
-no_line old new before after same =
-    let made : List Call = map call_of (zip old.lines old.hashes) in after made same ∙ sym (before made refl)
+-- a step left its line, or wanted memory and left none
+line_left : (s t : Sight) (lines lines_now : List Line) (device : ℕ) (event : Event) (added : List ObjEntry) (wanting : Bool)
+    → s.trail ≡ Some lines → t.trail ≡ Some lines_now → Trails s (record { device = device; link = Local; event = event; added = added }) wanting t
+    → HasLine lines device event lines_now ⊎ ((wanting ≡ true) × (lines_now ≡ lines))
+line_left s t lines lines_now device event added wanting before after (inl one) =
+    inl (added, some_is (sym after ∙ (one ∙ ap (option_map (λ l. l ++ record { device = device; link = Local; event = event; added = added } ∷ [])) before)))
+line_left s t lines lines_now device event added wanting before after (inr none) =
+    inr (none.0, some_is (sym after ∙ (ap (λ (x : Sight). x.trail) none.1.same ∙ before)))
 
--- the names of all devices began with the same states
-alike : (old new : World) (device : ℕ) (name : Name) → Moves (sight_of old) (sight_of new) device name → BeginsAlike old new
-alike old new device name moves d n =
-    (moves.grows d).opening (record { account = n.account; container = n.container; object = n.object; hash = [] })
+wants : (answer : Answer) → is_wanting answer ≡ true → answer ≡ answers.NoMemory
+wants (answers.Done front) is = cc
+wants (answers.Buried front) is = cc
+wants (answers.Conflict time) is = cc
+wants (answers.NotFound time) is = cc
+wants (answers.Mismatch second) is = cc
+wants answers.Exists is = cc
+wants answers.JournalFull is = cc
+wants (answers.Damaged bad) is = cc
+wants answers.Failed is = cc
+wants answers.NoMemory is = refl
 
-same_begin : (old new : World) → new ≡ old → BeginsAlike old new
-same_begin old new same d n = ap (λ (w : World). state_at w.began d n) same
+wants_read : (got : Got) → is_wanting_read got ≡ true → got ≡ gots.NoMemory
+wants_read (gots.Found time content heads front) is = cc
+wants_read (gots.NotFound time) is = cc
+wants_read (gots.Damaged bad) is = cc
+wants_read gots.Failed is = cc
+wants_read gots.NoMemory is = refl
 
--- ---- steps that were served
+-- an answer that shows a field entered nothing
+not_entered : (answer : Answer) → shows_field answer ≡ true → is_entered answer ≡ false
+not_entered (answers.Done front) is = cc
+not_entered (answers.Buried front) is = cc
+not_entered (answers.Conflict time) is = refl
+not_entered (answers.NotFound time) is = refl
+not_entered (answers.Mismatch second) is = refl
+not_entered answers.Exists is = refl
+not_entered answers.JournalFull is = refl
+not_entered (answers.Damaged bad) is = refl
+not_entered answers.Failed is = refl
+not_entered answers.NoMemory is = refl
 
--- a change that was called for
-change_made : (old new : World) (device : ℕ) (name : Name) (change : Change) (answer : Answer) (response : Response)
-    → IsRecorded old → IsRecorded new → IsChanged (sight_of old) (sight_of new) device name change answer
-    → response ≡ reply_to (made_reply (write_of change).kind) answer
-    → (new.lines ≡ old.lines ++ line_by device name (Changed change answer) ∷ []) ⊎ IsWanting old.lines response new.lines
-change_made old new device name change answer response before after changed reply = by_kept changed.kept
-  where
-    wanting : (answer ≡ answers.NoMemory) × ((sight_of new).calls ≡ (sight_of old).calls) → IsWanting old.lines response new.lines
-    wanting none = (reply ∙ ap (reply_to (made_reply (write_of change).kind)) none.0, inl (no_line old new before after none.1))
-
-    by_kept : KeepsChange (sight_of old).calls (sight_of new).calls device name change answer
-        → (new.lines ≡ old.lines ++ line_by device name (Changed change answer) ∷ []) ⊎ IsWanting old.lines response new.lines
-    by_kept (inl keeps) = inl (one_line old new (record { device = device; name = name; reply = Changed change answer }) before after keeps)
-    by_kept (inr none) = inr (wanting none)
-
--- a read that was called for
-read_made : (old new : World) (device : ℕ) (name : Name) (got : Got) (moment : ℕ) (head_only : Bool) (response : Response)
-    → IsRecorded old → IsRecorded new → IsRead (sight_of old) (sight_of new) device name got → IsShown got moment head_only response
-    → (new.lines ≡ old.lines ++ line_by device name (Read got) ∷ []) ⊎ IsWanting old.lines response new.lines
-read_made old new device name got moment head_only response before after read shown = by_kept read.kept
-  where
-    wanting : (got ≡ gots.NoMemory) × ((sight_of new).calls ≡ (sight_of old).calls) → IsWanting old.lines response new.lines
-    wanting none = (subst (λ (g : Got). IsShown g moment head_only response) none.0 shown, inl (no_line old new before after none.1))
-
-    by_kept : KeepsRead (sight_of old).calls (sight_of new).calls device name got
-        → (new.lines ≡ old.lines ++ line_by device name (Read got) ∷ []) ⊎ IsWanting old.lines response new.lines
-    by_kept (inl keeps) = inl (one_line old new (record { device = device; name = name; reply = Read got }) before after keeps)
-    by_kept (inr none) = inr (wanting none)
-
-step_made : (old new : World) (device : ℕ) (name : Name) (moment : ℕ) (step : Step) (response : Response)
-    → IsRecorded old → IsRecorded new → IsStepServed (sight_of old) (sight_of new) device name moment step response
-    → Makes old.lines device name step moment response new.lines ⊎ IsWanting old.lines response new.lines
-step_made old new device name moment (steps.Put time content none_match) response before after served =
-    elim (change_made old new device name (Put time content none_match) served.0 response before after served.1 served.2) [
-      | inl one_more ↦ inl (record { line = line_by device name (Changed (Put time content none_match) served.0); one_more = one_more; step_is = refl; replied = served.2 })
-      | inr wanting ↦ inr wanting
-    ]
-step_made old new device name moment (steps.Post time heads) response before after served =
-    elim (change_made old new device name (Post time heads) served.0 response before after served.1 served.2) [
-      | inl one_more ↦ inl (record { line = line_by device name (Changed (Post time heads) served.0); one_more = one_more; step_is = refl; replied = served.2 })
-      | inr wanting ↦ inr wanting
-    ]
-step_made old new device name moment (steps.Delete time) response before after served =
-    elim (change_made old new device name (Delete time None) served.0 response before after served.1 served.2) [
-      | inl one_more ↦ inl (record { line = line_by device name (Changed (Delete time None) served.0); one_more = one_more; step_is = refl; replied = served.2 })
-      | inr wanting ↦ inr wanting
-    ]
-step_made old new device name moment (steps.Receive write) response before after served =
-    elim (change_made old new device name (Receive write) served.0 response before after served.1 served.2) [
-      | inl one_more ↦ inl (record { line = line_by device name (Changed (Receive write) served.0); one_more = one_more; step_is = refl; replied = served.2 })
-      | inr wanting ↦ inr wanting
-    ]
-step_made old new device name moment (steps.Get head_only) response before after served =
-    elim (read_made old new device name served.0 moment head_only response before after served.1 served.2) [
-      | inl one_more ↦ inl (record { line = line_by device name (Read served.0); one_more = one_more; step_is = refl; replied = served.2 })
-      | inr wanting ↦ inr wanting
+change_line : (s t : Sight) (lines lines_now : List Line) (device : ℕ) (name : Name) (change : Change) (answer : Answer)
+    → s.trail ≡ Some lines → t.trail ≡ Some lines_now → IsStepped (IsMade Local device name change) s answer t
+    → HasLine lines device (Changed name change answer) lines_now ⊎ ((answer ≡ answers.NoMemory) × (lines_now ≡ lines))
+change_line s t lines lines_now device name change answer before after stepped =
+    let once : Comes (IsMade Local device name change) s (answer ∷ []) t =
+    subst (λ (e : List Answer). Comes (IsMade Local device name change) s (e ++ answer ∷ []) t) (stepped.called.1 refl) stepped.called.2 in
+    let there : (once.0).trail ≡ Some lines_now = sym (ap (λ (x : Sight). x.trail) once.2.same) ∙ after in
+    elim (line_left s once.0 lines lines_now device (Changed name change answer) once.1.step.added (is_wanting answer) before there once.1.trail) [
+      | inl line ↦ inl line
+      | inr none ↦ inr (wants answer none.0, none.1)
     ]
 
--- a request that was answered at the world's door
-request_served : (ring : Ring) (old new : World) (request : Request) (moment : ℕ) (response : Response)
-    → IsRecorded old → IsRecorded new → IsAnswered sight_of old new ring request moment response
-    → IsServed ring old.lines request moment response new.lines ⊎ IsWanting old.lines response new.lines
-request_served ring old new request moment response before after answered = by_asked answered.0 answered.1 answered.2
-  where
-    by_asked : (asked : Asked) → IsAsked ring request asked → IsServedAt sight_of old new moment asked response
-        → IsServed ring old.lines request moment response new.lines ⊎ IsWanting old.lines response new.lines
-    by_asked (asks.Refused status) asked served = inl (asks.Refused status, asked, (ap (λ (w : World). w.lines) served.0, served.1))
-    by_asked (asks.Step device name step) asked served =
-        elim (step_made old new device name moment step response before after served) [
-          | inl makes ↦ inl (asks.Step device name step, asked, makes)
-          | inr wanting ↦ inr wanting
-        ]
+read_line : (s t : Sight) (lines lines_now : List Line) (device : ℕ) (name : Name) (got : Got)
+    → s.trail ≡ Some lines → t.trail ≡ Some lines_now → IsStepped (IsRead Local device name) s got t
+    → HasLine lines device (Read name got) lines_now ⊎ ((got ≡ gots.NoMemory) × (lines_now ≡ lines))
+read_line s t lines lines_now device name got before after stepped =
+    let once : Comes (IsRead Local device name) s (got ∷ []) t =
+    subst (λ (e : List Got). Comes (IsRead Local device name) s (e ++ got ∷ []) t) (stepped.called.1 refl) stepped.called.2 in
+    let there : (once.0).trail ≡ Some lines_now = sym (ap (λ (x : Sight). x.trail) once.2.same) ∙ after in
+    elim (line_left s once.0 lines lines_now device (Read name got) once.1.step.added (is_wanting_read got) before there once.1.trail) [
+      | inl line ↦ inl line
+      | inr none ↦ inr (wants_read got none.0, none.1)
+    ]
 
--- ---- where it began
+-- ---- what was served, over any door that keeps its trail
 
-change_alike : (old new : World) (device : ℕ) (name : Name) (change : Change) (answer : Answer) → IsChanged (sight_of old) (sight_of new) device name change answer → BeginsAlike old new
-change_alike old new device name change answer changed = alike old new device name changed.moves
+module _ {D : Type 0} (sight : D → Sight) (lines : D → List Line) (keeps : (d : D) → (sight d).trail ≡ Some (lines d)) where
+  -- a request that was answered
+  pub request_served : (ring : Ring) (old new : D) (request : Request) (moment : ℕ) (response : Response) → IsAnswered sight old new ring request moment response
+      → IsRight ring (lines old) request moment response (lines new) ⊎ IsWanting ring (lines old) request response (lines new)
+  request_served ring old new request moment response answered = by_asked answered.0 answered.1 answered.2
+    where
+      by_asked : (asked : Asked) → IsAsked ring request asked → IsServed sight old new moment asked response
+          → IsRight ring (lines old) request moment response (lines new) ⊎ IsWanting ring (lines old) request response (lines new)
+      by_asked (asks.Refused status) is served = inl (asks.Refused status, is, (ap lines served.0, served.1))
+      by_asked (asks.Change device name change) is served =
+          elim (change_line (sight old) (sight new) (lines old) (lines new) device name change served.0 (keeps old) (keeps new) served.1) [
+            | inl line ↦ inl (asks.Change device name change, is, (served.0, line, served.2))
+            | inr none ↦ inr (served.2 ∙ ap (reply_to (made_reply (write_of change).kind)) none.0, inl none.1)
+          ]
+      by_asked (asks.Read device name head_only) is served =
+          elim (read_line (sight old) (sight new) (lines old) (lines new) device name served.0 (keeps old) (keeps new) served.1) [
+            | inl line ↦ inl (asks.Read device name head_only, is, (served.0, line, served.2))
+            | inr none ↦ inr (subst (λ (g : Got). IsShown g moment head_only response) none.0 served.2, inl none.1)
+          ]
 
-read_alike : (old new : World) (device : ℕ) (name : Name) (got : Got) → IsRead (sight_of old) (sight_of new) device name got → BeginsAlike old new
-read_alike old new device name got read = alike old new device name read.moves
-
-step_alike : (old new : World) (device : ℕ) (name : Name) (moment : ℕ) (step : Step) (response : Response)
-    → IsStepServed (sight_of old) (sight_of new) device name moment step response → BeginsAlike old new
-step_alike old new device name moment (steps.Put time content none_match) response served = change_alike old new device name _ _ served.1
-step_alike old new device name moment (steps.Post time heads) response served = change_alike old new device name _ _ served.1
-step_alike old new device name moment (steps.Delete time) response served = change_alike old new device name _ _ served.1
-step_alike old new device name moment (steps.Receive write) response served = change_alike old new device name _ _ served.1
-step_alike old new device name moment (steps.Get head_only) response served = read_alike old new device name _ served.1
-
-answered_alike : (ring : Ring) (old new : World) (request : Request) (moment : ℕ) (response : Response)
-    → IsAnswered sight_of old new ring request moment response → BeginsAlike old new
-answered_alike ring old new request moment response answered = by_asked answered.0 answered.2
-  where
-    by_asked : (asked : Asked) → IsServedAt sight_of old new moment asked response → BeginsAlike old new
-    by_asked (asks.Refused status) served = same_begin old new served.0
-    by_asked (asks.Step device name step) served = step_alike old new device name moment step response served
-
-left_alike : (old new : World) (device : ℕ) (name : Name) (step : Step) → IsStepLeft (sight_of old) (sight_of new) device name step → BeginsAlike old new
-left_alike old new device name (steps.Put time content none_match) left = change_alike old new device name _ _ left.1
-left_alike old new device name (steps.Post time heads) left = change_alike old new device name _ _ left.1
-left_alike old new device name (steps.Delete time) left = change_alike old new device name _ _ left.1
-left_alike old new device name (steps.Receive write) left = change_alike old new device name _ _ left.1
-left_alike old new device name (steps.Get head_only) left = read_alike old new device name _ left.1
-
-given_up_alike : (ring : Ring) (old new : World) (request : Request) → IsGivenUp sight_of old new ring request → BeginsAlike old new
-given_up_alike ring old new request (inl same) = same_begin old new same
-given_up_alike ring old new request (inr left) = by_asked left.0 left.2
-  where
-    by_asked : (asked : Asked) → IsLeft (sight_of old) (sight_of new) asked → BeginsAlike old new
-    by_asked (asks.Refused status) is = absurd is
-    by_asked (asks.Step device name step) is = left_alike old new device name step is
-
--- ---- want of memory
-
-change_left : (old new : World) (device : ℕ) (name : Name) (change : Change) → IsRecorded old → IsRecorded new
-    → IsChangeLeft (sight_of old) (sight_of new) device name change → IsUnchanged old.lines new.lines
-change_left old new device name change before after left = by_kept left.1.kept
-  where
-    by_kept : KeepsChange (sight_of old).calls (sight_of new).calls device name change left.0 → IsUnchanged old.lines new.lines
-    by_kept (inl keeps) = inr (
-      line_by device name (Changed change left.0),
-      one_line old new (record { device = device; name = name; reply = Changed change left.0 }) before after keeps,
-      left.2,
-    )
-    by_kept (inr none) = inl (no_line old new before after none.1)
-
-read_left : (old new : World) (device : ℕ) (name : Name) → IsRecorded old → IsRecorded new → IsReadLeft (sight_of old) (sight_of new) device name
-    → IsUnchanged old.lines new.lines
-read_left old new device name before after left = by_kept left.1.kept
-  where
-    by_kept : KeepsRead (sight_of old).calls (sight_of new).calls device name left.0 → IsUnchanged old.lines new.lines
-    by_kept (inl keeps) = inr (
-      line_by device name (Read left.0),
-      one_line old new (record { device = device; name = name; reply = Read left.0 }) before after keeps,
-      refl,
-    )
-    by_kept (inr none) = inl (no_line old new before after none.1)
-
-step_left : (old new : World) (device : ℕ) (name : Name) (step : Step) → IsRecorded old → IsRecorded new
-    → IsStepLeft (sight_of old) (sight_of new) device name step → IsUnchanged old.lines new.lines
-step_left old new device name (steps.Put time content none_match) before after left = change_left old new device name _ before after left
-step_left old new device name (steps.Post time heads) before after left = change_left old new device name _ before after left
-step_left old new device name (steps.Delete time) before after left = change_left old new device name _ before after left
-step_left old new device name (steps.Receive write) before after left = change_left old new device name _ before after left
-step_left old new device name (steps.Get head_only) before after left = read_left old new device name before after left
-
-request_left : (ring : Ring) (old new : World) (request : Request) → IsRecorded old → IsRecorded new → IsGivenUp sight_of old new ring request
-    → IsUnchanged old.lines new.lines
-request_left ring old new request before after (inl same) = inl (ap (λ (w : World). w.lines) same)
-request_left ring old new request before after (inr left) = by_asked left.0 left.2
-  where
-    by_asked : (asked : Asked) → IsLeft (sight_of old) (sight_of new) asked → IsUnchanged old.lines new.lines
-    by_asked (asks.Refused status) is = absurd is
-    by_asked (asks.Step device name step) is = step_left old new device name step before after is
-
--- ---- the same of what the server answered
-
-pub served_ok : {E : Type 0} (ring : Ring) (old new : World) (request : Request) (moment : ℕ) (result : Result Response E)
-    → IsRecorded old → IsRecorded new → IfOk result (IsAnswered sight_of old new ring request moment)
-    → IfOk result (λ response. IsServed ring old.lines request moment response new.lines ⊎ IsWanting old.lines response new.lines)
-served_ok ring old new request moment (Ok response) before after answered = request_served ring old new request moment response before after answered
-served_ok ring old new request moment (Err e) before after answered = tt
-
-pub served_err : {E : Type 0} (ring : Ring) (old new : World) (request : Request) (result : Result Response E)
-    → IsRecorded old → IsRecorded new → OnErr result (IsGivenUp sight_of old new ring request) → OnErr result (IsUnchanged old.lines new.lines)
-served_err ring old new request (Ok response) before after left = tt
-served_err ring old new request (Err e) before after left = request_left ring old new request before after left
-
-pub served_alike : {E : Type 0} (ring : Ring) (old new : World) (request : Request) (moment : ℕ) (result : Result Response E)
-    → IfOk result (IsAnswered sight_of old new ring request moment) → OnErr result (IsGivenUp sight_of old new ring request) → BeginsAlike old new
-served_alike ring old new request moment (Ok response) answered left = answered_alike ring old new request moment response answered
-served_alike ring old new request moment (Err e) answered left = given_up_alike ring old new request left
+  -- a request whose reply found no memory
+  pub request_left : (ring : Ring) (old new : D) (request : Request) (moment : ℕ) → IsGivenUp sight old new ring request moment
+      → (lines new ≡ lines old) ⊎ ((asked : Asked) × IsAsked ring request asked × IsIdle (lines old) asked (lines new))
+  request_left ring old new request moment (inl same) = inl (ap lines same)
+  request_left ring old new request moment (inr left) = by_asked left.0 left.1 left.2
+    where
+      by_asked : (asked : Asked) → IsAsked ring request asked → IsLeft (sight old) (sight new) moment asked
+          → (lines new ≡ lines old) ⊎ ((asked : Asked) × IsAsked ring request asked × IsIdle (lines old) asked (lines new))
+      by_asked (asks.Refused status) is gone = absurd gone
+      by_asked (asks.Change device name change) is gone =
+          elim (change_line (sight old) (sight new) (lines old) (lines new) device name change gone.0 (keeps old) (keeps new) gone.1) [
+            | inl line ↦ inr (asks.Change device name change, is, (gone.0, line, not_entered gone.0 gone.2))
+            | inr none ↦ inl none.1
+          ]
+      by_asked (asks.Read device name head_only) is gone =
+          elim (read_line (sight old) (sight new) (lines old) (lines new) device name gone.0 (keeps old) (keeps new) gone.1) [
+            | inl line ↦ inr (asks.Read device name head_only, is, (gone.0, line))
+            | inr none ↦ inl none.1
+          ]

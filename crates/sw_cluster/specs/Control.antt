@@ -1,11 +1,12 @@
 -- The control requests, which are of no node: they look at the whole cluster. (This project's own.)
-use Rattle.std.specs.Prelude.{◌≡◌, ℕ, Bool, false, List, [], ◌∷◌, length, drop, codes, count_by, nat_eq, ◌==◌, ◌&&◌, MatchBool}
+use Rattle.std.specs.Prelude.{◌≡◌, ℕ, Bool, List, [], ◌∷◌, drop, codes, count_by, nat_eq, ◌==◌, ◌&&◌, MatchBool}
 use Rattle.std.specs.List.{starts_with}
 use Rattle.std.specs.Str.{bytes_eq}
 use Rattle.percent_encoding.specs.Percent.{percent_decode}
-use Rattle.sw_http.specs.declared.request.Request.{Request}
-use Rattle.sw_http.specs.declared.response.Response.{Response}
-use Rattle.sw_core.specs.declared.step_line.StepLine.{StepLine}
+use Rattle.sw_message.specs.declared.request.Request.{Request}
+use Rattle.sw_message.specs.declared.response.ReplyBody.TheVariants.{Whole}
+use Rattle.sw_message.specs.declared.response.Response.{Response}
+use Rattle.sw_peer.specs.declared.line.Line.{Line}
 use Rattle.sw_object_server.specs.Replies.{bare, field}
 use Rattle.sw_object_server.specs.Targets.{behind_segment, first_segment, is_slash}
 use Rattle.sw_cluster.specs.TrailText.{trail_text}
@@ -27,11 +28,9 @@ abbrev pub text_reply : List ℕ → Response
 text_reply text = record {
   status = 200;
   fields = field (codes "Content-Type") (codes "text/plain; charset=utf-8") ∷ [];
-  body = text;
-  length = length text;
-  head_only = false;
+  body = Whole text;
 }
 
 -- the reply to a control request, after these steps. None but the trail is known yet
-abbrev pub IsControlled : List (List ℕ) → List StepLine → Request → Response → Type 0
-IsControlled devices steps r response = MatchBool (asks_trail r) (response ≡ text_reply (trail_text devices steps)) (response ≡ bare 400)
+abbrev pub IsControlled : List (List ℕ) → List Line → Request → Response → Type 0
+IsControlled devices lines r response = MatchBool (asks_trail r) (response ≡ text_reply (trail_text devices lines)) (response ≡ bare 400)

@@ -1,31 +1,40 @@
--- How a session ends, by its status. (This project's own.)
-use Rattle.std.specs.Prelude.{◌≡◌, ℕ, List, Option, ◌⊎◌}
-use Rattle.std.specs.Io.KnownBytes.{IsAtEnd}
-use Rattle.sw_outside.specs.Faults.{HasRisen}
+-- How a session ends, by its status, and what its trail tells. (This project's own.)
+use Rattle.std.specs.Prelude.{◌≡◌, ⊤, ℕ, List, map, Option, Result, Ok, Err}
 use Rattle.sw_outside.specs.Readings.{TicksEach}
-use Rattle.sw_core.specs.Machine.{Machine, Runs, empty_machine}
-use Rattle.sw_core.specs.Named.{Named}
-use Rattle.sw_core.specs.Trails.{reached_by}
+use Rattle.sw_session.specs.Passages.{Passage}
+use Rattle.sw_session.specs.Replies.{Serves}
+use Rattle.sw_session.specs.Session.{IsSession}
+use Rattle.sw_session.specs.declared.session.SessionFault.{SessionFault}
+use Rattle.sw_session.specs.declared.session.SessionFault.TheVariants as faults
+use Rattle.sw_peer.specs.Journals.{Hash}
+use Rattle.sw_ring.specs.declared.ring.Ring.{Ring}
+use Rattle.sw_core.specs.Laws.{NoneFailed, told_by}
+use Rattle.sw_core.specs.Machine.{Came, Machine, Runs, empty_machine}
+use Rattle.sw_core.specs.Worlds.{lock_of}
 use Rattle.sw_core.specs.declared.trail.Trail.{Trail}
-use Rattle.sw_cluster.specs.declared.status.TheConstants.{COMPLETE, READ_FAULT, WRITE_FAULT, TOO_LONG, BAD_INPUT, NO_MEMORY}
-use Rattle.sw_cluster.specs.Session.{Serves, Complete, Refused, Full, Stopped, Broken}
+use Rattle.sw_cluster.specs.Statuses as statuses
 
--- A session's input is what its source had left at the call. `left` is what the source has left at the end, `before` and `now` what
--- the sink has taken, and the other numbers are the counts of faults of both. The trail tells its steps and moments.
-pub record Ends (may : Serves) (input left before now : Option (List ℕ)) (reads reads_now writes writes_now : ℕ) (trail : Trail) (status : ℕ) : Type 0 where
-  pub complete : status ≡ COMPLETE → Complete may input before now trail.moments trail.steps × IsAtEnd left
-  pub read_fault : status ≡ READ_FAULT → Stopped may input before now trail.moments trail.steps × HasRisen reads reads_now
-  pub write_fault : status ≡ WRITE_FAULT → Broken may input before now trail.moments trail.steps × HasRisen writes writes_now
-  pub too_long : status ≡ TOO_LONG → Full may input before now trail.moments trail.steps
-  pub bad_input : status ≡ BAD_INPUT → Refused may input before now trail.moments trail.steps
-  pub no_memory : status ≡ NO_MEMORY → Broken may input before now trail.moments trail.steps
-  pub known : (status ≡ COMPLETE) ⊎ ((status ≡ READ_FAULT) ⊎ ((status ≡ WRITE_FAULT) ⊎ ((status ≡ TOO_LONG) ⊎ ((status ≡ BAD_INPUT) ⊎ (status ≡ NO_MEMORY)))))
+-- the status of an outcome
+abbrev pub status_by : Result ⊤ SessionFault → ℕ
+status_by (Ok _) = statuses.complete
+status_by (Err faults.ReadFault) = statuses.read_fault
+status_by (Err faults.WriteFault) = statuses.write_fault
+status_by (Err faults.TooLong) = statuses.too_long
+status_by (Err faults.BadInput) = statuses.bad_input
+status_by (Err faults.NoMemory) = statuses.no_memory
 
--- The trail tells what happened: its steps are a run of the machine from one that nothing had reached, so that each is answered by the
--- state of the writes that had reached its device and name; what has reached in the end is read from it; and its moments are the
+-- a session ended with this status, which tells how: no two outcomes have one status
+pub record Ends {S : Type 0} (may : Serves S) (start : S) (source sink : Passage) (moments : List ℕ) (after : S) (status : ℕ) : Type 0 where
+  pub ended : Result ⊤ SessionFault
+  pub status_is : status ≡ status_by ended
+  pub session : IsSession may start source sink moments after ended
+
+-- The trail tells what happened: its steps are a run of the machine from one in which nothing has happened, so each is answered by what
+-- had reached its device and hash before; what has reached in the end is read from the entries of its lines; and its moments are the
 -- clock's readings, one after the other.
-pub record IsTrail (clock clock_now : Option (List ℕ)) (trail : Trail) : Type 0 where
+pub record IsTrail (ring : Ring) (clock clock_now : Option (List ℕ)) (trail : Trail) : Type 0 where
   pub machine : Machine
-  pub run : Runs empty_machine trail.steps machine
-  pub reached : (device : ℕ) (name : Named) → machine.reached device name ≡ reached_by trail.steps device name
+  pub run : Runs (lock_of ring.lock_bits) empty_machine (map Came trail.steps) machine
+  pub none_failed : NoneFailed (map Came trail.steps)  -- nodes in memory never fail
+  pub reached : (device : ℕ) (hash : Hash) → machine.reached device hash ≡ told_by (map Came trail.steps) device hash
   pub moments : TicksEach clock clock_now trail.moments

@@ -1,14 +1,12 @@
 pub mod Control
 pub mod Ending
-pub mod Fault
 pub mod Locating
+pub mod Nodes
 pub mod Opening
 pub mod Report
 pub mod Rings
 pub mod Server
-pub mod Session
-pub mod Step
+pub mod Statuses
 pub mod TrailText
 pub mod Whereabouts
 pub mod Words
-pub mod Worlds

@@ -5,18 +5,18 @@ use Rattle.sw_outside.specs.Faults.{HasRisen}
 use Rattle.sw_outside.specs.Taken.{AppendsPart}
 use Rattle.sw_ring.specs.BadRings.{bad_ring_number}
 use Rattle.sw_ring.specs.declared.bad_ring.BadRing.{BadRing}
-use Rattle.sw_cluster.specs.declared.status.TheConstants.{READ_FAULT, USAGE, WRITE_FAULT, STORE_FAULT, TOO_LONG, BAD_INPUT, NO_MEMORY}
+use Rattle.sw_cluster.specs.Statuses as statuses
 
 -- the line of a status, with its line feed
 abbrev pub line_of : ℕ → List ℕ
 line_of status =
-    if status == READ_FAULT then codes "sw: read fault\n" else (
-    if status == USAGE then codes "sw: usage\n" else (
-    if status == WRITE_FAULT then codes "sw: write fault\n" else (
-    if status == STORE_FAULT then codes "sw: store fault\n" else (
-    if status == TOO_LONG then codes "sw: session too long\n" else (
-    if status == BAD_INPUT then codes "sw: bad input\n" else (
-    if status == NO_MEMORY then codes "sw: want of memory\n" else []))))))
+    if status == statuses.read_fault then codes "sw: read fault\n" else (
+    if status == statuses.usage then codes "sw: usage\n" else (
+    if status == statuses.write_fault then codes "sw: write fault\n" else (
+    if status == statuses.store_fault then codes "sw: store fault\n" else (
+    if status == statuses.too_long then codes "sw: session too long\n" else (
+    if status == statuses.bad_input then codes "sw: bad input\n" else (
+    if status == statuses.no_memory then codes "sw: want of memory\n" else []))))))
 
 -- the line of what is wrong with a ring: its number is a digit
 abbrev pub ring_line : BadRing → List ℕ

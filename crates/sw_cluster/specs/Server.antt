@@ -1,78 +1,59 @@
--- What a request is answered by the nodes, and which steps it makes there. (OpenStack Swift's object server, in the profile of this product.)
+-- What a request is answered, and which lines it leaves in the trail. (OpenStack Swift's object server, in the profile of this product.)
 --
--- A reply is a relation, since want of memory may be answered in place of any reply, and then nothing changes.
-use Rattle.std.specs.Prelude.{◌≡◌, ℕ, false, List, ◌∷◌, [], ◌++◌, None, MatchBool, ◌⊎◌}
+-- A reply is a relation, since want of memory may be answered in place of any reply. Then no step came, or the one that the request asks
+-- for, which changed nothing.
+use Rattle.std.specs.Prelude.{◌≡◌, ℕ, true, false, List, ◌∷◌, [], ◌++◌, MatchBool, ◌⊎◌}
 use Rattle.sw_hashpath.specs.declared.name.Name.{Name}
-use Rattle.sw_http.specs.declared.request.Request.{Request}
-use Rattle.sw_http.specs.declared.response.Response.{Response}
+use Rattle.sw_message.specs.declared.request.Request.{Request}
+use Rattle.sw_message.specs.declared.response.Response.{Response}
 use Rattle.sw_ring.specs.declared.ring.Ring.{Ring}
-use Rattle.sw_state.specs.declared.write.Kind.TheVariants as kinds
-use Rattle.sw_core.specs.declared.plain_step.PlainCall.{PlainCall}
-use Rattle.sw_core.specs.declared.plain_step.PlainCall.TheVariants as calls
-use Rattle.sw_core.specs.declared.plain_step.PlainStep.{PlainStep}
-use Rattle.sw_core.specs.declared.step_line.StepAnswer.{StepAnswer}
-use Rattle.sw_core.specs.declared.step_line.StepAnswer.TheVariants.{Object, Read}
-use Rattle.sw_core.specs.declared.step_line.StepLine.{StepLine}
+use Rattle.sw_peer.specs.Steps.{is_entered, write_of}
+use Rattle.sw_peer.specs.declared.answer.Answer.{Answer}
+use Rattle.sw_peer.specs.declared.change.Change.{Change}
+use Rattle.sw_peer.specs.declared.entry.ObjEntry.{ObjEntry}
+use Rattle.sw_peer.specs.declared.got.Got.{Got}
+use Rattle.sw_peer.specs.declared.line.Event.{Event}
+use Rattle.sw_peer.specs.declared.line.Event.TheVariants.{Changed, Read}
+use Rattle.sw_peer.specs.declared.line.Line.{Line}
+use Rattle.sw_peer.specs.declared.link.Link.TheVariants.{Local}
 use Rattle.sw_object_server.specs.Asking.{IsAsked}
 use Rattle.sw_object_server.specs.Replies.{bare, made_reply, reply_to}
 use Rattle.sw_object_server.specs.Showing.{IsShown}
 use Rattle.sw_object_server.specs.declared.asked.Asked.{Asked}
 use Rattle.sw_object_server.specs.declared.asked.Asked.TheVariants as asks
-use Rattle.sw_object_server.specs.declared.asked.Step.{Step}
-use Rattle.sw_object_server.specs.declared.asked.Step.TheVariants as steps
 use Rattle.sw_cluster.specs.Control.{IsControlled, is_control}
 
--- the call that a step is
-abbrev pub call_of : Step → PlainCall
-call_of (steps.Put time content none_match) = calls.Put time content none_match
-call_of (steps.Post time heads) = calls.Post time heads
-call_of (steps.Delete time) = calls.Delete time None
-call_of (steps.Receive write) = calls.Receive write
-call_of (steps.Get head_only) = calls.Get
-
--- the step of a name at a device
-abbrev pub step_at : ℕ → Name → Step → PlainStep
-step_at device name step = record { device = device; account = name.account; container = name.container; object = name.object; call = call_of step }
-
--- the reply to a step that had this answer, at this moment
-abbrev pub IsReplied : ℕ → Step → StepAnswer → Response → Type 0
-IsReplied moment (steps.Put time content none_match) (Object answer) response = response ≡ reply_to (made_reply (kinds.Put content)) answer
-IsReplied moment (steps.Post time heads) (Object answer) response = response ≡ reply_to (made_reply (kinds.Meta heads)) answer
-IsReplied moment (steps.Delete time) (Object answer) response = response ≡ reply_to (made_reply kinds.Del) answer
-IsReplied moment (steps.Receive write) (Object answer) response = response ≡ reply_to (made_reply write.kind) answer
-IsReplied moment (steps.Get head_only) (Read got) response = IsShown got moment head_only response
-IsReplied moment (steps.Get head_only) (Object answer) response = ⊥
-IsReplied moment step (Read got) response = ⊥
-
--- the one step that the request asks for was made, and its answer is replied
-pub record Makes (before : List StepLine) (device : ℕ) (name : Name) (step : Step) (moment : ℕ) (response : Response) (after : List StepLine) : Type 0 where
-  pub line : StepLine
-  pub one_more : after ≡ before ++ line ∷ []
-  pub step_is : line.step ≡ step_at device name step
-  pub replied : IsReplied moment step line.answer response
+-- one step more came to this device, said there itself: its line tells what it asked for, its answer, and the entries that it added
+abbrev pub HasLine : List Line → ℕ → Event → List Line → Type 0
+HasLine before device event after =
+    (added : List ObjEntry) × (after ≡ before ++ record { device = device; link = Local; event = event; added = added } ∷ [])
 
 -- what a request asks for was done, and replied to. A refused request makes no step
-abbrev pub IsDone : List StepLine → ℕ → Asked → Response → List StepLine → Type 0
+abbrev pub IsDone : List Line → ℕ → Asked → Response → List Line → Type 0
 IsDone before moment (asks.Refused status) response after = (after ≡ before) × (response ≡ bare status)
-IsDone before moment (asks.Step device name step) response after = Makes before device name step moment response after
+IsDone before moment (asks.Change device name change) response after =
+    (answer : Answer) × HasLine before device (Changed name change answer) after × (response ≡ reply_to (made_reply (write_of change).kind) answer)
+IsDone before moment (asks.Read device name head_only) response after =
+    (got : Got) × HasLine before device (Read name got) after × IsShown got moment head_only response
 
 -- the one right reply to a request of the nodes
-abbrev pub IsServed : Ring → List StepLine → Request → ℕ → Response → List StepLine → Type 0
-IsServed ring before r moment response after = (asked : Asked) × IsAsked ring r asked × IsDone before moment asked response after
+abbrev pub IsRight : Ring → List Line → Request → ℕ → Response → List Line → Type 0
+IsRight ring before r moment response after = (asked : Asked) × IsAsked ring r asked × IsDone before moment asked response after
 
--- the one right reply to a request. A control request makes no step
-abbrev pub IsAnswer : Ring → List StepLine → Request → ℕ → Response → List StepLine → Type 0
-IsAnswer ring before r moment response after =
-    MatchBool (is_control r.path) ((after ≡ before) × IsControlled ring.devices before r response) (IsServed ring before r moment response after)
+-- the step that was asked for came, and entered no write. A refused request has none
+abbrev pub IsIdle : List Line → Asked → List Line → Type 0
+IsIdle before (asks.Refused status) after = ⊥
+IsIdle before (asks.Change device name change) after = (answer : Answer) × HasLine before device (Changed name change answer) after × (is_entered answer ≡ false)
+IsIdle before (asks.Read device name head_only) after = (got : Got) × HasLine before device (Read name got) after
 
--- no step was made, or one that changed nothing
-abbrev pub IsUnchanged : List StepLine → List StepLine → Type 0
-IsUnchanged before after = (after ≡ before) ⊎ ((line : StepLine) × (after ≡ before ++ line ∷ []) × (line.changed ≡ false))
+-- want of memory: no step came, or the one that the request asks for, which entered no write
+abbrev pub IsWanting : Ring → List Line → Request → Response → List Line → Type 0
+IsWanting ring before r response after =
+    (response ≡ bare 500) × ((after ≡ before) ⊎ ((asked : Asked) × IsAsked ring r asked × IsIdle before asked after))
 
--- want of memory, with which nothing has changed
-abbrev pub IsWanting : List StepLine → Response → List StepLine → Type 0
-IsWanting before response after = (response ≡ bare 500) × IsUnchanged before after
-
--- a reply that may be given: the right one, or want of memory, which changes nothing
-abbrev pub MayAnswer : Ring → List StepLine → Request → ℕ → Response → List StepLine → Type 0
-MayAnswer ring before r moment response after = IsAnswer ring before r moment response after ⊎ IsWanting before response after
+-- a reply that may be given: the right one, or want of memory. A control request makes no step
+abbrev pub MayAnswer : Ring → List Line → Request → ℕ → Response → List Line → Type 0
+MayAnswer ring before r moment response after =
+    MatchBool (is_control r.path)
+    ((after ≡ before) × (IsControlled ring.devices before r response ⊎ (response ≡ bare 500)))
+    (IsRight ring before r moment response after ⊎ IsWanting ring before r response after)

@@ -2,12 +2,12 @@ ghost use Rattle.std.specs.Prelude.{◌≡◌, IfOk, bytes_eq, drop};
 ghost use Rattle.percent_encoding.specs.Percent.{percent_decode as decoded_of};
 ghost use Rattle.sw_cluster.specs.Control.{IsControlled, asks_trail as asks_for_trail, is_control as is_control_path, is_control_word as is_control_word_of, text_reply as text_reply_of};
 
-use crate::trail_text::trail_text;
+use crate::trail_lines::trail_text;
 use std::alloc::Global;
-use sw_core::StepLine;
-use sw_http::{Field, FieldList, Request, Response};
+use sw_message::{Field, FieldList, ReplyBody, Request, Response};
 use sw_object_server::{at_slash, bare, decoded, slash_count};
 use sw_outside::{Bytes, BytesList, NoMemory};
+use sw_peer::Line;
 
 /// Whether a path is that of a control request: its first segment says so.
 pub fn is_control(alloc: Global, path: &Bytes) -> Result<bool, NoMemory>
@@ -25,13 +25,13 @@ pub fn is_control(alloc: Global, path: &Bytes) -> Result<bool, NoMemory>
 pub fn control(
     alloc: Global,
     devices: &BytesList,
-    steps: &[StepLine],
+    lines: &[Line],
     request: &Request,
 ) -> Result<Response, NoMemory>
-    ensures { IfOk result (IsControlled devices.now steps.now request.now) }
+    ensures { IfOk result (IsControlled devices.now lines.now request.now) }
 {
     if asks_trail(alloc, request)? {
-        text_reply(alloc, trail_text(alloc, devices, steps)?)
+        text_reply(alloc, trail_text(alloc, devices, lines)?)
     } else {
         Ok(bare(alloc, 400))
     }
@@ -81,12 +81,9 @@ fn text_reply(alloc: Global, text: Bytes) -> Result<Response, NoMemory>
         name: Bytes::copy(alloc, b"Content-Type")?,
         value: Bytes::copy(alloc, b"text/plain; charset=utf-8")?,
     };
-    let length = text.as_slice().len() as u64;
     Ok(Response {
         status: 200,
         fields: FieldList::from(vec![in alloc; content_type]?),
-        body: text,
-        length,
-        head_only: false,
+        body: ReplyBody::Whole(text),
     })
 }

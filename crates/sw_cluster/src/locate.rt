@@ -3,10 +3,11 @@ ghost use Rattle.std.specs.String.{string_bytes};
 ghost use Rattle.sw_cluster.specs.Locating.{IsWritten, Locates};
 ghost use Rattle.sw_cluster.specs.Opening.{EndsWith};
 ghost use Rattle.sw_cluster.specs.Report.{Reports, line_of as line_of_status, ring_line as line_of_ring};
-ghost use Rattle.sw_cluster.specs.declared.status.TheConstants.{BAD_RING};
+ghost use Rattle.sw_cluster.specs.Statuses as statuses;
+ghost use Rattle.sw_outside.specs.Counts.{raised};
 ghost use Rattle.sw_cluster.specs.Words.{account_word, container_word, object_word, ring_word};
 
-use crate::cluster::{refuse_ring, report};
+use crate::command::{refuse_ring, report};
 use crate::opening::open_ring;
 use crate::status::{COMPLETE, NO_MEMORY, USAGE, WRITE_FAULT};
 use crate::stores::Stores;
@@ -30,7 +31,8 @@ pub fn locate<W: Sink, E: Sink, S: Stores>(
         (λ bad. Reports (E.taken errors.old) (E.taken errors.new) (E.faults errors.old) (E.faults errors.new) (line_of_ring bad))
         (λ ring. Locates ring (account_word (map string_bytes words.now)) (container_word (map string_bytes words.now)) (object_word (map string_bytes words.now)) (W.taken out.old) (W.taken out.new) (W.faults out.old) (W.faults out.new) result)
         result }
-    ensures line { result ≢ BAD_RING → Reports (E.taken errors.old) (E.taken errors.new) (E.faults errors.old) (E.faults errors.new) (line_of_status result) }
+    ensures line { result ≢ statuses.bad_ring → Reports (E.taken errors.old) (E.taken errors.new) (E.faults errors.old) (E.faults errors.new) (line_of_status result) }
+    ensures asked { S.calls stores.new ≡ raised (S.calls stores.old) }
 {
     match open_ring(alloc, stores, ring_of(words)) {
         Ok(ring) => {

@@ -1,7 +1,9 @@
-ghost use Rattle.std.specs.Prelude.{◌≡◌, [], find};
+ghost use Rattle.std.specs.Prelude.{◌≡◌, ℕ, [], List, Some, IfOk, find};
 ghost use Rattle.std.specs.Option.{option_copied, option_map};
 ghost use Rattle.std.specs.Str.{bytes_eq};
-ghost use Rattle.sw_cluster.specs.Rings.{text_in};
+ghost use Rattle.sw_outside.specs.Counts.{raised};
+ghost use Rattle.sw_cluster.specs.Opening.{IsKept};
+ghost use Rattle.sw_cluster.specs.Rings.{IsGiven, faults_after, text_in};
 
 use crate::stores::Stores;
 use std::alloc::Global;
@@ -50,11 +52,20 @@ impl MemStores {
 }
 
 impl Stores for MemStores {
-    ghost text = { λ s name. text_in s.rings name };
+    ghost text = { λ s name. Some (text_in s.rings name) };
 
     ghost faults = { λ s. s.faults };
 
-    fn ring(&mut self, alloc: Global, name: &str) -> Result<Bytes, StoreError> {
+    ghost calls = { λ s. s.calls };
+
+    fn ring(&mut self, alloc: Global, name: &str) -> Result<Bytes, StoreError>
+        ensures text { IfOk result (λ bytes. IsKept (Some (text_in self.old.rings name.now)) bytes) }
+        ensures kept { (other : List ℕ) → Some (text_in self.new.rings other) ≡ Some (text_in self.old.rings other) }
+        ensures cause { self.new.faults ≡ faults_after self.old.faults result }
+        ensures calls { self.new.calls ≡ raised self.old.calls }
+        ensures given { IsGiven self.old name.now result }
+        ensures plan { (self.new.rings ≡ self.old.rings) × (self.new.failing ≡ self.old.failing) }
+    {
         let call = self.calls;
         self.calls = call.saturating_add(1);
         let found = if self.failing.contains(&call) {

@@ -1,4 +1,5 @@
-ghost use Rattle.std.specs.Prelude.{◌≡◌, ◌≤◌};
+ghost use Rattle.std.specs.Prelude.{◌≡◌};
+ghost use Rattle.sw_outside.specs.Counts.{raised};
 ghost use Rattle.sw_cluster.specs.Opening.{IsOpening};
 
 use crate::stores::Stores;
@@ -16,10 +17,10 @@ pub enum OpenFault {
     NoMemory,
 }
 
-/// Opens the ring of a name.
+/// Opens the ring of a name. The stores are asked once.
 pub fn open_ring<S: Stores>(alloc: Global, stores: &mut S, name: &str) -> Result<Ring, OpenFault>
     ensures opening { IsOpening (S.text stores.old name.now) (S.faults stores.old) (S.faults stores.new) result }
-    ensures later { S.faults stores.old ≤ S.faults stores.new }
+    ensures once { S.calls stores.new ≡ raised (S.calls stores.old) }
 {
     let text = match stores.ring(alloc, name) {
         Ok(text) => text,

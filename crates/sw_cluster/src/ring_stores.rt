@@ -12,11 +12,16 @@ use sw_outside::{Bytes, StoreError};
 pub struct RingStores<'a, R: Files + AllocGlobal> {
     rt: &'a R,
     faults: u64,
+    calls: u64,
 }
 
 impl<'a, R: Files + AllocGlobal> RingStores<'a, R> {
     pub fn new(rt: &'a R) -> RingStores<'a, R> {
-        RingStores { rt, faults: 0 }
+        RingStores {
+            rt,
+            faults: 0,
+            calls: 0,
+        }
     }
 }
 
@@ -25,7 +30,10 @@ impl<R: Files + AllocGlobal> Stores for RingStores<'_, R> {
 
     ghost faults = { λ s. s.faults };
 
+    ghost calls = { λ s. s.calls };
+
     fn ring(&mut self, _alloc: Global, name: &str) -> Result<Bytes, StoreError> {
+        self.calls = self.calls.saturating_add(1);
         match fs::read(self.rt, name) {
             Ok(text) => Ok(Bytes::from(text)),
             Err(error) if error.kind() == ErrorKind::OutOfMemory => Err(StoreError::NoMemory),

@@ -1,7 +1,9 @@
 ghost use Rattle.std.specs.Prelude.{◌≡◌};
+ghost use Rattle.sw_cluster.specs.Ending.{status_by};
 ghost use Rattle.sw_cluster.specs.Report.{line_of as line_of_status, ring_line as ring_line_of};
 
 use sw_ring::BadRing;
+use sw_session::SessionFault;
 
 /// The input was read to its end.
 pub const COMPLETE: u8 = 0;
@@ -21,6 +23,20 @@ pub const TOO_LONG: u8 = 7;
 pub const BAD_INPUT: u8 = 8;
 /// Memory ran out where the session couldn't go on without it.
 pub const NO_MEMORY: u8 = 9;
+
+/// The status of a session, by how it ended.
+pub fn status_of(ended: Result<(), SessionFault>) -> u8
+    ensures { result ≡ status_by ended }
+{
+    match ended {
+        Ok(()) => COMPLETE,
+        Err(SessionFault::ReadFault) => READ_FAULT,
+        Err(SessionFault::WriteFault) => WRITE_FAULT,
+        Err(SessionFault::TooLong) => TOO_LONG,
+        Err(SessionFault::BadInput) => BAD_INPUT,
+        Err(SessionFault::NoMemory) => NO_MEMORY,
+    }
+}
 
 /// The line that says on the error sink how a command ended, with its line feed. A complete one says nothing; what is wrong with a
 /// ring is said by [`ring_line`].

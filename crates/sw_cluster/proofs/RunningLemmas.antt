@@ -1,0 +1,79 @@
+-- How the run that a trail tells goes on by a request.
+use Rattle.std.proofs.Common.{◌≡◌, ℕ, true, List, map, Option, Some, None, refl, sym, ap, ◌∙◌, subst, inl, inr, ◌⊎◌, Ok}
+use Rattle.std.specs.List.{slice_get}
+use Rattle.sw_message.specs.declared.request.Request.{Request}
+use Rattle.sw_message.specs.declared.response.Response.{Response}
+use Rattle.sw_peer.proofs.Calls.{calls-moves, made-step, read-step}
+use Rattle.sw_peer.specs.Journals.{Hash}
+use Rattle.sw_peer.specs.Sights.{IsAt, IsMade, IsRead, Moves, Sight}
+use Rattle.sw_peer.specs.declared.link.Link.TheVariants.{Local}
+use Rattle.sw_ring.specs.declared.ring.Ring.{Ring}
+use Rattle.sw_object_server.specs.Serving.{IsAnswered, IsGivenUp, IsLeft, IsServed}
+use Rattle.sw_object_server.specs.declared.asked.Asked.{Asked}
+use Rattle.sw_object_server.specs.declared.asked.Asked.TheVariants as asks
+use Rattle.sw_core.proofs.Sessions.{run-changed-call, run-read-call}
+use Rattle.sw_core.proofs.Sound.{sound}
+use Rattle.sw_core.specs.Doors.{HasRun}
+use Rattle.sw_core.specs.Laws.{NoneFailed}
+use Rattle.sw_core.specs.Machine.{Came, Machine}
+use Rattle.sw_core.specs.Nodes.{Kept}
+use Rattle.sw_core.specs.Shelves.{SoundState, sound_faults, sound_holds, sound_tells}
+use Rattle.sw_core.specs.Worlds.{AllNodes, seen_of, sight_of}
+
+-- ---- nodes in memory that never fail
+
+seen_sound : (k : Option (Kept SoundState)) → (seen_of sound_tells sound_holds sound_faults k).faults ≡ 0
+seen_sound None = refl
+seen_sound (Some k) = refl
+
+-- so no step of their run has failed
+pub never_failed : (w : AllNodes SoundState) (start : Machine) → (r : HasRun start (sight_of sound_tells sound_holds sound_faults w)) → NoneFailed (map Came r.lines)
+never_failed w start r =
+    let s : Sight = sight_of sound_tells sound_holds sound_faults w in
+    sound s.nodes.lock start (map Came r.lines) r.after r.run (λ device hash. ap (λ h. h.faults) (sym (r.stands.seen (s.nodes.lock device hash))) ∙ seen_sound (slice_get w.nodes (s.nodes.lock device hash)))
+
+-- ---- requests
+
+module _ {D : Type 0} (sight : D → Sight) (alone : (d : D) → (sight d).alone ≡ true) where
+  -- the nodes are those that were there
+  pub answered_nodes : (ring : Ring) (old new : D) (request : Request) (moment : ℕ) (response : Response) → IsAnswered sight old new ring request moment response
+      → (sight new).nodes ≡ (sight old).nodes
+  answered_nodes ring old new request moment response answered = by_asked answered.0 answered.2
+    where
+      by_asked : (asked : Asked) → IsServed sight old new moment asked response → (sight new).nodes ≡ (sight old).nodes
+      by_asked (asks.Refused status) served = ap (λ (d : D). (sight d).nodes) served.0
+      by_asked (asks.Change device name change) served =
+          (calls-moves (Moves (IsAt device name.hash)) (IsMade Local device name change) (made-step Local device name change) (sight old) Local (Ok served.0) (sight new) served.1.called).nodes
+      by_asked (asks.Read device name head_only) served =
+          (calls-moves (Moves (IsAt device name.hash)) (IsRead Local device name) (read-step Local device name) (sight old) Local (Ok served.0) (sight new) served.1.called).nodes
+
+  pub left_nodes : (ring : Ring) (old new : D) (request : Request) (moment : ℕ) → IsGivenUp sight old new ring request moment → (sight new).nodes ≡ (sight old).nodes
+  left_nodes ring old new request moment (inl same) = ap (λ (d : D). (sight d).nodes) same
+  left_nodes ring old new request moment (inr left) = by_asked left.0 left.2
+    where
+      by_asked : (asked : Asked) → IsLeft (sight old) (sight new) moment asked → (sight new).nodes ≡ (sight old).nodes
+      by_asked (asks.Refused status) gone = absurd gone
+      by_asked (asks.Change device name change) gone =
+          (calls-moves (Moves (IsAt device name.hash)) (IsMade Local device name change) (made-step Local device name change) (sight old) Local (Ok gone.0) (sight new) gone.1.called).nodes
+      by_asked (asks.Read device name head_only) gone =
+          (calls-moves (Moves (IsAt device name.hash)) (IsRead Local device name) (read-step Local device name) (sight old) Local (Ok gone.0) (sight new) gone.1.called).nodes
+
+  -- and a run goes on
+  pub answered_runs : (ring : Ring) (old new : D) (request : Request) (moment : ℕ) (response : Response) → IsAnswered sight old new ring request moment response
+      → (start : Machine) → HasRun start (sight old) → HasRun start (sight new)
+  answered_runs ring old new request moment response answered start r = by_asked answered.0 answered.2
+    where
+      by_asked : (asked : Asked) → IsServed sight old new moment asked response → HasRun start (sight new)
+      by_asked (asks.Refused status) served = subst (λ (d : D). HasRun start (sight d)) (sym served.0) r
+      by_asked (asks.Change device name change) served = run-changed-call start device name change (sight old) served.0 (sight new) (alone new) served.1.called r
+      by_asked (asks.Read device name head_only) served = run-read-call start device name (sight old) served.0 (sight new) (alone new) served.1.called r
+
+  pub left_runs : (ring : Ring) (old new : D) (request : Request) (moment : ℕ) → IsGivenUp sight old new ring request moment
+      → (start : Machine) → HasRun start (sight old) → HasRun start (sight new)
+  left_runs ring old new request moment (inl same) start r = subst (λ (d : D). HasRun start (sight d)) (sym same) r
+  left_runs ring old new request moment (inr left) start r = by_asked left.0 left.2
+    where
+      by_asked : (asked : Asked) → IsLeft (sight old) (sight new) moment asked → HasRun start (sight new)
+      by_asked (asks.Refused status) gone = absurd gone
+      by_asked (asks.Change device name change) gone = run-changed-call start device name change (sight old) gone.0 (sight new) (alone new) gone.1.called r
+      by_asked (asks.Read device name head_only) gone = run-read-call start device name (sight old) gone.0 (sight new) (alone new) gone.1.called r
