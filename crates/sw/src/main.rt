@@ -1,33 +1,13 @@
 //! `sw`: the storage nodes of all devices of a ring, in one process.
 //!
-//! [`cluster::cluster`] is the top call: it carries the theorem of the whole program, over any words, source, sinks and stores. `main` only
-//! makes the real ones. Below it, from the top: `words` and `opening` tell the command and open its ring; `session` reads and answers the
-//! requests of an input one after the other; `server` answers one, by the nodes of the world or by `control`, whose texts `trail_text` writes;
-//! `locate` and `whereabouts` say where a name is.
+//! `main` makes the host's ends and ends with the status of `sw_cluster`'s `cluster`, which carries the theorem of the whole program. What
+//! `main` itself does is under no contract: the stored runs show it.
 #![tactic(auto)]
 
-mod cluster;
-mod control;
-mod locate;
-mod mem_stores;
-mod opening;
-mod ring_stores;
-mod server;
-mod session;
-mod status;
-mod stores;
-#[cfg(test)]
-mod tests;
-mod trail_text;
-mod whereabouts;
-mod words;
-
-use cluster::{cluster, report};
-use ring_stores::RingStores;
-use status::NO_MEMORY;
 use std::io::ErrorKind;
 use std::process::ExitCode;
 use std::{env, io};
+use sw_cluster::{NO_MEMORY, RingStores, cluster, report};
 use sw_core::Trail;
 use sw_outside::{HostClock, ReaderSource, WriterSink};
 
