@@ -1,0 +1,82 @@
+use std::alloc::Global;
+use sw_outside::FailingPut;
+
+/// What the file `case` of a case says.
+#[derive(Drop)]
+pub struct Script {
+    /// The words of the command line, without the program's own name.
+    pub words: Vec<String>,
+    /// How many bytes each read of the input gives at most.
+    pub pieces: Vec<usize>,
+    pub failing_reads: Vec<u64>,
+    pub failing_puts: Vec<FailingPut>,
+    pub failing_error_puts: Vec<FailingPut>,
+    pub failing_stores: Vec<u64>,
+    /// The clock's readings, in seconds since 1970.
+    pub clock: Vec<u64>,
+    /// The ways in which the case is run again.
+    pub again: Vec<Again>,
+    /// Bytes of the input between its files `input` and `more-input`.
+    pub filling: Option<Filling>,
+    pub status: u8,
+    /// The line that is wanted on the error sink, without its line feed. An empty one stands for none.
+    pub error: String,
+}
+
+impl Script {
+    /// The script that an empty file would have, but that it says a status. It takes no memory.
+    pub fn new(alloc: Global) -> Script {
+        Script {
+            words: Vec::new(alloc),
+            pieces: Vec::new(alloc),
+            failing_reads: Vec::new(alloc),
+            failing_puts: Vec::new(alloc),
+            failing_error_puts: Vec::new(alloc),
+            failing_stores: Vec::new(alloc),
+            clock: Vec::new(alloc),
+            again: Vec::new(alloc),
+            filling: None,
+            status: 0,
+            error: String::new(alloc),
+        }
+    }
+}
+
+/// One byte, many times over: an input that is long and says little.
+#[derive(Clone, Copy, Debug, PartialEq, Eq)]
+pub struct Filling {
+    pub byte: u8,
+    pub count: usize,
+}
+
+/// A way, or many of one kind, in which a case is run again.
+#[derive(Drop)]
+pub enum Again {
+    /// In pieces of each of these sizes, the last one too.
+    Pieces { from: usize, to: usize },
+    /// Cut after each number of bytes.
+    Cuts(Vec<Mark>),
+    /// With each read failing in turn. For each, how many bytes of the output are written by then.
+    FailingReads(Vec<usize>),
+    /// With each put failing in turn, once it has taken so many bytes. For each, how many bytes of the output are written before it.
+    FailingPuts { taken: usize, starts: Vec<usize> },
+}
+
+/// A place of the input: how many bytes of the output are written by then, and whether the place stands between requests.
+#[derive(Clone, Copy, Debug, PartialEq, Eq)]
+pub struct Mark {
+    pub input: usize,
+    pub output: usize,
+    pub is_between: bool,
+}
+
+/// A case: what the top call is handed, and what is wanted of it.
+#[derive(Drop)]
+pub struct Case {
+    pub name: String,
+    pub script: Script,
+    pub input: Vec<u8>,
+    pub output: Vec<u8>,
+    /// The text of the trail at the end, where the case says it.
+    pub trail: Option<Vec<u8>>,
+}

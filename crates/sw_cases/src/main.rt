@@ -1,0 +1,46 @@
+//! `sw_cases`: worked runs of the program that are files, each compared with what is wanted of it.
+//!
+//! A case is a folder: what the top call of `sw_cluster` is handed (words, rings, input, the sizes in which it comes, calls that fail, readings of
+//! the clock), and what is wanted of it (output, error line, status, trail). Beside the cases, `data/README.md` says how each is written. A
+//! new case is a new folder, and costs no proof.
+//!
+//! [`case`] has what a case is, `script` reads its file `case`, `folder` its folder, [`way`] lists the ways in which it is run, `run` makes one
+//! run over memory, and [`comparison`] finds the first difference. What is proved is safety and that every run ends; what the program prints
+//! is shown by its stored run.
+#![tactic(auto)]
+
+mod case;
+mod case_error;
+mod comparison;
+mod difference;
+mod folder;
+mod line;
+mod run;
+mod script;
+mod tally;
+mod way;
+
+use case_error::CaseError;
+use std::env;
+use std::process::ExitCode;
+use tally::{Tally, run_all};
+
+/// Runs all cases of the folder that the first word names, else of the present one. The status is 0 where all are as wanted, 1 where one
+/// isn't, and 2 where one couldn't be read or the report not written.
+fn main(rt: HostRuntime) -> ExitCode {
+    match run_cases(&rt) {
+        Ok(tally) if tally.same == tally.cases => ExitCode::from(0),
+        Ok(_) => ExitCode::from(1),
+        Err(error) => {
+            let _ = rt.eprintln(error);
+            ExitCode::from(2)
+        }
+    }
+}
+
+fn run_cases(rt: &HostRuntime) -> Result<Tally, CaseError> {
+    match env::args(rt)?.nth(1) {
+        Some(folder) => run_all(rt, &folder),
+        None => run_all(rt, "."),
+    }
+}

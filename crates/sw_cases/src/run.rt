@@ -1,0 +1,119 @@
+use crate::case::Case;
+use crate::way::Change;
+use std::alloc::Global;
+use sw_cluster::{MemStores, RingText, cluster, trail_text};
+use sw_core::Trail;
+use sw_outside::{Bytes, BytesList, FailingPut, MemClock, MemSink, MemSource, NoMemory};
+
+/// What a run left.
+#[derive(Drop)]
+pub struct Ended {
+    pub status: u8,
+    pub output: MemSink,
+    pub errors: MemSink,
+    pub trail: Trail,
+}
+
+/// Runs a case over memory, with this change.
+pub fn run(
+    alloc: Global,
+    case: &Case,
+    rings: &[RingText],
+    change: Change,
+) -> Result<Ended, NoMemory> {
+    let script = &case.script;
+    let mut source = source(alloc, case, change)?;
+    let mut output = MemSink::new(alloc, puts(alloc, &script.failing_puts, change)?);
+    let mut errors = MemSink::new(alloc, Vec::from_slice(alloc, &script.failing_error_puts)?);
+    let mut stores = stores(alloc, rings, &script.failing_stores)?;
+    let mut clock = MemClock::new(Vec::from_slice(alloc, &script.clock)?);
+    let mut trail = Trail::new(alloc);
+    let status = cluster(
+        alloc,
+        &script.words,
+        &mut source,
+        &mut output,
+        &mut errors,
+        &mut stores,
+        &mut clock,
+        &mut trail,
+    );
+    Ok(Ended {
+        status,
+        output,
+        errors,
+        trail,
+    })
+}
+
+/// The source of a case, with a change.
+fn source(alloc: Global, case: &Case, change: Change) -> Result<MemSource, NoMemory> {
+    let input = match change {
+        Change::Cut(length) => &case.input[..length.min(case.input.len())],
+        _ => &case.input,
+    };
+    let pieces = match change {
+        Change::Pieces(size) => {
+            let reads = case.input.len() / size.max(1);
+            vec![in alloc; size; reads.saturating_add(2)]?
+        }
+        _ => Vec::from_slice(alloc, &case.script.pieces)?,
+    };
+    let mut failing = Vec::from_slice(alloc, &case.script.failing_reads)?;
+    if let Change::FailingRead(call) = change {
+        failing.push(call)?;
+    }
+    Ok(MemSource::new(Bytes::copy(alloc, input)?, pieces, failing))
+}
+
+/// The puts that fail, with a change.
+fn puts(
+    alloc: Global,
+    failing: &[FailingPut],
+    change: Change,
+) -> Result<Vec<FailingPut>, NoMemory> {
+    let mut puts = Vec::from_slice(alloc, failing)?;
+    if let Change::FailingPut(put) = change {
+        puts.push(put)?;
+    }
+    Ok(puts)
+}
+
+/// Stores with these rings.
+fn stores(alloc: Global, rings: &[RingText], failing: &[u64]) -> Result<MemStores, NoMemory> {
+    let mut copies = Vec::new(alloc);
+    for ring in rings {
+        copies.push(RingText {
+            name: Bytes::copy(alloc, ring.name.as_slice())?,
+            text: Bytes::copy(alloc, ring.text.as_slice())?,
+        })?;
+    }
+    Ok(MemStores::new(copies, Vec::from_slice(alloc, failing)?))
+}
+
+/// The text of a trail, with the names of the devices of the ring that the words of a case name.
+pub fn text_of(
+    alloc: Global,
+    case: &Case,
+    rings: &[RingText],
+    trail: &Trail,
+) -> Result<Bytes, NoMemory> {
+    let devices = devices(alloc, case, rings)?;
+    trail_text(alloc, &devices, trail.steps.as_slice())
+}
+
+/// The devices of the ring that the second word names, none where it is no ring.
+fn devices(alloc: Global, case: &Case, rings: &[RingText]) -> Result<BytesList, NoMemory> {
+    let none = BytesList::from(Vec::new(alloc));
+    let Some(word) = case.script.words.get(1) else {
+        return Ok(none);
+    };
+    let name = word.as_bytes();
+    let Some(found) = rings.iter().find(|ring| ring.name.as_slice() == name) else {
+        return Ok(none);
+    };
+    match sw_ring::read(alloc, found.text.as_slice()) {
+        Ok(ring) => Ok(ring.devices.copy(alloc)?),
+        Err(_) => Ok(none),
+    }
+}
