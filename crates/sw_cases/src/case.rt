@@ -21,6 +21,9 @@ pub struct Script {
     pub status: u8,
     /// The line that is wanted on the error sink, without its line feed. An empty one stands for none.
     pub error: String,
+    /// The moments of the requests that are wanted in the trail, and how many steps, where the case says them.
+    pub moments: Option<Vec<u64>>,
+    pub steps: Option<u64>,
 }
 
 impl Script {
@@ -38,6 +41,8 @@ impl Script {
             filling: None,
             status: 0,
             error: String::new(alloc),
+            moments: None,
+            steps: None,
         }
     }
 }

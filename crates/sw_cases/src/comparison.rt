@@ -4,6 +4,7 @@ use crate::run::{Ended, text_of};
 use crate::way::Ending;
 use std::alloc::Global;
 use sw_cluster::RingText;
+use sw_core::Trail;
 use sw_outside::NoMemory;
 
 /// The refusal of a rest that is no request.
@@ -32,24 +33,60 @@ pub fn compare(
             came: ended.status,
         }));
     }
-    compare_trails(alloc, case, rings, ending, ended)
+    if ending == Ending::AsWanted {
+        compare_trails(alloc, case, rings, &ended.trail)
+    } else {
+        Ok(None)
+    }
 }
 
-/// Compares the text of the trail, where the case says it and the run is to end as the case does.
+/// Compares what the case says of the trail: its text, then the moments of requests and the number of steps.
 fn compare_trails(
     alloc: Global,
     case: &Case,
     rings: &[RingText],
-    ending: Ending,
-    ended: &Ended,
+    trail: &Trail,
 ) -> Result<Option<Difference>, NoMemory> {
-    match &case.trail {
-        Some(wanted) if ending == Ending::AsWanted => {
-            let text = text_of(alloc, case, rings, &ended.trail)?;
-            Difference::between(alloc, Part::Trail, wanted, text.as_slice())
+    if let Some(wanted) = &case.trail {
+        let text = text_of(alloc, case, rings, trail)?;
+        let found = Difference::between(alloc, Part::Trail, wanted, text.as_slice())?;
+        if found.is_some() {
+            return Ok(found);
         }
-        _ => Ok(None),
     }
+    if let Some(wanted) = &case.script.moments {
+        let found = between_numbers(alloc, Part::Moments, wanted, trail.moments.as_slice())?;
+        if found.is_some() {
+            return Ok(found);
+        }
+    }
+    match case.script.steps {
+        Some(wanted) => {
+            let steps = trail.steps.as_slice().len() as u64;
+            between_numbers(alloc, Part::Steps, &[wanted], &[steps])
+        }
+        None => Ok(None),
+    }
+}
+
+/// The first difference between the texts of two lists of numbers.
+fn between_numbers(
+    alloc: Global,
+    part: Part,
+    wanted: &[u64],
+    came: &[u64],
+) -> Result<Option<Difference>, NoMemory> {
+    let wanted = text_of_numbers(alloc, wanted)?;
+    let came = text_of_numbers(alloc, came)?;
+    Difference::between(alloc, part, wanted.as_bytes(), came.as_bytes())
+}
+
+fn text_of_numbers(alloc: Global, numbers: &[u64]) -> Result<String, NoMemory> {
+    let mut text = String::new(alloc);
+    for number in numbers {
+        write!(text, "{number} ")?;
+    }
+    Ok(text)
 }
 
 fn wanted_output(alloc: Global, case: &Case, ending: Ending) -> Result<Vec<u8>, NoMemory> {

@@ -8,6 +8,8 @@ pub enum Part {
     Output,
     ErrorLine,
     Trail,
+    Moments,
+    Steps,
 }
 
 /// The first place where a run isn't as wanted.
@@ -35,6 +37,8 @@ impl fmt::Display for Part {
             Part::Output => write!(f, "output"),
             Part::ErrorLine => write!(f, "error line"),
             Part::Trail => write!(f, "trail"),
+            Part::Moments => write!(f, "moments"),
+            Part::Steps => write!(f, "number of steps"),
         }
     }
 }

@@ -44,6 +44,8 @@ pub fn add_line(
     match key {
         "word" => Ok(script.words.push(value.to_string(alloc)?)?),
         "error" => set_error(alloc, script, value),
+        "moments" => set_moments(alloc, script, value),
+        "steps" => set_steps(script, value),
         "input-repeat" => set_filling(script, value),
         "pieces" => add_sizes(&mut script.pieces, value),
         "clock" => add_numbers(&mut script.clock, value),
@@ -71,6 +73,26 @@ fn set_error(alloc: Global, script: &mut Script, value: &str) -> Result<(), Line
         return Err(LineFault::Twice);
     }
     script.error = value.to_string(alloc)?;
+    Ok(())
+}
+
+fn set_moments(alloc: Global, script: &mut Script, value: &str) -> Result<(), LineFault> {
+    if script.moments.is_some() {
+        return Err(LineFault::Twice);
+    }
+    let mut moments = Vec::new(alloc);
+    if !value.is_empty() {
+        add_numbers(&mut moments, value)?;
+    }
+    script.moments = Some(moments);
+    Ok(())
+}
+
+fn set_steps(script: &mut Script, value: &str) -> Result<(), LineFault> {
+    if script.steps.is_some() {
+        return Err(LineFault::Twice);
+    }
+    script.steps = Some(number(value).ok_or(LineFault::NotNumbers)?);
     Ok(())
 }
 
