@@ -2,17 +2,19 @@ ghost use Rattle.std.specs.Prelude.{◌≡◌, ◌<◌, ◌≤◌, All, IfOk, tr
 ghost use Rattle.sw_core.specs.Stepping.{device_of};
 
 use crate::asked::{Asked, Told, change_of, name_of, told_by_answer, told_by_event, told_by_got};
+use Asked::{
+    Delete, DeleteExpired, Get, Post, Put, PutIfNone, Restart, SentDelete, SentMeta, SentPut,
+};
+use Told::{
+    Buried, Conflict, Done, Exists, Failed, Full, Mismatch, NotFound, NotFoundSince, Nothing,
+    Object, Updated,
+};
 use std::alloc::Global;
 use std::test::Fail;
 use sw_core::{MemShelf, Node, Step, World, run_steps};
 use sw_hashpath::Name;
 use sw_peer::{Got, Line, Link, Lost, ObjectDoor};
 use sw_volume::FailingCall;
-
-use Asked::{Delete, DeleteExpired, Get, Post, Put, PutIfNone, Restart, SentDelete, SentMeta, SentPut};
-use Told::{
-    Buried, Conflict, Done, Exists, Failed, Full, Mismatch, NotFound, NotFoundSince, Nothing, Object, Updated,
-};
 
 /// A step at a device, of an object, and what it is answered.
 type Row = (u8, &'static [u8], Asked, Told);
@@ -110,19 +112,24 @@ fn steps_of(alloc: Global, rows: &[Row]) -> Result<Vec<Step>, Fail>
 
 /// Whether the lines are those of the rows; a restart has none.
 fn are_told(lines: &[Line], rows: &[Row]) -> bool {
-    let mut next = lines.iter();
+    let mut place = 0usize;
     for (device, _, asked, told) in rows {
         if *asked == Restart {
             continue;
         }
-        let Some(line) = next.next() else {
-            return false;
-        };
-        if line.device != *device || told_by_event(&line.event) != *told {
+        if !is_line(lines.get(place), *device, *told) {
             return false;
         }
+        place = place.saturating_add(1);
     }
-    next.next().is_none()
+    place == lines.len()
+}
+
+fn is_line(line: Option<&Line>, device: u8, told: Told) -> bool {
+    match line {
+        Some(line) => line.device == device && told_by_event(&line.event) == told,
+        None => false,
+    }
 }
 
 /// Whether a world in which these steps are made tells their answers, and then none.
@@ -183,11 +190,7 @@ const NODES: [Case; 9] = [
         &[(1, true)],
         10,
         100,
-        &[
-            (Put(20), Failed),
-            (Get, Object(20, 1)),
-            (Put(30), Done(2)),
-        ],
+        &[(Put(20), Failed), (Get, Object(20, 1)), (Put(30), Done(2))],
     ),
     (
         &[(1, false)],
@@ -200,11 +203,7 @@ const NODES: [Case; 9] = [
         &[(1, true)],
         10,
         100,
-        &[
-            (Put(20), Failed),
-            (Restart, Nothing),
-            (Get, Object(20, 0)),
-        ],
+        &[(Put(20), Failed), (Restart, Nothing), (Get, Object(20, 0))],
     ),
     // The settling itself fails, and is tried again.
     (
@@ -221,12 +220,7 @@ const NODES: [Case; 9] = [
         &[(Put(20), Failed), (Get, NotFound), (Put(20), Done(1))],
     ),
     // A doubt counts for the limits once it is settled.
-    (
-        &[(1, true)],
-        1,
-        100,
-        &[(Put(20), Failed), (Put(30), Full)],
-    ),
+    (&[(1, true)], 1, 100, &[(Put(20), Failed), (Put(30), Full)]),
     (
         &[(1, false)],
         1,
