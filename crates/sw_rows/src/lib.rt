@@ -1,0 +1,25 @@
+//! The rows of a container: what it knows of its objects, one row for each name, each under a number that is used once.
+//!
+//! A [`Row`] tells of one object: live with its size, type and ETag, or deleted. Of two rows of one name the later one
+//! counts, and at one time the deleted one ([`Row::is_at_least`]). [`Rows::merge`] puts a row in exactly where the present
+//! one doesn't count as much, under the next number (ROWID), so whoever has read all rows up to a number finds all that is
+//! new above it. The rows' hash, count and bytes are those of the rows that stand, whatever came before.
+//!
+//! [`Tables`] is all that a container at a device stands for. The next layers up are `sw_listing`, which answers queries over
+//! rows, and `sw_keeper`, where tables are kept.
+#![tactic(auto)]
+
+mod edits;
+mod hash;
+pub mod laws;
+mod numbered;
+mod row;
+mod rows;
+mod rows_iter;
+mod tables;
+
+pub use numbered::Numbered;
+pub use row::Row;
+pub use rows::Rows;
+pub use rows_iter::RowsIter;
+pub use tables::Tables;

@@ -1,0 +1,29 @@
+ghost use Rattle.std.specs.Prelude.{◌≡◌, IfOk};
+
+use crate::rows::Rows;
+use std::alloc::Global;
+use sw_outside::NoMemory;
+use sw_timestamp::Timestamp;
+
+/// What a container at a device stands for.
+#[derive(Debug, Drop)]
+pub struct Tables {
+    /// The time of the latest creation.
+    pub put_time: Timestamp,
+    /// The time of the latest deletion, where there was one.
+    pub delete_time: Option<Timestamp>,
+    pub rows: Rows,
+}
+
+impl Tables {
+    /// Tables that are equal to these, or [`NoMemory`].
+    pub fn copy(&self, alloc: Global) -> Result<Tables, NoMemory>
+        ensures { IfOk result (λ copy. copy ≡ self.now) }
+    {
+        Ok(Tables {
+            put_time: self.put_time,
+            delete_time: self.delete_time,
+            rows: self.rows.copy(alloc)?,
+        })
+    }
+}
