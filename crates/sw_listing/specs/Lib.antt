@@ -1,0 +1,5 @@
+pub mod Asking
+pub mod Entries
+pub mod Listing
+pub mod Queries
+pub mod Showing
