@@ -41,6 +41,17 @@ with_row l row = record { list = without row.name l.list ++ record { rowid = l.t
 abbrev pub merged : Listed → Row → Listed
 merged l row = if fits (find_named l.list row.name) row then with_row l row else l
 
+abbrev pub is_numbered : ℕ → Numbered → Bool
+is_numbered rowid n = n.rowid == rowid
+
+-- a row put behind all others under this number, which is then the greatest given out
+abbrev pub with_numbered : Listed → Row → ℕ → Listed
+with_numbered l row rowid = record { list = l.list ++ record { rowid = rowid; row = row } ∷ []; top = rowid }
+
+-- the rows without the one of this number
+abbrev pub without_numbered : Listed → ℕ → Listed
+without_numbered l rowid = record l { list = filter (λ n. not (is_numbered rowid n)) l.list }
+
 -- each number is above the one before, and the first is above this one
 abbrev pub IsRising : ℕ → List Numbered → Type 0
 IsRising low [] = ⊤

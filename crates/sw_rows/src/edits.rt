@@ -1,10 +1,9 @@
-ghost use Rattle.std.specs.Prelude.{◌≡◌, ◌++◌, [], ◌∷◌, IfOk, OnOk, OnErr, position};
+ghost use Rattle.std.specs.Prelude.{◌≡◌, ◌++◌, [], ◌∷◌, OnOk, OnErr, position};
 ghost use Rattle.std.specs.Option.{option_copied};
 ghost use Rattle.sw_rows.specs.Rows.{find_named, is_named, IsNamedOnce, without};
 
 use crate::numbered::Numbered;
 use crate::row::Row;
-use std::alloc::Global;
 use sw_outside::NoMemory;
 
 /// The row of this name.
@@ -40,15 +39,4 @@ pub(crate) fn replace(rows: &mut Vec<Numbered>, numbered: Numbered) -> Result<()
         }
         None => Ok(()),
     }
-}
-
-/// Copies of these rows under their numbers, in their order.
-pub(crate) fn copy_each(alloc: Global, rows: &[Numbered]) -> Result<Vec<Numbered>, NoMemory>
-    ensures { IfOk result (λ copies. copies.items ≡ rows.now) }
-{
-    let mut copies = Vec::with_capacity(alloc, rows.len())?;
-    for numbered in rows {
-        copies.push(numbered.copy(alloc)?)?;
-    }
-    Ok(copies)
 }

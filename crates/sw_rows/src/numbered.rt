@@ -21,4 +21,15 @@ impl Numbered {
             row: self.row.copy(alloc)?,
         })
     }
+
+    /// Equal rows under the same numbers, in their order, or [`NoMemory`].
+    pub fn copy_all(alloc: Global, rows: &[Numbered]) -> Result<Vec<Numbered>, NoMemory>
+        ensures { IfOk result (λ copies. copies.items ≡ rows.now) }
+    {
+        let mut copies = Vec::with_capacity(alloc, rows.len())?;
+        for numbered in rows {
+            copies.push(numbered.copy(alloc)?)?;
+        }
+        Ok(copies)
+    }
 }

@@ -4,7 +4,7 @@ ghost use Rattle.sw_rows.specs.Left.{rows_left};
 ghost use Rattle.sw_rows.specs.Rows.{find_named, fits, merged, no_rows, IsListed};
 ghost use Rattle.sw_rows.specs.Sums.{bytes_of, count_of, hash_of};
 
-use crate::edits::{copy_each, find, replace};
+use crate::edits::{find, replace};
 use crate::hash::{bytes, count, hash};
 use crate::numbered::Numbered;
 use crate::row::Row;
@@ -130,7 +130,7 @@ impl Rows {
         ensures { IfOk result (λ copy. copy ≡ self.now) }
     {
         Ok(Rows {
-            list: copy_each(alloc, &self.list)?,
+            list: Numbered::copy_all(alloc, &self.list)?,
             top: self.top,
         })
     }

@@ -1,0 +1,5 @@
+pub mod Changes
+pub mod Keeping
+pub mod Ledgers
+pub mod MemState
+pub mod Places

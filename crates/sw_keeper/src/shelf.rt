@@ -1,0 +1,78 @@
+ghost use Rattle.std.specs.Prelude.{◌≡◌, Some, None, IfOk, OnOk, OnErr};
+ghost use Rattle.sw_keeper.specs.Changes.{IsBatch, all_changed, begun};
+
+use crate::batch::{Batch, copy_each};
+use crate::ledger::{Ledger, make_all};
+use std::alloc::Global;
+use std::marker::Model;
+use sw_hashpath::Place;
+use sw_outside::NoMemory;
+use sw_rows::{Numbered, Rows, Tables};
+use sw_timestamp::Timestamp;
+
+/// The tables at one place. Contracts see the place and the tables.
+#[derive(Debug, Drop)]
+pub(crate) struct Shelf {
+    place: Place,
+    ledger: Ledger,
+}
+
+impl Model for Shelf {
+    ghost use Rattle.sw_hashpath.specs.declared.place.Place.{Place};
+    ghost use Rattle.sw_keeper.specs.Ledgers.{tables_of};
+    ghost use Rattle.sw_rows.specs.Rows.{IsListed};
+    ghost use Rattle.sw_rows.specs.declared.tables.Tables.{Tables};
+
+    ghost Value = { Place × Tables };
+
+    ghost view = { λ s. (s.place, tables_of s.ledger) };
+
+    ghost invariant = { λ s. IsListed (tables_of s.ledger).rows };
+}
+
+impl Shelf {
+    /// A shelf with the earliest time and no rows.
+    pub(crate) fn new(alloc: Global, place: Place) -> Shelf
+        ensures { result ≡ (place, begun 0 None) }
+    {
+        Shelf {
+            place,
+            ledger: Ledger {
+                put_time: Timestamp::from_units(0).unwrap(),
+                delete_time: None,
+                list: Vec::new(alloc),
+                top: 0,
+            },
+        }
+    }
+
+    pub(crate) fn place(&self) -> &Place
+        ensures { result.now ≡ self.now.0 }
+    {
+        &self.place
+    }
+
+    pub(crate) fn tables(&self, alloc: Global) -> Result<Tables, NoMemory>
+        ensures { IfOk result (λ tables. tables ≡ self.now.1) }
+    {
+        let list = Numbered::copy_all(alloc, &self.ledger.list)?;
+        Ok(Tables {
+            put_time: self.ledger.put_time,
+            delete_time: self.ledger.delete_time,
+            rows: Rows::from_list(list, self.ledger.top),
+        })
+    }
+
+    /// Makes all changes of a batch, or none where memory runs out. Room is taken before the first one.
+    pub(crate) fn change(&mut self, alloc: Global, batch: &Batch) -> Result<(), NoMemory>
+        requires { IsBatch (Some self.old.1) batch.now }
+        ensures place { OnOk result (self.new.0 ≡ self.old.0) }
+        ensures tables { OnOk result (Some self.new.1 ≡ all_changed (Some self.old.1) batch.now) }
+        ensures err { OnErr result (self.new ≡ self.old) }
+    {
+        let changes = copy_each(alloc, batch.as_slice())?;
+        self.ledger.list.reserve(changes.len())?;
+        make_all(&mut self.ledger, changes);
+        Ok(())
+    }
+}
