@@ -8,9 +8,9 @@
 #![tactic(auto)]
 
 mod dates;
-mod json;
 pub mod laws;
 mod values;
+mod writing;
 
 pub use dates::listed_time;
-pub use json::to_json;
+pub use writing::to_json;

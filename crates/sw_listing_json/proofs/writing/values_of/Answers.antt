@@ -3,7 +3,7 @@ use Rattle.std.proofs.Common.{◌∷◌, [], map}
 use Rattle.serde_json.specs.View.{view}
 use Rattle.sw_listing_json.proofs.Texts.{zip-more}
 use Rattle.sw_listing_json.specs.Json.{IsEntryData}
-use Rattle.sw_listing_json.proofs.json.values_of.Goals as goal
+use Rattle.sw_listing_json.proofs.writing.values_of.Goals as goal
 
 pub loop-entry-preserved : goal.loop-entry-preserved
 loop-entry-preserved c =

@@ -2,7 +2,7 @@ use Rattle.std.proofs.Common.{◌∙◌, map}
 use Rattle.serde_json.proofs.Views.{view-Array}
 use Rattle.serde_json.specs.View.{view}
 use Rattle.sw_listing_json.proofs.Texts.{objects_have_float}
-use Rattle.sw_listing_json.proofs.json.to_json.Goals as goal
+use Rattle.sw_listing_json.proofs.writing.to_json.Goals as goal
 
 pub returns : goal.returns
 returns c =
