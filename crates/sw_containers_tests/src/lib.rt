@@ -1,0 +1,13 @@
+//! Tests of containers' rows, keepers and listings over their public calls. What the contracts say is proved for every
+//! input, so these show what no contract can: that the worked values are the ones that were meant, and that a call succeeds
+//! while there is memory.
+#![tactic(auto)]
+
+#[cfg(test)]
+mod keeper;
+#[cfg(test)]
+mod listing;
+#[cfg(test)]
+mod making;
+#[cfg(test)]
+mod rows;
