@@ -6,6 +6,6 @@
 #[cfg(test)]
 mod asked;
 #[cfg(test)]
-mod core;
+mod nodes;
 #[cfg(test)]
 mod peer;

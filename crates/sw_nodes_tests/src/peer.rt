@@ -70,7 +70,9 @@ fn what_a_read_found_is_copied_whole(rt: HostRuntime) -> Result<(), Fail> {
 /// Whether an entry is of the object `o`, at the fifth second.
 fn is_of_o(entry: &ObjEntry) -> bool {
     let ObjEntry::Wrote(name, write) = entry;
-    name.object.as_slice() == b"o".as_slice() && name.hash[0] == 0x06 && write.time.units() == 500_000
+    name.object.as_slice() == b"o".as_slice()
+        && name.hash[0] == 0x06
+        && write.time.units() == 500_000
 }
 
 #[test]

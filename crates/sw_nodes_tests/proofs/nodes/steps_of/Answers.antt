@@ -2,7 +2,7 @@ use Rattle.std.proofs.Common.{◌≡◌, ◌<◌, ◌∷◌, [], ◌++◌, All, 
 use Rattle.std.proofs.lemmas.List.Elements.{All-push}
 use Rattle.sw_core.specs.Stepping.{device_of}
 use Rattle.sw_core.specs.declared.step.Step.{Step}
-use Rattle.sw_nodes_tests.proofs.core.steps_of.Goals as goal
+use Rattle.sw_nodes_tests.proofs.nodes.steps_of.Goals as goal
 
 pub loop-device-preserved : goal.loop-device-preserved
 loop-device-preserved c =
