@@ -74,7 +74,7 @@ module _ (lock : ℕ → Hash → ℕ) where
     pub elsewhere : (l : ℕ) → l ≢ lock device name.hash → after.seen l ≡ m.seen l
     pub sent : after.sent ≡ m.sent
 
-  -- a message that was sent may arrive at any later step, any number of times
+  -- what was sent is on its way for good: each step from then on may be its coming, again and again
   abbrev pub MayCome : Machine → Link → ℕ → Name → Change → Type 0
   MayCome m Local device name change = ⊤
   MayCome m Sent device name change = (w : Write) × (change ≡ Receive w) × Contains m.sent (record { to = device; name = name; write = w })

@@ -1,9 +1,9 @@
 //! The cluster: all nodes, and the steps that were made of them.
 //!
 //! A [`World`] is all nodes of all devices, each over a [`Shelf`] of states, and is a door (`sw_peer`): each call is one step at one
-//! device, and the world keeps a line of it. [`run_steps`] makes a list of steps by the same calls. A [`Node`] is one lock of a device: what its shelf holds, its journal with two limits, and
-//! the doubt that a failing call leaves, which the next step settles. `specs/Machine.antt` has the machine: what reached each device, and
-//! what its journals have.
+//! device, and the world keeps a line of it. [`run_steps`] makes a list of steps by the same calls. A [`Node`] is one lock of a device:
+//! what its shelf holds, its journal with two limits, and the doubt that a failing call leaves, which the next step settles.
+//! `specs/Machine.antt` has the machine: what reached each device, and what its journals have.
 //!
 //! What is promised: each step of the world is one of the machine, with failing calls, full journals and restarts; and where no step
 //! failed, at each device each hash stands for exactly the state of the writes that reached it, which the entries of the lines tell.

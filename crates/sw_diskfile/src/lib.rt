@@ -4,7 +4,7 @@
 //! [`write_name`] writes, and [`pick`] finds the base, which is data or a tombstone, and the metadata that counts beside it.
 //! No call takes memory.
 //!
-//! The next layers up are `sw_cleanup`, which takes away what isn't picked, and `sw_suffix`, which hashes what is.
+//! The next layer up is `sw_cleanup`, which takes away what isn't picked.
 #![tactic(auto)]
 
 mod file_name;

@@ -45,8 +45,8 @@ pub trait Keeper {
 
     /// Makes all changes of a batch at a place, in their order. After [`KeeperError::Failed`] either all were made or none.
     ///
-    /// Where the keeper tells its tables, a batch for a place that isn't held begins with its times, each row that is put
-    /// has a number above the greatest given out and a name that isn't there, and each number that is cut is there.
+    /// Where the keeper tells its tables, the batch fits them: it sets the times first where nothing is held at the place,
+    /// puts a row only under a new number and a name without a row, and cuts only numbers that have one.
     fn commit(&mut self, alloc: Global, place: &Place, batch: &Batch) -> Result<(), KeeperError>
         requires fits { tells self.old ≡ true → IsBatch (holds self.old place.now) batch.now }
         ensures ok { OnOk result (tells self.old ≡ true → Changes (holds self.old) (holds self.new) place.now batch.now) }

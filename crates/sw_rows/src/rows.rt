@@ -103,8 +103,8 @@ impl Rows {
         self.top
     }
 
-    /// The XOR over all rows, deleted ones too, of the MD5 of their name, a hyphen and their time, as numbers with the
-    /// high byte first.
+    /// The rows' hash: that of each row, live or deleted, is the MD5 of `NAME-TIME` as a big-endian number, and all of them
+    /// are put together by XOR. No rows have 0.
     pub fn hash(&self) -> u128
         ensures { result ≡ hash_of self.now.list }
     {
