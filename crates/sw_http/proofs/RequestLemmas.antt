@@ -8,7 +8,7 @@ use Rattle.httparse.proofs.RunLemmas.{run_unstopped}
 use Rattle.sw_outside.specs.Taken.{AppendsPart}
 use Rattle.sw_http.specs.Body.{IsFramedBody, print_body}
 use Rattle.sw_http.specs.ChunkSteps.{TakesBody, HasNoBody}
-use Rattle.sw_http.specs.Continue.{Takes, HasHead, BeginsNone, Refuses, IsCutShort, IsStopped, IsToldOnce, IsToldPart, asks_continue, continue_text, continue_of, puts_after}
+use Rattle.sw_http.specs.Continue.{Takes, HasHead, BeginsNone, FindsNoRequest, IsCutShort, IsStopped, IsToldOnce, IsToldPart, asks_continue, continue_text, continue_of, puts_after}
 use Rattle.std.specs.Prelude.{codes}
 use Rattle.std.proofs.lemmas.Bool.{cond-true, cond-false}
 use Rattle.httparse.specs.Ascii.{crlf_bytes}
@@ -94,7 +94,7 @@ no_request_headless bytes headless = record {
   not_skipped = headless.not_skipped;
 }
 
-pub refuses_headless : (a t : Option (List ℕ)) → IfSome a IsHeadless → Refuses a t t
+pub refuses_headless : (a t : Option (List ℕ)) → IfSome a IsHeadless → FindsNoRequest a t t
 refuses_headless a t headless = record {
   no_request = if_some_map a IsHeadless IsNoRequest no_request_headless headless;
   continued = inr (if_some_map a IsHeadless BeginsNone (λ bytes h. h.none) headless, Appends-nil t);
@@ -132,7 +132,7 @@ no_request_behind a b open_ room opens rest holds p after parts same skipped_sam
 
 -- its body isn't there
 pub refuses_body : (a b t now : Option (List ℕ)) (open_ : OpenRequest) (room : ℕ) → Opens a b open_ room → Appends t now (continue_text open_.fields)
-    → IfSome b (HasNoBody (framing_of open_.fields) room) → Refuses a t now
+    → IfSome b (HasNoBody (framing_of open_.fields) room) → FindsNoRequest a t now
 refuses_body a b t now open_ room opens written none_there = record {
   no_request = refused_behind a b open_ room opens (HasNoBody (framing_of open_.fields) room) (no_request_behind a b open_ room opens) none_there;
   continued = inl (opens.head, has_head a b open_ room opens, told a b t now open_ room opens written);

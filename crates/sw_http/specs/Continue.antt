@@ -53,7 +53,7 @@ Continues input taken taken_now =
     ((h : RequestHead) × HasHead input h × Appends taken taken_now (continue_of h)) ⊎ (IfSome input BeginsNone × Appends taken taken_now [])
 
 -- no front of the input is a request's text, and what was written is what its head asked for
-pub record Refuses (input taken taken_now : Option (List ℕ)) : Type 0 where
+pub record FindsNoRequest (input taken taken_now : Option (List ℕ)) : Type 0 where
   pub no_request : IfSome input IsNoRequest
   pub continued : Continues input taken taken_now
 

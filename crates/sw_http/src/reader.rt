@@ -3,7 +3,7 @@ ghost use Rattle.std.specs.Io.KnownBytes.{Appends, IsAtEnd, prepend_known};
 ghost use Rattle.sw_outside.specs.Counts.{raised};
 ghost use Rattle.sw_outside.specs.Faults.{HasRisen};
 ghost use Rattle.sw_outside.specs.Taken.{AppendsPart};
-ghost use Rattle.sw_http.specs.Continue.{Takes, Refuses, MayContinue, IsToldPart, IsToldOnce, IsCut, IsCutShort, IsStopped, asks_continue, continue_text, puts_after};
+ghost use Rattle.sw_http.specs.Continue.{Takes, FindsNoRequest, MayContinue, IsToldPart, IsToldOnce, IsCut, IsCutShort, IsStopped, asks_continue, continue_text, puts_after};
 ghost use Rattle.sw_http.specs.ChunkSteps.{TakesBody, HasNoBody};
 ghost use Rattle.sw_message.specs.Framing.{framing_of, is_framed};
 ghost use Rattle.sw_http.specs.Input.{HasFailed, IfSeen, fault_of};
@@ -81,7 +81,7 @@ pub fn next_request<R: Source, W: Sink>(
     ensures nothing_left { result ≡ Ok None → IsAtEnd (prepend_known held.new (R.left source.new)) }
     ensures nothing_written { result ≡ Ok None → Appends (W.taken out.old) (W.taken out.new) [] }
 
-    ensures bad { result ≡ Err HttpFault.Bad → Refuses (prepend_known held.old (R.left source.old)) (W.taken out.old) (W.taken out.new) }
+    ensures bad { result ≡ Err HttpFault.Bad → FindsNoRequest (prepend_known held.old (R.left source.old)) (W.taken out.old) (W.taken out.new) }
     ensures may_continue { OnErr result (MayContinue (prepend_known held.old (R.left source.old)) (W.taken out.old) (W.taken out.new)) }
     ensures later { R.faults source.old ≤ R.faults source.new }
     ensures read_fault { result ≡ Err HttpFault.ReadFault → HasRisen (R.faults source.old) (R.faults source.new) }

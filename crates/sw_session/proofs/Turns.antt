@@ -5,7 +5,7 @@ use Rattle.std.proofs.KnownBytes.{Appends-trans}
 use Rattle.std.proofs.Math.Seq.{take-append-add}
 use Rattle.sw_outside.specs.Readings.{Ticks, TicksEach}
 use Rattle.sw_outside.specs.Taken.{AppendsPart}
-use Rattle.sw_http.specs.Continue.{Continues, IsCut, Refuses as RefusedByReader, Takes, continue_of}
+use Rattle.sw_http.specs.Continue.{Continues, IsCut, FindsNoRequest, Takes, continue_of}
 use Rattle.sw_message.specs.Reply.{reply_text}
 use Rattle.sw_message.specs.declared.request.Request.{Request}
 use Rattle.sw_message.specs.declared.response.Response.{Response}
@@ -57,7 +57,7 @@ told_text input taken taken_now (inr nothing) = ([], inr (nothing.0, refl), noth
 
 -- the rest was refused, or its refusal not written whole
 pub refused : (input rest taken mid now : Option (List ℕ)) (result : Result (Option Request) SessionFault)
-    → RefusedByReader input taken mid → IsRefusal mid now result → IsReceived input rest taken now result
+    → FindsNoRequest input taken mid → IsRefusal mid now result → IsReceived input rest taken now result
 refused input rest taken mid now result refuses refusal_is = by_result result refusal_is
   where
     text : (text : List ℕ) × IsTold input text × Appends taken mid text
