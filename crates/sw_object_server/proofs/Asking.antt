@@ -4,7 +4,7 @@ use Rattle.sw_hashpath.specs.declared.bad_name.BadName.{BadName}
 use Rattle.sw_hashpath.specs.declared.name.Name.{Name}
 use Rattle.sw_message.specs.declared.request.Request.{Request}
 use Rattle.sw_ring.specs.declared.ring.Ring.{Ring}
-use Rattle.sw_object_server.specs.Asking.{AsksDevice, AsksName, AsksPartition, AsksVerb}
+use Rattle.sw_object_server.specs.Reading.{AsksDevice, AsksName, AsksPartition, AsksVerb}
 use Rattle.sw_object_server.specs.Places.{is_partition_of, name_fault, name_in}
 use Rattle.sw_object_server.specs.declared.asked.Asked.{Asked}
 use Rattle.sw_object_server.specs.declared.asked.Asked.TheVariants as asks

@@ -1,3 +1,4 @@
 mod Asking
+mod Decided
 mod Left
 mod OneOutcome

@@ -1,9 +1,11 @@
 pub mod Asking
-pub mod Contents
 pub mod Laws
 pub mod Places
+pub mod Reading
 pub mod Replies
+pub mod Requirements
 pub mod Serving
 pub mod Showing
+pub mod Steps
 pub mod Targets
 pub mod Tests

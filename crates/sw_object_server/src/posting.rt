@@ -1,5 +1,6 @@
 ghost use Rattle.std.specs.Prelude.{◌≡◌, IfOk};
-ghost use Rattle.sw_object_server.specs.Asking.{Deletes, Posts, post_change as post_change_of};
+ghost use Rattle.sw_object_server.specs.Reading.{Deletes, Posts};
+ghost use Rattle.sw_object_server.specs.Steps.{post_change as post_change_of};
 
 use crate::verdict::Verdict;
 use std::alloc::Global;

@@ -1,7 +1,7 @@
 ghost use Rattle.std.specs.Prelude.{◌≡◌, true, IfOk};
 ghost use Rattle.std.specs.Str.{is_utf8 as is_utf8_text};
-ghost use Rattle.sw_object_server.specs.Asking.{Puts, PutsBody, PutsType, put_content as put_content_of, put_change as put_change_of};
-ghost use Rattle.sw_object_server.specs.Contents.{IsContent};
+ghost use Rattle.sw_object_server.specs.Reading.{IsContent, Puts, PutsBody, PutsType, put_content as put_content_of};
+ghost use Rattle.sw_object_server.specs.Steps.{put_change as put_change_of};
 
 use crate::verdict::Verdict;
 use md5::{Digest, Md5};

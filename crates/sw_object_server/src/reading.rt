@@ -1,7 +1,8 @@
 ghost use Rattle.std.specs.Prelude.{◌≡◌, decimal, IfOk};
 ghost use Rattle.std.specs.Str.{bytes_eq};
 ghost use Rattle.sw_object_server.specs.Targets.{parts_of as parts_of_path};
-ghost use Rattle.sw_object_server.specs.Asking.{AsksDevice, AsksName, Deletes, IsAsked, IsTimed, IsVerdict, Posts, Puts};
+ghost use Rattle.sw_object_server.specs.Asking.{IsAsked};
+ghost use Rattle.sw_object_server.specs.Reading.{AsksDevice, AsksName, Deletes, IsTimed, IsVerdict, Posts, Puts};
 ghost use Rattle.sw_object_server.specs.Places.{IsHashed, IsPlaced};
 
 use crate::asked::Asked;

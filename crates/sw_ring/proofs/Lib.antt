@@ -1,3 +1,3 @@
 mod Accepted
 mod JsonTexts
-mod Repeats
+pub mod Repeats
