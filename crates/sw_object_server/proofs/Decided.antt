@@ -234,7 +234,13 @@ module _ (ring : Ring) (r : Request) (device : ℕ) (found : IsDevice ring (part
             ),
           )
       by_digest time at body type body_is type_is heads are content c false agrees e =
-          inr (λ has. true≢false (sym (subst (λ (digest : List ℕ). agrees_with digest r.fields ≡ true) (sym c.etag_is) (has is body body_is)) ∙ agrees), refused 422 e)
+          inr (
+            λ has.
+                let right : agrees_with content.etag r.fields ≡ true =
+                subst (λ (digest : List ℕ). agrees_with digest r.fields ≡ true) (sym c.etag_is) (has is body body_is) in
+                true≢false (sym right ∙ agrees),
+            refused 422 e,
+          )
 
       by_heads : (time : ℕ) → IsTimeOf r.fields time → (body type : List ℕ) → r.body ≡ Whole body → type_of r.fields ≡ Some type
           → (heads : Option Heads) → IsHeads time (name_of ring r) r.fields heads
@@ -255,7 +261,8 @@ module _ (ring : Ring) (r : Request) (device : ℕ) (found : IsDevice ring (part
             by_heads time at body type body_is type_is e.0 e.1 e.2,
           )
 
-      by_body : (time : ℕ) → IsTimeOf r.fields time → (body : Body) → r.body ≡ body → PutsBody time (name_of ring r) r.fields body verdict → Behind ring r 7 asked
+      by_body : (time : ℕ) → IsTimeOf r.fields time → (body : Body) → r.body ≡ body → PutsBody time (name_of ring r) r.fields body verdict
+          → Behind ring r 7 asked
       by_body time at TooLarge large e = inr (λ small. let b = small is in large_whole b.0 (sym large ∙ b.1), refused 413 e)
       by_body time at (Whole body) body_is e =
           inl (
