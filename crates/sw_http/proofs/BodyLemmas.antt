@@ -85,12 +85,12 @@ data_taken a b c body now len takes end = record {
 
 pub no_data_short : (len : ℕ) (bytes : List ℕ) → length bytes < len → HasNoData len bytes
 no_data_short len bytes short = record {
-  none = λ content rest size e. omega (arith, size, ap length e, length-append content (crlf_bytes ++ rest));
+  none = λ content rest size e. omega (arith, size, ap length e, length-append (content ++ crlf_bytes) rest, length-append content crlf_bytes);
 }
 
 pub no_data_end : (len : ℕ) (content bytes : List ℕ) → length content ≡ len → HasNoLineEnd bytes → HasNoData len (content ++ bytes)
 no_data_end len content bytes size none_there = record {
-  none = λ other rest same e. none_there.none rest (fronts_same content other bytes _ (size ∙ sym same) e).1;
+  none = λ other rest same e. none_there.none rest (fronts_same content other bytes _ (size ∙ sym same) (e ∙ append_assoc other crlf_bytes rest)).1;
 }
 
 -- ---- a whole body

@@ -146,7 +146,7 @@ no_chunked_last room len line rest is_last len_is many =
 pub no_chunked_trailer : (room left len : ℕ) (line : ChunkLine) (rest : List ℕ) → IsLast line → length (print_chunk_line line) ≡ len → len + left ≡ room
     → HasNoTrailerWithin left rest → HasNoChunked room (print_chunk_line line ++ rest)
 no_chunked_trailer room left len line rest is_last len_is left_is none_there =
-    no_chunked_after_last room line rest is_last λ trailer end after t fits e. none_there.none trailer end after t (omega (arith, fits, len_is, left_is)) e
+    no_chunked_after_last room line rest is_last λ trailer end after t fits e. none_there.none (trailer, end) after t (omega (arith, fits, len_is, left_is)) e
 
 -- where a line of another size stands in front a chunk of that size follows
 no_chunked_after_line : (room : ℕ) (line : ChunkLine) (rest : List ℕ) → IsChunkLine line → 0 < chunk_size line
@@ -170,7 +170,8 @@ no_chunked_size room line rest is_line some many = no_chunked_after_line room li
 pub no_chunked_data : (room : ℕ) (line : ChunkLine) (rest : List ℕ) → IsChunkLine line → 0 < chunk_size line → HasNoData (chunk_size line) rest
     → HasNoChunked room (print_chunk_line line ++ rest)
 no_chunked_data room line rest is_line some none_there = no_chunked_after_line room line rest is_line some
-    λ c b after is same are fits e. none_there.none c.bytes _ (is.size ∙ ap chunk_size same) e
+    λ c b after is same are fits e.
+    none_there.none c.bytes _ (is.size ∙ ap chunk_size same) (e ∙ sym (append_assoc c.bytes crlf_bytes (print_chunked b ++ after)))
 
 -- where a chunk stands in front, and no body that fits the rest of the room follows
 pub no_chunked_behind : (room left : ℕ) (chunk : Chunk) (rest : List ℕ) → IsChunk chunk → length (print_chunk chunk) + left ≡ room → HasNoChunked left rest

@@ -10,6 +10,7 @@ use Rattle.std.specs.List.{prefix_len}
 use Rattle.httparse.proofs.RunLemmas.{Stops-drop, run_unstopped}
 use Rattle.httparse.specs.Grammar.{AllPass}
 use Rattle.httparse.specs.Pieces.{Stops}
+use Rattle.sw_http.specs.Fronts.{HasNone, HasNoneWithin}
 use Rattle.sw_http.specs.Input.{IfSeen, HasRead, TakesRun, TakesFew, IsAllRun, IsLongRun, HasNoRun, HasNoLineEnd}
 
 -- ---- what is held, and then what the source has left
@@ -217,6 +218,10 @@ longer_run test (x ∷ run) [] [] rest all stops e longer = stops
 longer_run test (x ∷ run) [] (y ∷ after) rest all stops e longer = let passes = All-head (λ v. test v ≡ true) x run all in cc
 longer_run test (x ∷ run) (y ∷ front) after rest all stops e longer =
     longer_run test run front after rest (All-tail (λ v. test v ≡ true) x run all) stops (cc) (omega arith)
+
+-- where none stands in front, none does that is short enough
+pub none_within : {A : Type 0} (Is : A → Type 0) (print : A → List ℕ) (room : ℕ) (bytes : List ℕ) → HasNone Is print bytes → HasNoneWithin Is print room bytes
+none_within Is print room bytes none_there = record { none = λ parts rest is fits e. none_there.none parts rest is e }
 
 -- where the run is too long, or the input ends in it, no run that may be is followed by a byte
 pub no_run_long : (test : ℕ → Bool) (limit : ℕ) (bytes : List ℕ) → IsLongRun test limit bytes → HasNoRun test limit bytes

@@ -18,7 +18,7 @@ use Rattle.sw_http.specs.Input.{IfSeen, IsShort, TakesRun, HasNoRun, HasNoLineEn
 use Rattle.sw_http.specs.declared.chunk_line.SizeLine.{SizeLine}
 use Rattle.sw_http.proofs.ListLemmas.{same_rest}
 use Rattle.sw_message.proofs.ListLemmas.{take_every}
-use Rattle.sw_http.proofs.InputLemmas.{if_behind, if_kept, if_some_map, longer_run, no_end_short, run_passes, run_stops, run_within, seen_begins, seen_behind, seen_kept, seen_map, stops_front, stops_some}
+use Rattle.sw_http.proofs.InputLemmas.{if_behind, if_kept, if_some_map, longer_run, no_end_short, none_within, run_passes, run_stops, run_within, seen_begins, seen_behind, seen_kept, seen_map, stops_front, stops_some}
 
 -- ---- the digits
 
@@ -129,9 +129,11 @@ extension_present a b c held count semicolon run stops = record {
 pub no_extension : (room : ℕ) (rest : List ℕ) → HasNoRun is_extension_byte room rest → HasNoExtension room (59 ∷ rest)
 no_extension room rest none_there = record { none = go }
   where
-    go : (e : Option (List ℕ)) (after : List ℕ) → IsExtension e → length (print_extension e) ≤ room → ¬ (59 ∷ rest ≡ print_extension e ++ (crlf_bytes ++ after))
-    go None after valid few e = let same : ◌≡◌ {A = ℕ} 59 13 = cc in omega (arith, same)
-    go (Some text) after valid few e = none_there.none text (crlf_bytes ++ after) valid (omega arith) refl (cc)
+    go : (e : Option (List ℕ)) (after : List ℕ) → IsExtension e × (length (print_extension e) ≤ room) → ¬ (59 ∷ rest ≡ (print_extension e ++ crlf_bytes) ++ after)
+    go None after is e = let same : ◌≡◌ {A = ℕ} 59 13 = cc in omega (arith, same)
+    go (Some text) after is e =
+        let same : rest ≡ (text ++ crlf_bytes) ++ after = cc in
+        none_there.none text (crlf_bytes ++ after) is.0 (omega (arith, is.1)) refl (same ∙ append_assoc text crlf_bytes after)
 
 -- one extension at most stands in front
 pub extension_same : (e f : Option (List ℕ)) (after rest : List ℕ) → IsExtension e → IsExtension f → EndsExtension e after
@@ -166,25 +168,25 @@ extension_within pad e room fits =
 -- no run of blanks is followed by a byte
 pub no_tail_blanks : (room : ℕ) (bytes : List ℕ) → HasNoRun is_ows room bytes → HasNoTail room bytes
 no_tail_blanks room bytes none_there = record {
-  none = λ pad e rest blanks valid fits same.
-      none_there.none pad _ blanks (pad_within pad e room fits) (blanks_end e rest) (same ∙ tail_split pad e rest);
+  none = λ tail rest is fits same.
+      none_there.none tail.0 _ is.0 (pad_within tail.0 tail.1 room fits) (blanks_end tail.1 rest) (same ∙ tail_split tail.0 tail.1 rest);
 }
 
 -- these are the blanks, and what follows is no extension
 pub no_tail_extension : (room : ℕ) (pad bytes : List ℕ) → AllPass is_ows pad → Stops is_ows bytes → HasNoExtension room bytes → HasNoTail room (pad ++ bytes)
 no_tail_extension room pad bytes blanks stops none_there = record {
-  none = λ other e rest are valid fits same.
-      let cut = run_unique is_ows pad other bytes _ blanks are stops (blanks_end e rest) (same ∙ tail_split other e rest) in
-      none_there.none e rest valid (extension_within other e room fits) cut.1;
+  none = λ tail rest is fits same.
+      let cut = run_unique is_ows pad tail.0 bytes _ blanks is.0 stops (blanks_end tail.1 rest) (same ∙ tail_split tail.0 tail.1 rest) in
+      none_there.none tail.1 rest (is.1, extension_within tail.0 tail.1 room fits) (cut.1 ∙ sym (append_assoc (print_extension tail.1) crlf_bytes rest));
 }
 
 -- these are the blanks and the extension, and no line end follows
 pub no_tail_end : (room : ℕ) (pad : List ℕ) (e : Option (List ℕ)) (bytes : List ℕ) → AllPass is_ows pad → Stops is_ows (print_extension e ++ bytes) → IsExtension e
     → EndsExtension e bytes → HasNoLineEnd bytes → HasNoTail room (pad ++ (print_extension e ++ bytes))
 no_tail_end room pad e bytes blanks stops valid ends none_there = record {
-  none = λ other f rest are is fits same.
-      let cut = run_unique is_ows pad other _ _ blanks are stops (blanks_end f rest) (same ∙ tail_split other f rest) in
-      let text = extension_same e f bytes rest valid is ends cut.1 in
+  none = λ tail rest is fits same.
+      let cut = run_unique is_ows pad tail.0 _ _ blanks is.0 stops (blanks_end tail.1 rest) (same ∙ tail_split tail.0 tail.1 rest) in
+      let text = extension_same e tail.1 bytes rest valid is.1 ends cut.1 in
       none_there.none rest text.1;
 }
 
@@ -197,7 +199,7 @@ pub no_line_tail : (room n : ℕ) (bytes rest : List ℕ) → HasDigits bytes n 
 no_line_tail room n bytes rest digits none_there stops = record {
   none = λ l after valid fits same.
       let cut = run_unique is_ascii_hexdigit (take n bytes) l.digits rest _ digits.digits valid.digits.2 stops (digits_end l after valid) (same ∙ line_split l after) in
-      none_there.none l.pad l.extension after valid.pad valid.extension (omega (arith, fits, line_length l)) cut.1;
+      none_there.none (l.pad, l.extension) after (valid.pad, valid.extension) (omega (arith, fits, line_length l)) cut.1;
 }
 
 pub line_taken : (a b c : Option (List ℕ)) (bytes : List ℕ) (n len : ℕ) (size_line : SizeLine) → HasDigits bytes n → Consumes a b (take n bytes) → TakesTail b c len
@@ -220,8 +222,7 @@ line_taken a b c bytes n len size_line digits front tail size_is len_is =
 -- ---- why no line was taken
 
 pub line_none : (a : Option (List ℕ)) (room : ℕ) → IfSome a HasNoLine → IfSome a (HasNoLineWithin room)
-line_none a room = if_some_map a HasNoLine (HasNoLineWithin room) λ bytes none_there.
-    record { none = λ l rest valid fits e. none_there.none l rest valid e }
+line_none a room = if_some_map a HasNoLine (HasNoLineWithin room) (none_within _ _ room)
 
 pub line_no_tail : (a : Option (List ℕ)) (held after : List ℕ) (left : Option (List ℕ)) (n room : ℕ) → Keeps a (prepend_known held left) → HasDigits held n → after ≡ drop n held
     → IfSome (prepend_known after left) (HasNoTail room) → IfSome a (HasNoLineWithin room)
@@ -327,8 +328,7 @@ tail_cut_end a held mid left behind now count len room run stops extension cut =
     )
 
 pub line_cut_none : (a left : Option (List ℕ)) (room : ℕ) → IfSeen a left HasNoLine → IfSeen a left (HasNoLineWithin room)
-line_cut_none a left room = seen_map a left HasNoLine (HasNoLineWithin room) λ bytes none_there.
-    record { none = λ l rest valid fits e. none_there.none l rest valid e }
+line_cut_none a left room = seen_map a left HasNoLine (HasNoLineWithin room) (none_within _ _ room)
 
 -- digits alone are no line
 no_line_digits : (room : ℕ) (bytes : List ℕ) → AllPass is_ascii_hexdigit bytes → HasNoLineWithin room bytes

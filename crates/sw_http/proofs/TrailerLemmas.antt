@@ -10,7 +10,7 @@ use Rattle.httparse.specs.declared.spans.HeaderSpan.{HeaderSpan}
 use Rattle.httparse.proofs.GrammarLemmas.{section_unique, ReadsSection-append}
 use Rattle.sw_http.specs.ChunkSteps.{HasNoTrailer, IsTrailerAt, TakesTrailer, HasNoTrailerWithin}
 use Rattle.sw_http.specs.Input.{IfSeen}
-use Rattle.sw_http.proofs.InputLemmas.{kept_consumes, text_taken, if_kept, if_always, if_some_map, seen_map}
+use Rattle.sw_http.proofs.InputLemmas.{kept_consumes, text_taken, if_kept, if_always, if_some_map, none_within, seen_map}
 use Rattle.sw_message.proofs.TextLemmas.{section_ends, no_new_text, short_text}
 
 few_fields : (bytes : List ℕ) (headers : List HeaderSpan) (len count : ℕ) (fields : List Field) (last : LineEnd) → IsSectionAt bytes 0 headers len count fields last
@@ -37,36 +37,36 @@ same_size fields others last end same ends = λ i. length (print_section (same i
 pub never_too_long : (bytes : List ℕ) (headers : List HeaderSpan) (len count : ℕ) (fields : List Field) (last : LineEnd) → IsSectionAt bytes 0 headers len count fields last
     → 65536 < len → (more : List ℕ) → HasNoTrailer (bytes ++ more)
 never_too_long bytes headers len count fields last at many more = record {
-  none = λ others end rest is e.
-      let same = section_unique (bytes ++ more) fields others last end _ rest (ReadsSection-append bytes fields last _ more at.reads) (is.are_fields, e) in
-      omega (arith, many, at.len_is, is.size, same_size fields others last end same.0 same.1);
+  none = λ other rest is e.
+      let same = section_unique (bytes ++ more) fields other.0 last other.1 _ rest (ReadsSection-append bytes fields last _ more at.reads) (is.are_fields, e) in
+      omega (arith, many, at.len_is, is.size, same_size fields other.0 last other.1 same.0 same.1);
 }
 
 -- any that can still come has too many fields
 pub never_over : (bytes : List ℕ) → SectionOverflows 128 bytes → (more : List ℕ) → HasNoTrailer (bytes ++ more)
-never_over bytes over more = record { none = λ fields end rest is e. absurd (omega (arith, over more fields end rest (is.are_fields, e), is.few_fields)) }
+never_over bytes over more = record { none = λ trailer rest is e. absurd (omega (arith, over more trailer.0 trailer.1 rest (is.are_fields, e), is.few_fields)) }
 
 pub no_section : (bytes : List ℕ) → HasNoSection bytes → HasNoTrailer bytes
-no_section bytes none_there = record { none = λ fields end rest is e. none_there fields end rest (is.are_fields, e) }
+no_section bytes none_there = record { none = λ trailer rest is e. none_there trailer.0 trailer.1 rest (is.are_fields, e) }
 
 -- no trailer in front of the first bytes, and no line feed behind them
 pub not_yet : (bytes : List ℕ) (seen : ℕ) → HasNoTrailer (take seen bytes) → list_any (λ b. b == 10) (drop seen bytes) ≡ false → HasNoTrailer bytes
 not_yet bytes seen none_seen no_feed = record {
-  none = λ fields end rest is e.
-      no_new_text (print_section fields end) rest bytes seen (section_ends fields end) (λ after same. none_seen.none fields end after is same) no_feed e;
+  none = λ trailer rest is e.
+      no_new_text (print_section trailer.0 trailer.1) rest bytes seen (section_ends trailer.0 trailer.1) (λ after same. none_seen.none trailer after is same) no_feed e;
 }
 
 -- none in front of so many bytes
 pub never_long : (bytes : List ℕ) → HasNoTrailer bytes → 65536 ≤ length bytes → (more : List ℕ) → HasNoTrailer (bytes ++ more)
 never_long bytes none_there long more = record {
-  none = λ fields end rest is e. none_there.none fields end _ is (short_text (print_section fields end) rest bytes more (omega (arith, is.size)) e);
+  none = λ trailer rest is e. none_there.none trailer _ is (short_text (print_section trailer.0 trailer.1) rest bytes more (omega (arith, is.size)) e);
 }
 
 pub no_trailer_in_none : (bytes : List ℕ) → bytes ≡ [] → HasNoTrailer bytes
 no_trailer_in_none bytes none = record {
-  none = λ fields end rest is e.
-      let ends = section_ends fields end in
-      omega (arith, ap length (sym none ∙ e), length-append (print_section fields end) rest, ap length ends.1, length-append ends.0 (10 ∷ []));
+  none = λ trailer rest is e.
+      let ends = section_ends trailer.0 trailer.1 in
+      omega (arith, ap length (sym none ∙ e), length-append (print_section trailer.0 trailer.1) rest, ap length ends.1, length-append ends.0 (10 ∷ []));
 }
 
 -- ---- a trailer that was taken, or not
@@ -85,15 +85,13 @@ pub trailer_over : (a : Option (List ℕ)) (held : List ℕ) (left : Option (Lis
     → IfSome a (HasNoTrailerWithin room)
 trailer_over a held left len room kept at many =
     if_kept a _ (HasNoTrailerWithin room) kept (if_always held left (HasNoTrailerWithin room) λ more. record {
-      none = λ others end rest is fits e.
-          let same = section_unique (held ++ more) at.fields others at.end end _ rest (ReadsSection-append held at.fields at.end _ more (at.is_trailer.are_fields, at.stands)) (is.are_fields, e) in
-          omega (arith, many, at.len_is, fits, same_size at.fields others at.end end same.0 same.1);
+      none = λ other rest is fits e.
+          let same = section_unique (held ++ more) at.fields other.0 at.end other.1 _ rest (ReadsSection-append held at.fields at.end _ more (at.is_trailer.are_fields, at.stands)) (is.are_fields, e) in
+          omega (arith, many, at.len_is, fits, same_size at.fields other.0 at.end other.1 same.0 same.1);
     })
 
 pub trailer_none : (a : Option (List ℕ)) (room : ℕ) → IfSome a HasNoTrailer → IfSome a (HasNoTrailerWithin room)
-trailer_none a room = if_some_map a HasNoTrailer (HasNoTrailerWithin room) λ bytes none_there.
-    record { none = λ fields end rest is fits e. none_there.none fields end rest is e }
+trailer_none a room = if_some_map a HasNoTrailer (HasNoTrailerWithin room) (none_within _ _ room)
 
 pub trailer_cut : (a left : Option (List ℕ)) (room : ℕ) → IfSeen a left HasNoTrailer → IfSeen a left (HasNoTrailerWithin room)
-trailer_cut a left room = seen_map a left HasNoTrailer (HasNoTrailerWithin room) λ bytes none_there.
-    record { none = λ fields end rest is fits e. none_there.none fields end rest is e }
+trailer_cut a left room = seen_map a left HasNoTrailer (HasNoTrailerWithin room) (none_within _ _ room)

@@ -8,6 +8,7 @@ use Rattle.httparse.specs.Grammar.{AllPass, ChunkLine, IsChunkLine, chunk_size, 
 use Rattle.httparse.specs.Pieces.{Stops}
 use Rattle.sw_http.specs.Body.{BodyText, IsFramedBody, print_body, content_of, body_of, extended, IsWithinLimit}
 use Rattle.sw_http.specs.Chunked.{Chunk, IsChunk, print_chunk, chunk_bytes, ChunkedText, IsChunked, print_chunked, IsLast, IsTrailer}
+use Rattle.sw_http.specs.Fronts.{HasNone, HasNoneWithin}
 use Rattle.sw_http.specs.declared.chunk_line.SizeLine.{SizeLine}
 use Rattle.sw_http.specs.declared.chunk.Step.{Step}
 use Rattle.sw_http.specs.declared.chunk.Step.TheVariants.{More, Last, Bad}
@@ -17,8 +18,8 @@ use Rattle.sw_message.specs.declared.request.Body.{Body}
 -- ---- the line that tells a chunk's size
 
 -- no chunk line stands in front of bytes
-pub record HasNoLine (bytes : List ℕ) : Type 0 where
-  pub none : (l : ChunkLine) (rest : List ℕ) → IsChunkLine l → ¬ (bytes ≡ print_chunk_line l ++ rest)
+abbrev pub HasNoLine : List ℕ → Type 0
+HasNoLine = HasNone IsChunkLine print_chunk_line
 
 -- n bytes in front are the digits of a chunk line, if there is one
 pub record HasDigits (bytes : List ℕ) (n : ℕ) : Type 0 where
@@ -45,9 +46,9 @@ pub record TakesExtension (before after : Option (List ℕ)) (held : List ℕ) (
   pub ends : EndsExtension extension held
 
 -- no extension of at most room bytes, and then a line end, stands in front of bytes
-pub record HasNoExtension (room : ℕ) (bytes : List ℕ) : Type 0 where
-  pub none : (extension : Option (List ℕ)) (rest : List ℕ) → IsExtension extension → length (print_extension extension) ≤ room
-      → ¬ (bytes ≡ print_extension extension ++ (crlf_bytes ++ rest))
+abbrev pub HasNoExtension : ℕ → List ℕ → Type 0
+HasNoExtension room =
+    HasNone (λ extension. IsExtension extension × (length (print_extension extension) ≤ room)) (λ extension. print_extension extension ++ crlf_bytes)
 
 -- bytes begin with a semicolon, and with no whole extension of at most room bytes
 pub record IsExtensionCut (room : ℕ) (bytes : List ℕ) : Type 0 where
@@ -69,9 +70,9 @@ pub record TakesTail (before after : Option (List ℕ)) (len : ℕ) : Type 0 whe
   pub taken : Consumes before after (print_tail pad extension)
 
 -- no such rest of at most room bytes stands in front of bytes
-pub record HasNoTail (room : ℕ) (bytes : List ℕ) : Type 0 where
-  pub none : (pad : List ℕ) (extension : Option (List ℕ)) (rest : List ℕ) → AllPass is_ows pad → IsExtension extension
-      → length (print_tail pad extension) ≤ room → ¬ (bytes ≡ print_tail pad extension ++ rest)
+abbrev pub HasNoTail : ℕ → List ℕ → Type 0
+HasNoTail =
+    HasNoneWithin {A = List ℕ × Option (List ℕ)} (λ tail. AllPass is_ows tail.0 × IsExtension tail.1) (λ tail. print_tail tail.0 tail.1)
 
 -- a chunk line of this size and length was taken off the input
 pub record TakesLine (before after : Option (List ℕ)) (size_line : SizeLine) : Type 0 where
@@ -82,8 +83,8 @@ pub record TakesLine (before after : Option (List ℕ)) (size_line : SizeLine) :
   pub taken : Consumes before after (print_chunk_line line)
 
 -- no chunk line of at most room bytes stands in front of bytes
-pub record HasNoLineWithin (room : ℕ) (bytes : List ℕ) : Type 0 where
-  pub none : (l : ChunkLine) (rest : List ℕ) → IsChunkLine l → length (print_chunk_line l) ≤ room → ¬ (bytes ≡ print_chunk_line l ++ rest)
+abbrev pub HasNoLineWithin : ℕ → List ℕ → Type 0
+HasNoLineWithin = HasNoneWithin IsChunkLine print_chunk_line
 
 -- ---- the bytes of a body
 
@@ -102,8 +103,8 @@ pub record TakesData (before after : Option (List ℕ)) (body body_now : Body) (
   pub kept : body_now ≡ extended body bytes
 
 -- no len bytes and a line end stand in front of bytes
-pub record HasNoData (len : ℕ) (bytes : List ℕ) : Type 0 where
-  pub none : (content rest : List ℕ) → length content ≡ len → ¬ (bytes ≡ content ++ (crlf_bytes ++ rest))
+abbrev pub HasNoData : ℕ → List ℕ → Type 0
+HasNoData len = HasNone (λ content. length content ≡ len) (λ content. content ++ crlf_bytes)
 
 -- a chunk of len bytes with its line was taken off the input, and the body now has its bytes too
 pub record TakesChunk (before after : Option (List ℕ)) (body body_now : Body) (len : ℕ) : Type 0 where
@@ -121,8 +122,8 @@ pub record TakesLast (before after : Option (List ℕ)) (len : ℕ) : Type 0 whe
   pub taken : Consumes before after (print_chunk_line line)
 
 -- no text of a chunked body of at most room bytes stands in front of bytes
-pub record HasNoChunked (room : ℕ) (bytes : List ℕ) : Type 0 where
-  pub none : (b : ChunkedText) (rest : List ℕ) → IsChunked b → length (print_chunked b) ≤ room → ¬ (bytes ≡ print_chunked b ++ rest)
+abbrev pub HasNoChunked : ℕ → List ℕ → Type 0
+HasNoChunked = HasNoneWithin IsChunked print_chunked
 
 -- what was taken in one step through the chunks
 abbrev pub IsStep : ℕ → Option (List ℕ) → Option (List ℕ) → Body → Body → Step → Type 0
@@ -149,8 +150,8 @@ pub record TakesChunked (before after : Option (List ℕ)) (body body_now : Body
 -- ---- the trailer
 
 -- no trailer stands in front of bytes
-pub record HasNoTrailer (bytes : List ℕ) : Type 0 where
-  pub none : (fields : List Field) (end : LineEnd) (rest : List ℕ) → IsTrailer fields end → ¬ (bytes ≡ print_section fields end ++ rest)
+abbrev pub HasNoTrailer : List ℕ → Type 0
+HasNoTrailer = HasNone {A = List Field × LineEnd} (λ trailer. IsTrailer trailer.0 trailer.1) (λ trailer. print_section trailer.0 trailer.1)
 
 -- the first len bytes are a trailer
 pub record IsTrailerAt (bytes : List ℕ) (len : ℕ) : Type 0 where
@@ -170,9 +171,9 @@ pub record TakesTrailer (before after : Option (List ℕ)) (room : ℕ) : Type 0
   pub taken : Consumes before after (print_section fields end)
 
 -- no trailer of at most room bytes stands in front of bytes
-pub record HasNoTrailerWithin (room : ℕ) (bytes : List ℕ) : Type 0 where
-  pub none : (fields : List Field) (end : LineEnd) (rest : List ℕ) → IsTrailer fields end → length (print_section fields end) ≤ room
-      → ¬ (bytes ≡ print_section fields end ++ rest)
+abbrev pub HasNoTrailerWithin : ℕ → List ℕ → Type 0
+HasNoTrailerWithin =
+    HasNoneWithin {A = List Field × LineEnd} (λ trailer. IsTrailer trailer.0 trailer.1) (λ trailer. print_section trailer.0 trailer.1)
 
 -- ---- a whole body
 
@@ -190,5 +191,5 @@ pub record TakesBody (before after : Option (List ℕ)) (framing : Option Framin
   pub body_is : body ≡ body_of (content_of text)
 
 -- no such body of at most room bytes stands in front of bytes; where the framing is bad there is none
-pub record HasNoBody (framing : Option Framing) (room : ℕ) (bytes : List ℕ) : Type 0 where
-  pub none : (text : BodyText) (rest : List ℕ) → IsFramedBody framing text → length (print_body text) ≤ room → ¬ (bytes ≡ print_body text ++ rest)
+abbrev pub HasNoBody : Option Framing → ℕ → List ℕ → Type 0
+HasNoBody framing = HasNoneWithin (IsFramedBody framing) print_body

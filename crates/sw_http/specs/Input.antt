@@ -8,8 +8,6 @@ use Rattle.httparse.specs.Grammar.{AllPass, is_ows, is_extension_byte}
 use Rattle.httparse.specs.Pieces.{Stops, is_newline}
 use Rattle.sw_http.specs.declared.input.ReadError.{ReadError}
 use Rattle.sw_http.specs.declared.input.ReadError.TheVariants.{Failed, NoMemory}
-use Rattle.sw_message.specs.declared.look.Look.{Look}
-use Rattle.sw_message.specs.declared.look.Look.TheVariants as looks
 use Rattle.sw_http.specs.declared.reader.HttpFault.{HttpFault}
 use Rattle.sw_http.specs.declared.reader.HttpFault.TheVariants as faults
 use Rattle.sw_http.specs.declared.run.Class.{Class}

@@ -2,6 +2,7 @@ pub mod Body
 pub mod ChunkSteps
 pub mod Chunked
 pub mod Continue
+pub mod Fronts
 pub mod Input
 pub mod Opening
 pub mod Reading
