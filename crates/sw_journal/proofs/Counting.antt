@@ -1,0 +1,61 @@
+-- The count of bodies and the places for entries, through each change of the lists.
+use Rattle.std.proofs.Common.{◌≡◌, ℕ, ◌+◌, ◌-◌, ◌≤◌, List, [], ◌∷◌, ◌++◌, length, length-append, refl, sym, ◌∙◌, ap, subst, arith}
+use Rattle.std.specs.declared.alloc.Global.{Global}
+use Rattle.std.specs.declared.vec.Vec.{Vec}
+use Rattle.sw_peer.proofs.Hashes.{bodies-append}
+use Rattle.sw_peer.specs.Journals.{bodies}
+use Rattle.sw_peer.specs.declared.entry.ObjEntry.{ObjEntry}
+use Rattle.sw_peer.specs.declared.entry.ObjEntry.TheVariants.{Wrote}
+use Rattle.sw_journal.specs.Entries.{IsCounted, entry_size}
+
+bodies-one : (e : ObjEntry) → bodies (e ∷ []) ≡ entry_size e
+bodies-one (Wrote name w) = omega arith
+
+-- one list has an entry more than the other
+pub bodies-mid : (xs ys : List ObjEntry) (e : ObjEntry) → bodies (xs ++ e ∷ ys) ≡ bodies (xs ++ ys) + entry_size e
+bodies-mid xs ys (Wrote name w) = let a = bodies-append xs (Wrote name w ∷ ys) in let b = bodies-append xs ys in omega (arith, a, b)
+
+pub length-mid : (xs ys : List ObjEntry) (e : ObjEntry) → length (xs ++ e ∷ ys) ≡ length (xs ++ ys) + 1
+length-mid xs ys e = let a = length-append xs (e ∷ ys) in let b = length-append xs ys in omega (arith, a, b)
+
+module _ (entries doubts fewer : Vec ObjEntry Global) (used max_bytes : ℕ) (counted : IsCounted entries doubts used max_bytes) (xs ys : List ObjEntry)
+    (e : ObjEntry)
+    (among : doubts.items ≡ xs ++ e ∷ ys) (rest : fewer.items ≡ xs ++ ys) where
+  pub sized : entry_size e ≤ used
+  sized = let c = counted.counted in let b = ap bodies among in let m = bodies-mid xs ys e in omega (arith, c, b, m)
+
+  -- a doubt went
+  pub counted-gone : (size : ℕ) → size ≡ entry_size e → IsCounted entries fewer (used - size) max_bytes
+  counted-gone size is = record {
+    counted = let c = counted.counted in let b = ap bodies among in let r = ap bodies rest in let m = bodies-mid xs ys e in omega (arith, c, b, r, m, is);
+    within = let w = counted.within in omega (arith, w);
+    places = let p = counted.places in let b = ap length among in let r = ap length rest in let m = length-mid xs ys e in omega (arith, p, b, r, m);
+  }
+
+  -- there is a place for its entry
+  pub has-place : length entries.items + 1 ≤ entries.cap
+  has-place = let p = counted.places in let b = ap length among in let m = length-mid xs ys e in omega (arith, p, b, m)
+
+  -- a doubt became an entry
+  pub counted-entered : (more : Vec ObjEntry Global) → more.items ≡ entries.items ++ e ∷ [] → more.cap ≡ entries.cap → IsCounted more fewer used max_bytes
+  counted-entered more is same = record {
+    counted = let c = counted.counted in let b = ap bodies among in let r = ap bodies rest in let m = bodies-mid xs ys e in let n = ap bodies is in let a =
+        bodies-append entries.items (e ∷ []) in let o = bodies-one e in
+        omega (arith, c, b, r, m, n, a, o);
+    within = counted.within;
+    places = let p = counted.places in let b = ap length among in let r = ap length rest in let m = length-mid xs ys e in let n = ap length is in let a =
+        length-append entries.items (e ∷ []) in
+        omega (arith, p, b, r, m, n, a, same);
+  }
+
+-- a doubt came
+pub counted-doubted : (entries wider doubts more : Vec ObjEntry Global) (used max_bytes size : ℕ) (e : ObjEntry) → IsCounted entries doubts used max_bytes
+    → wider.items ≡ entries.items → more.items ≡ doubts.items ++ e ∷ []
+    → length entries.items + (length doubts.items + 1) ≤ wider.cap → size ≡ entry_size e
+    → bodies entries.items + bodies doubts.items + entry_size e ≤ max_bytes → IsCounted wider more (used + size) max_bytes
+counted-doubted entries wider doubts more used max_bytes size e counted same is room sizes fits = record {
+  counted = let c = counted.counted in let s = ap bodies same in let n = ap bodies is in let a = bodies-append doubts.items
+      (e ∷ []) in let o = bodies-one e in omega (arith, c, s, n, a, o, sizes);
+  within = let c = counted.counted in omega (arith, c, sizes, fits);
+  places = let s = ap length same in let n = ap length is in let a = length-append doubts.items (e ∷ []) in omega (arith, s, n, a, room);
+}

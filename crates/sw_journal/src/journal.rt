@@ -1,0 +1,137 @@
+ghost use Rattle.std.specs.Prelude.{◌≡◌, ◌<◌, ◌≤◌, ◌+◌, ◌^◌, ℕ, List, [], ◌∷◌, ◌++◌, length, true, nat_le, ◌&&◌, OnOk, OnErr};
+ghost use Rattle.sw_journal.specs.Entries.{begun, entry_size, with_last_entered, with_new_doubt, without_last_doubt};
+ghost use Rattle.sw_journal.specs.Settling.{SettlesFirst};
+ghost use Rattle.sw_peer.specs.Journals.{bodies};
+ghost use Rattle.sw_hashpath.specs.declared.name.Name.{Name};
+ghost use Rattle.sw_peer.specs.declared.entry.ObjEntry.{ObjEntry};
+ghost use Rattle.sw_peer.specs.declared.entry.ObjEntry.TheVariants.{Wrote};
+ghost use Rattle.sw_state.specs.declared.write.Write.{Write};
+
+use crate::entries::{first_of, is_new, size_in, size_of};
+use std::alloc::Global;
+use std::marker::Model;
+use sw_outside::NoMemory;
+use sw_peer::{Added, ObjEntry, Outline};
+use sw_state::Write;
+
+/// What was done since a lock began: an entry for each write that was made, and a doubt for each that may have been.
+///
+/// A write is doubted before its file is put; when its call of the volume is answered, it becomes an entry, or goes, or stays a doubt. So a
+/// write that fails needs no memory to be remembered, and settling needs none either: there is always a place for the entry of each doubt.
+#[derive(Drop)]
+pub struct Journal {
+    entries: Vec<ObjEntry>,
+    doubts: Vec<ObjEntry>,
+    used: u64,
+    max_entries: u64,
+    max_bytes: u64,
+}
+
+impl Model for Journal {
+    ghost use Rattle.sw_journal.specs.Entries.{IsCounted};
+    ghost use Rattle.sw_peer.specs.Journals.{Journal};
+
+    ghost Value = { Journal };
+
+    ghost view = { λ j. record { entries = j.entries.items; doubts = j.doubts.items; max_entries = j.max_entries; max_bytes = j.max_bytes } };
+
+    ghost invariant = { λ j. IsCounted j.entries j.doubts j.used j.max_bytes };
+}
+
+impl Journal {
+    /// An empty journal that has room for so many entries, whose bodies have together at most so many bytes. It takes no memory.
+    pub fn new(alloc: Global, max_entries: u64, max_bytes: u64) -> Journal
+        ensures { result ≡ begun max_entries max_bytes }
+    {
+        Journal {
+            entries: Vec::new(alloc),
+            doubts: Vec::new(alloc),
+            used: 0,
+            max_entries,
+            max_bytes,
+        }
+    }
+
+    /// The front: how many entries there are.
+    pub fn front(&self) -> u64
+        ensures length { result ≡ length self.now.entries }
+        ensures within { result < 2 ^ 63 }
+    {
+        self.entries.len() as u64
+    }
+
+    /// The entries past the first `from`. It takes no memory.
+    pub fn added_since(&self, from: u64) -> Added
+        ensures { (before added : List ObjEntry) → from ≡ length before → self.now.entries ≡ before ++ added → result ≡ added }
+    {
+        Added::since(&self.entries, from)
+    }
+
+    /// Whether there is room for one entry more, with a body of so many bytes: entries and doubts count, and the bodies of both.
+    pub fn has_room(&self, body: u64) -> bool
+        ensures { result ≡ (nat_le (length self.now.entries + length self.now.doubts + 1) self.now.max_entries
+            && nat_le (bodies self.now.entries + bodies self.now.doubts + body) self.now.max_bytes) }
+    {
+        self.entries.len() as u64 + self.doubts.len() as u64 + 1 <= self.max_entries
+            && body <= self.max_bytes - self.used
+    }
+
+    /// Doubts a write, behind all other doubts. After [`NoMemory`] nothing has changed.
+    pub fn doubt(&mut self, entry: ObjEntry) -> Result<(), NoMemory>
+        requires { bodies self.old.entries + bodies self.old.doubts + entry_size entry ≤ self.old.max_bytes }
+        ensures ok { OnOk result (self.new ≡ with_new_doubt self.old entry) }
+        ensures err { OnErr result (self.new ≡ self.old) }
+    {
+        self.entries.reserve(self.doubts.len() + 1)?;
+        self.doubts.reserve(1)?;
+        self.used += size_of(&entry);
+        self.doubts.push_reserved(entry);
+        Ok(())
+    }
+
+    /// The write of the last doubt.
+    pub fn last_doubted(&self) -> &Write
+        requires { (doubts : List ObjEntry) × (entry : ObjEntry) × (self.now.doubts ≡ doubts ++ entry ∷ []) }
+        ensures { (doubts : List ObjEntry) (name : Name) (write : Write) → self.now.doubts ≡ doubts ++ Wrote name write ∷ [] → result.now ≡ write }
+    {
+        let ObjEntry::Wrote(_, write) = &self.doubts[self.doubts.len() - 1];
+        write
+    }
+
+    /// The last doubt's write was made: it becomes the last entry. It takes no memory.
+    pub fn confirm(&mut self)
+        requires { (doubts : List ObjEntry) × (entry : ObjEntry) × (self.old.doubts ≡ doubts ++ entry ∷ []) }
+        ensures { (doubts : List ObjEntry) (entry : ObjEntry) → self.old.doubts ≡ doubts ++ entry ∷ [] → self.new ≡ with_last_entered self.old doubts entry }
+    {
+        if let Some(entry) = self.doubts.pop() {
+            self.entries.push_reserved(entry);
+        }
+    }
+
+    /// The last doubt's write wasn't made: the doubt goes. It takes no memory.
+    pub fn withdraw(&mut self)
+        requires { (doubts : List ObjEntry) × (entry : ObjEntry) × (self.old.doubts ≡ doubts ++ entry ∷ []) }
+        ensures { (doubts : List ObjEntry) (entry : ObjEntry) → self.old.doubts ≡ doubts ++ entry ∷ [] → self.new ≡ without_last_doubt self.old doubts }
+    {
+        if let Some(entry) = self.doubts.pop() {
+            let size = size_in(entry);
+            self.used -= size;
+        }
+    }
+
+    /// Settles the first doubt of a hash, where there is one, by the outline of what now stands in its directory: a write that would change it
+    /// wasn't made, and any other was. It takes no memory.
+    pub fn settle(&mut self, hash: &[u8; 16], outline: &Outline)
+        ensures { SettlesFirst hash.now outline.now self.old self.new }
+    {
+        let Some(at) = first_of(&self.doubts, hash) else {
+            return;
+        };
+        let entry = self.doubts.remove(at);
+        if is_new(outline, &entry) {
+            self.used -= size_in(entry);
+        } else {
+            self.entries.push_reserved(entry);
+        }
+    }
+}
