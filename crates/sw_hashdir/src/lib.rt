@@ -1,0 +1,31 @@
+//! One hash directory over any volume: where it is, what it stands for, and the calls that a step makes there. Beside it, a listing of
+//! the files of all of them: [`paths_below`].
+//!
+//! The files of an object's writes stand in the directory of its hash. [`dir_of`] gives its path, [`look`] lists it, [`read_write`] reads the
+//! write of a file, and [`write_file`] puts the file of a new write and unlinks what it makes obsolete. What no name of a file tells is read
+//! from the files that the listing picks: [`read_expiry`] gives the second at which the object expires, and [`show`] the object.
+//!
+//! What a hash stands for is the state of the writes in its directory: `specs/Places` has it as a function of a volume's files, and the
+//! contracts say what each call makes of it, for this hash and for all others. What is read is said twice: by what stands in the files
+//! (`specs/Readings`), and, where all is in order, by that state.
+//!
+//! There is no journal here and nothing is remembered between two calls. The next layer up is `sw_objdir`, whose steps are made of these.
+#![tactic(auto)]
+
+mod expiry;
+pub mod laws;
+mod listing;
+mod paths;
+mod place;
+mod reading;
+mod showing;
+mod walk;
+mod writing;
+
+pub use expiry::read_expiry;
+pub use listing::{Seen, look};
+pub use place::dir_of;
+pub use reading::{ReadFault, read_write};
+pub use showing::show;
+pub use walk::paths_below;
+pub use writing::write_file;
