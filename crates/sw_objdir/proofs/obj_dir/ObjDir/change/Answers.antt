@@ -1,0 +1,373 @@
+use Rattle.std.proofs.Common.{◌≡◌, ℕ, length, true, false, List, [], refl, sym, ◌∙◌, ap, subst, inl, inr, None, Some, arith}
+use Rattle.sw_cleanup.specs.Cleaning.{AreListedIn}
+use Rattle.sw_hashdir.specs.Places.{dir_text}
+use Rattle.sw_hashdir.specs.Readings.{IsSecondRead, expiry_file}
+use Rattle.sw_hashdir.specs.Steps.{picked_outline}
+use Rattle.sw_journal.specs.Settling.{SettlesFirst}
+use Rattle.sw_objdir.proofs.Deciding.{called-refused, called-written, dir-still, listed-still, looked-so, outline-still, refusal-never, refused-answers}
+use Rattle.sw_objdir.proofs.Deciding.{refused-of, risen-after, room-as, second-still, stands-held, step-refused}
+use Rattle.sw_objdir.proofs.Looking.{looks-refl, looks-trans, step-after, step-unsettled, told-same}
+use Rattle.sw_objdir.proofs.Reading.{damage-before, second-before}
+use Rattle.sw_objdir.specs.Calling.{Looked, reads_of}
+use Rattle.sw_objdir.specs.Directories.{IsDir, Kept, history_of, is_told}
+use Rattle.sw_outside.specs.Counts.{raised}
+use Rattle.sw_peer.proofs.Answering.{refusals}
+use Rattle.sw_volume.specs.Volume.{raised_by}
+use Rattle.sw_peer.specs.Histories.{stands}
+use Rattle.sw_peer.specs.Journals.{Journal, has_room, written}
+use Rattle.sw_peer.specs.Steps.{asks_expiry, is_entered, made_answer, refusal_by, refusal_of, write_of}
+use Rattle.sw_peer.specs.declared.answer.Answer.TheVariants as answers
+use Rattle.sw_peer.specs.declared.outline.Outline.{Outline}
+use Rattle.sw_state.specs.declared.state.State.{State}
+use Rattle.sw_volume.specs.Tree.{contents}
+use Rattle.sw_objdir.proofs.obj_dir.ObjDir.change.Goals as goal
+
+differ : answers.NoMemory ≡ answers.Failed → ⊥
+differ same = cc
+
+pub returns-in_default-clause-made : goal.returns-in_default-clause-made
+returns-in_default-clause-made g c =
+    let v = g.V.Volume in
+    let k = c.args.self.now in let name = c.args.name.now in let change = c.args.change in
+    let dir : IsDir v.tells v.holds v.faults k = subst (λ (x : Kept _). IsDir v.tells v.holds v.faults x) c.self.view_is c.self.invariant in
+    step-unsettled v.tells v.holds v.faults k k dir (looks-refl v.tells v.holds v.faults k) name change answers.NoMemory refl
+    (record { not_made = refl; same = refl }) (λ is. absurd (differ is))
+
+pub returns-in-Err-Failed-clause-made : goal.returns-in-Err-Failed-clause-made
+returns-in-Err-Failed-clause-made g c =
+    let v = g.V.Volume in
+    let k = c.args.self.now in let m = c.list.new.self in let name = c.args.name.now in let change = c.args.change in
+    let dir : IsDir v.tells v.holds v.faults k = subst (λ (x : Kept _). IsDir v.tells v.holds v.faults x) c.self.view_is c.self.invariant in
+    step-unsettled v.tells v.holds v.faults k m dir c.list.ensures.looks name change answers.Failed refl (inl (record { not_made = refl; same = refl }))
+    (λ is. rw c.in-Err-Failed.field-0-is at c.in-Err-Failed.ensures.cause.risen)
+
+pub returns-in-Err-NoMemory-clause-made : goal.returns-in-Err-NoMemory-clause-made
+returns-in-Err-NoMemory-clause-made g c =
+    let v = g.V.Volume in
+    let k = c.args.self.now in let m = c.list.new.self in let name = c.args.name.now in let change = c.args.change in
+    let dir : IsDir v.tells v.holds v.faults k = subst (λ (x : Kept _). IsDir v.tells v.holds v.faults x) c.self.view_is c.self.invariant in
+    step-unsettled v.tells v.holds v.faults k m dir c.list.ensures.looks name change answers.NoMemory refl (record { not_made = refl; same = refl })
+    (λ is. absurd (differ is))
+
+pub expiry-requires-clause-names : goal.expiry-requires-clause-names
+expiry-requires-clause-names g c =
+    let v = g.V.Volume in
+    let k = c.args.self.now in let m = c.list.new.self in let name = c.args.name.now in let change = c.args.change in
+    let dir : IsDir v.tells v.holds v.faults k = subst (λ (x : Kept _). IsDir v.tells v.holds v.faults x) c.self.view_is c.self.invariant in
+    let path_is : c.in-Ok.dir.items ≡ dir_text k.power name.hash = c.in-Ok.ensures.text ∙ ap (λ (x : Kept _). dir_text x.power name.hash) c.self.view_is in
+    let names : v.tells k.volume ≡ true → AreListedIn (contents (v.holds k.volume)) (dir_text k.power name.hash) c.in-Ok-list.seen.names.items =
+    λ told. subst (λ (d : List ℕ). AreListedIn (contents (v.holds k.volume)) d c.in-Ok-list.seen.names.items) (c.deref.ensures.value ∙ path_is)
+    (c.in-Ok-list.ensures.names told) in
+    λ told. subst (λ (d : List ℕ). AreListedIn (contents (v.holds m.volume)) d c.in-Ok-list.seen.names.items) (sym (c.deref-2.ensures.value ∙ path_is))
+    (listed-still v.tells v.holds v.faults v.calls v.lists k m c.list.ensures.looks (dir_text k.power name.hash) c.in-Ok-list.seen.names.items names told)
+
+pub returns-in-Err-Damaged-clause-made : goal.returns-in-Err-Damaged-clause-made
+returns-in-Err-Damaged-clause-made g c =
+    let v = g.V.Volume in
+    let k = c.args.self.now in let m = c.list.new.self in let name = c.args.name.now in let change = c.args.change in
+    let dir : IsDir v.tells v.holds v.faults k = subst (λ (x : Kept _). IsDir v.tells v.holds v.faults x) c.self.view_is c.self.invariant in
+    let n = c.expiry.new.self in let both = looks-trans v.tells v.holds v.faults k m n c.list.ensures.looks c.expiry.ensures.looks in
+    let told : is_told v.tells v.holds v.faults n ≡ false = told-same v.tells v.holds v.faults k n both.same
+    ∙ (sym (told-same v.tells v.holds v.faults k m c.list.ensures.looks.same) ∙ (rw c.in-Err-Damaged.field-0-is at c.in-Err-Damaged.ensures.damaged)) in
+    step-unsettled v.tells v.holds v.faults k n dir both name change _ refl (told, record { not_made = refl; same = refl }) (λ is. cc)
+
+pub returns-in-Err-Damaged-clause-called : goal.returns-in-Err-Damaged-clause-called
+returns-in-Err-Damaged-clause-called g c =
+    let v = g.V.Volume in
+    let k = c.args.self.now in let m = c.list.new.self in let name = c.args.name.now in let change = c.args.change in
+    let dir : IsDir v.tells v.holds v.faults k = subst (λ (x : Kept _). IsDir v.tells v.holds v.faults x) c.self.view_is c.self.invariant in
+    let path_is : c.in-Ok.dir.items ≡ dir_text k.power name.hash = c.in-Ok.ensures.text ∙ ap (λ (x : Kept _). dir_text x.power name.hash) c.self.view_is in
+    let names : v.tells k.volume ≡ true → AreListedIn (contents (v.holds k.volume)) (dir_text k.power name.hash) c.in-Ok-list.seen.names.items =
+    λ told. subst (λ (d : List ℕ). AreListedIn (contents (v.holds k.volume)) d c.in-Ok-list.seen.names.items) (c.deref.ensures.value ∙ path_is)
+    (c.in-Ok-list.ensures.names told) in
+    let n = c.expiry.new.self in let both = looks-trans v.tells v.holds v.faults k m n c.list.ensures.looks c.expiry.ensures.looks in
+    let reads : reads_of c.in-Ok-list.seen.picked change ≡ 1 = c.in-Err-Damaged.ensures.asked in
+    record {
+      seen = record {
+        names = c.in-Ok-list.seen.names.items;
+        picked = c.in-Ok-list.seen.picked;
+        are = names;
+        picks = c.in-Ok-list.ensures.picked;
+        journal = m.journal;
+        settles = subst (λ (x : Outline). SettlesFirst name.hash x k.journal m.journal) c.in-Ok-list.ensures.shape c.in-Ok-list.ensures.settles;
+      };
+      reads = reads;
+      damaged = rw c.in-Err-Damaged.field-0-is (damage-before v.tells v.holds v.faults k m c.list.ensures.looks name.hash c.deref-2.result.now
+          (dir_text k.power name.hash) (c.deref-2.ensures.value ∙ path_is) (expiry_file c.in-Ok-list.seen.picked) c.in-Err-Damaged.bad
+          (rw c.in-Err-Damaged.field-0-is at c.in-Err-Damaged.ensures.damage));
+      same = both.still;
+      counts = record {
+        called = c.expiry.ensures.calls
+            ∙ (ap (λ (r : ℕ). raised_by r (v.calls m.volume)) reads ∙ ap raised c.list.ensures.calls);
+        listed = c.expiry.ensures.lists
+            ∙ c.list.ensures.lists;
+        failed = (rw c.in-Err-Damaged.field-0-is at c.in-Err-Damaged.ensures.kept) ∙ c.in-Ok-list.ensures.cause.kept;
+      };
+      kept = c.expiry.ensures.journal;
+    }
+
+pub returns-in-Err-Failed-expiry-clause-made : goal.returns-in-Err-Failed-expiry-clause-made
+returns-in-Err-Failed-expiry-clause-made g c =
+    let v = g.V.Volume in
+    let k = c.args.self.now in let m = c.list.new.self in let name = c.args.name.now in let change = c.args.change in
+    let dir : IsDir v.tells v.holds v.faults k = subst (λ (x : Kept _). IsDir v.tells v.holds v.faults x) c.self.view_is c.self.invariant in
+    let n = c.expiry.new.self in let both = looks-trans v.tells v.holds v.faults k m n c.list.ensures.looks c.expiry.ensures.looks in
+    step-unsettled v.tells v.holds v.faults k n dir both name change answers.Failed refl (inl (record { not_made = refl; same = refl }))
+    (λ is. risen-after (v.faults k.volume) (v.faults m.volume) (v.faults n.volume) c.in-Ok-list.ensures.cause.kept
+    (rw c.in-Err-Failed-expiry.field-0-is at c.in-Err-Failed-expiry.ensures.failed) c.expiry.ensures.looks.later)
+
+pub returns-in-Err-Failed-expiry-clause-called : goal.returns-in-Err-Failed-expiry-clause-called
+returns-in-Err-Failed-expiry-clause-called g c =
+    let v = g.V.Volume in
+    let k = c.args.self.now in let m = c.list.new.self in let name = c.args.name.now in let change = c.args.change in
+    let dir : IsDir v.tells v.holds v.faults k = subst (λ (x : Kept _). IsDir v.tells v.holds v.faults x) c.self.view_is c.self.invariant in
+    let path_is : c.in-Ok.dir.items ≡ dir_text k.power name.hash = c.in-Ok.ensures.text ∙ ap (λ (x : Kept _). dir_text x.power name.hash) c.self.view_is in
+    let names : v.tells k.volume ≡ true → AreListedIn (contents (v.holds k.volume)) (dir_text k.power name.hash) c.in-Ok-list.seen.names.items =
+    λ told. subst (λ (d : List ℕ). AreListedIn (contents (v.holds k.volume)) d c.in-Ok-list.seen.names.items) (c.deref.ensures.value ∙ path_is)
+    (c.in-Ok-list.ensures.names told) in
+    let n = c.expiry.new.self in let both = looks-trans v.tells v.holds v.faults k m n c.list.ensures.looks c.expiry.ensures.looks in
+    let reads : reads_of c.in-Ok-list.seen.picked change ≡ 1 = c.in-Err-Failed-expiry.ensures.asked in
+    inr (inl (record {
+      seen = record {
+        names = c.in-Ok-list.seen.names.items;
+        picked = c.in-Ok-list.seen.picked;
+        are = names;
+        picks = c.in-Ok-list.ensures.picked;
+        journal = m.journal;
+        settles = subst (λ (x : Outline). SettlesFirst name.hash x k.journal m.journal) c.in-Ok-list.ensures.shape c.in-Ok-list.ensures.settles;
+      };
+      reads = reads;
+      same = both.still;
+      counts = record {
+        called = c.expiry.ensures.calls ∙ (ap (λ (r : ℕ). raised_by r (v.calls m.volume)) reads ∙ ap raised c.list.ensures.calls);
+        listed =
+            c.expiry.ensures.lists ∙ c.list.ensures.lists;
+        failed = (rw c.in-Err-Failed-expiry.field-0-is at c.in-Err-Failed-expiry.ensures.failed)
+            ∙ ap raised c.in-Ok-list.ensures.cause.kept;
+      };
+      settled = ap (λ (j : Journal). written name.hash j.doubts) c.expiry.ensures.journal ∙ c.in-Ok-list.ensures.settled;
+      kept = c.expiry.ensures.journal;
+    }))
+
+pub returns-in-Err-NoMemory-expiry-clause-made : goal.returns-in-Err-NoMemory-expiry-clause-made
+returns-in-Err-NoMemory-expiry-clause-made g c =
+    let v = g.V.Volume in
+    let k = c.args.self.now in let m = c.list.new.self in let name = c.args.name.now in let change = c.args.change in
+    let dir : IsDir v.tells v.holds v.faults k = subst (λ (x : Kept _). IsDir v.tells v.holds v.faults x) c.self.view_is c.self.invariant in
+    let n = c.expiry.new.self in let both = looks-trans v.tells v.holds v.faults k m n c.list.ensures.looks c.expiry.ensures.looks in
+    step-unsettled v.tells v.holds v.faults k n dir both name change answers.NoMemory refl (record { not_made = refl; same = refl }) (λ is. absurd (differ is))
+
+pub returns-in-Err-NoMemory-expiry-clause-called : goal.returns-in-Err-NoMemory-expiry-clause-called
+returns-in-Err-NoMemory-expiry-clause-called g c =
+    let v = g.V.Volume in
+    let k = c.args.self.now in let m = c.list.new.self in let name = c.args.name.now in let change = c.args.change in
+    let path_is : c.in-Ok.dir.items ≡ dir_text k.power name.hash = c.in-Ok.ensures.text ∙ ap (λ (x : Kept _). dir_text x.power name.hash) c.self.view_is in
+    let names : v.tells k.volume ≡ true → AreListedIn (contents (v.holds k.volume)) (dir_text k.power name.hash) c.in-Ok-list.seen.names.items =
+    λ told. subst (λ (d : List ℕ). AreListedIn (contents (v.holds k.volume)) d c.in-Ok-list.seen.names.items) (c.deref.ensures.value ∙ path_is)
+    (c.in-Ok-list.ensures.names told) in
+    let n = c.expiry.new.self in let both = looks-trans v.tells v.holds v.faults k m n c.list.ensures.looks c.expiry.ensures.looks in
+    let reads : reads_of c.in-Ok-list.seen.picked change ≡ 1 = c.in-Err-NoMemory-expiry.ensures.asked in
+    record {
+      same = both.still;
+      failed = (rw c.in-Err-NoMemory-expiry.field-0-is at c.in-Err-NoMemory-expiry.ensures.kept) ∙ c.in-Ok-list.ensures.cause.kept;
+      called = inr (
+        1,
+        omega arith,
+        c.expiry.ensures.calls ∙ (ap (λ (r : ℕ). raised_by r (v.calls m.volume)) reads ∙ ap raised c.list.ensures.calls),
+        c.expiry.ensures.lists ∙ c.list.ensures.lists,
+      );
+      journal = inr (
+        record {
+          names = c.in-Ok-list.seen.names.items;
+          picked = c.in-Ok-list.seen.picked;
+          are = names;
+          picks = c.in-Ok-list.ensures.picked;
+          journal = m.journal;
+          settles = subst (λ (x : Outline). SettlesFirst name.hash x k.journal m.journal) c.in-Ok-list.ensures.shape c.in-Ok-list.ensures.settles;
+        },
+        c.expiry.ensures.journal,
+      );
+    }
+
+pub returns-in-Some-clause-made : goal.returns-in-Some-clause-made
+returns-in-Some-clause-made g c =
+    let v = g.V.Volume in
+    let k = c.args.self.now in let m = c.list.new.self in let name = c.args.name.now in let change = c.args.change in
+    let dir : IsDir v.tells v.holds v.faults k = subst (λ (x : Kept _). IsDir v.tells v.holds v.faults x) c.self.view_is c.self.invariant in
+    let n = c.expiry.new.self in let both = looks-trans v.tells v.holds v.faults k m n c.list.ensures.looks c.expiry.ensures.looks in
+    let dir_n : IsDir v.tells v.holds v.faults n = dir-still v.tells v.holds v.faults v.calls v.lists m n c.list.ensures.dir c.expiry.ensures.looks
+    c.expiry.ensures.journal in
+    let settled : written name.hash n.journal.doubts ≡ [] = ap (λ (j : Journal). written name.hash j.doubts) c.expiry.ensures.journal
+    ∙ c.in-Ok-list.ensures.settled in
+    let o = c.in-Ok-list.seen.outline in
+    let second = second-still v.tells v.holds v.faults v.calls v.lists k m dir c.list.ensures.looks name.hash o
+    (asks_expiry o change) c.in-Ok-expiry.expiry c.in-Ok-expiry.ensures.second in
+    let fact : refusal_by o c.in-Ok-expiry.expiry change ≡ Some c.in-Some.refused = sym c.refusal.ensures ∙ c.in-Some.is in
+    let is = refusals o c.in-Ok-expiry.expiry change c.in-Some.refused fact in
+    step-after v.tells v.holds v.faults k n dir both name change c.in-Some.refused n
+    (step-refused v.tells v.holds v.faults v.calls v.lists n dir_n name settled change c.in-Some.refused
+    (refused-answers (is_told v.tells v.holds v.faults n) (stands (history_of v.tells v.holds v.faults n) name.hash) n.journal name change c.in-Some.refused is
+    (λ told. subst (λ (s : State). refusal_of s change ≡ Some c.in-Some.refused)
+    (sym (stands-held v.tells v.holds v.faults v.calls v.lists n dir_n name settled told))
+    (refused-of v.tells v.holds v.faults v.calls v.lists k n dir both name.hash o c.in-Ok-expiry.expiry change
+    (Some c.in-Some.refused) c.in-Ok-list.ensures.outline second fact told)))
+    (refusal-never c.in-Some.refused is))
+
+pub returns-in-Some-clause-called : goal.returns-in-Some-clause-called
+returns-in-Some-clause-called g c =
+    let v = g.V.Volume in
+    let k = c.args.self.now in let m = c.list.new.self in let name = c.args.name.now in let change = c.args.change in
+    let dir : IsDir v.tells v.holds v.faults k = subst (λ (x : Kept _). IsDir v.tells v.holds v.faults x) c.self.view_is c.self.invariant in
+    let path_is : c.in-Ok.dir.items ≡ dir_text k.power name.hash = c.in-Ok.ensures.text ∙ ap (λ (x : Kept _). dir_text x.power name.hash) c.self.view_is in
+    let names : v.tells k.volume ≡ true → AreListedIn (contents (v.holds k.volume)) (dir_text k.power name.hash) c.in-Ok-list.seen.names.items =
+    λ told. subst (λ (d : List ℕ). AreListedIn (contents (v.holds k.volume)) d c.in-Ok-list.seen.names.items) (c.deref.ensures.value ∙ path_is)
+    (c.in-Ok-list.ensures.names told) in
+    let n = c.expiry.new.self in let both = looks-trans v.tells v.holds v.faults k m n c.list.ensures.looks c.expiry.ensures.looks in
+    let dir_n : IsDir v.tells v.holds v.faults n = dir-still v.tells v.holds v.faults v.calls v.lists m n c.list.ensures.dir c.expiry.ensures.looks
+    c.expiry.ensures.journal in
+    let settled : written name.hash n.journal.doubts ≡ [] = ap (λ (j : Journal). written name.hash j.doubts) c.expiry.ensures.journal
+    ∙ c.in-Ok-list.ensures.settled in
+    let o = c.in-Ok-list.seen.outline in
+    let fact : refusal_by c.in-Ok-list.seen.outline c.in-Ok-expiry.expiry change ≡ Some c.in-Some.refused = sym c.refusal.ensures ∙ c.in-Some.is in
+    let read = second-before v.tells v.holds v.faults k m c.list.ensures.looks name.hash c.deref-2.result.now (dir_text k.power name.hash)
+    (c.deref-2.ensures.value ∙ path_is) c.in-Ok-list.seen.picked c.in-Ok-expiry.expiry (asks_expiry (picked_outline c.in-Ok-list.seen.picked) change ≡ true)
+    (subst (λ (x : Outline). v.tells m.volume ≡ true → asks_expiry x change ≡ true → IsSecondRead m.secrets name.hash (v.holds m.volume)
+    c.deref-2.result.now c.in-Ok-list.seen.picked c.in-Ok-expiry.expiry) c.in-Ok-list.ensures.shape c.in-Ok-expiry.ensures.read) in
+    let looked : Looked v.tells v.holds v.faults v.calls v.lists k name change (Some c.in-Some.refused) n =
+    looked-so v.tells v.holds v.faults v.calls v.lists k m n name change c.in-Ok-list.seen.names.items c.in-Ok-list.seen.picked names
+    c.in-Ok-list.ensures.picked c.list.ensures.looks c.expiry.ensures.looks
+    c.list.ensures.calls c.list.ensures.lists c.in-Ok-list.ensures.cause.kept c.expiry.ensures.calls c.expiry.ensures.lists c.in-Ok-expiry.ensures.kept
+    (subst (λ (x : Outline). SettlesFirst name.hash x k.journal m.journal) c.in-Ok-list.ensures.shape c.in-Ok-list.ensures.settles) c.expiry.ensures.journal
+    (Some c.in-Some.refused) c.in-Ok-expiry.expiry read
+    (ap (λ (x : Outline). refusal_by x c.in-Ok-expiry.expiry change) (sym c.in-Ok-list.ensures.shape) ∙ fact) in
+    let is = refusals o c.in-Ok-expiry.expiry change c.in-Some.refused fact in
+    called-refused v.tells v.holds v.faults v.calls v.lists k n name change c.in-Some.refused is looked
+
+pub returns-then-not-has_room-clause-made : goal.returns-then-not-has_room-clause-made
+returns-then-not-has_room-clause-made g c =
+    let v = g.V.Volume in
+    let k = c.args.self.now in let m = c.list.new.self in let name = c.args.name.now in let change = c.args.change in
+    let dir : IsDir v.tells v.holds v.faults k = subst (λ (x : Kept _). IsDir v.tells v.holds v.faults x) c.self.view_is c.self.invariant in
+    let n = c.expiry.new.self in let both = looks-trans v.tells v.holds v.faults k m n c.list.ensures.looks c.expiry.ensures.looks in
+    let dir_n : IsDir v.tells v.holds v.faults n = dir-still v.tells v.holds v.faults v.calls v.lists m n c.list.ensures.dir c.expiry.ensures.looks
+    c.expiry.ensures.journal in
+    let settled : written name.hash n.journal.doubts ≡ [] = ap (λ (j : Journal). written name.hash j.doubts) c.expiry.ensures.journal
+    ∙ c.in-Ok-list.ensures.settled in
+    let o = c.in-Ok-list.seen.outline in
+    let second = second-still v.tells v.holds v.faults v.calls v.lists k m dir c.list.ensures.looks name.hash o
+    (asks_expiry o change) c.in-Ok-expiry.expiry c.in-Ok-expiry.ensures.second in
+    let fact : refusal_by o c.in-Ok-expiry.expiry change ≡ None = sym c.refusal.ensures ∙ c.in_default-refusal.is in
+    let full : has_room n.journal (write_of change) ≡ false = room-as n.journal (write_of change) c.body_size.result c.has_room.result c.body_size.ensures
+    (rw (sym c.self-2.view_is) c.has_room.ensures) ∙ c.if-not-has_room.true in
+    step-after v.tells v.holds v.faults k n dir both name change answers.JournalFull n
+    (step-refused v.tells v.holds v.faults v.calls v.lists n dir_n name settled change answers.JournalFull
+    (record {
+      leaves = record { not_made = refl; same = refl };
+      not_refused = λ told. subst (λ (s : State). refusal_of s change ≡ None)
+          (sym (stands-held v.tells v.holds v.faults v.calls v.lists n dir_n name settled told))
+          (refused-of v.tells v.holds v.faults v.calls v.lists k n dir both name.hash o c.in-Ok-expiry.expiry change None c.in-Ok-list.ensures.outline second
+          fact told);
+      full = full;
+    })
+    (λ is. cc))
+
+pub returns-then-not-has_room-clause-called : goal.returns-then-not-has_room-clause-called
+returns-then-not-has_room-clause-called g c =
+    let v = g.V.Volume in
+    let k = c.args.self.now in let m = c.list.new.self in let name = c.args.name.now in let change = c.args.change in
+    let dir : IsDir v.tells v.holds v.faults k = subst (λ (x : Kept _). IsDir v.tells v.holds v.faults x) c.self.view_is c.self.invariant in
+    let path_is : c.in-Ok.dir.items ≡ dir_text k.power name.hash = c.in-Ok.ensures.text ∙ ap (λ (x : Kept _). dir_text x.power name.hash) c.self.view_is in
+    let names : v.tells k.volume ≡ true → AreListedIn (contents (v.holds k.volume)) (dir_text k.power name.hash) c.in-Ok-list.seen.names.items =
+    λ told. subst (λ (d : List ℕ). AreListedIn (contents (v.holds k.volume)) d c.in-Ok-list.seen.names.items) (c.deref.ensures.value ∙ path_is)
+    (c.in-Ok-list.ensures.names told) in
+    let n = c.expiry.new.self in let both = looks-trans v.tells v.holds v.faults k m n c.list.ensures.looks c.expiry.ensures.looks in
+    let fact : refusal_by c.in-Ok-list.seen.outline c.in-Ok-expiry.expiry change ≡ None = sym c.refusal.ensures ∙ c.in_default-refusal.is in
+    let read = second-before v.tells v.holds v.faults k m c.list.ensures.looks name.hash c.deref-2.result.now (dir_text k.power name.hash)
+    (c.deref-2.ensures.value ∙ path_is) c.in-Ok-list.seen.picked c.in-Ok-expiry.expiry (asks_expiry (picked_outline c.in-Ok-list.seen.picked) change ≡ true)
+    (subst (λ (x : Outline). v.tells m.volume ≡ true → asks_expiry x change ≡ true → IsSecondRead m.secrets name.hash (v.holds m.volume)
+    c.deref-2.result.now c.in-Ok-list.seen.picked c.in-Ok-expiry.expiry) c.in-Ok-list.ensures.shape c.in-Ok-expiry.ensures.read) in
+    let looked : Looked v.tells v.holds v.faults v.calls v.lists k name change None n =
+    looked-so v.tells v.holds v.faults v.calls v.lists k m n name change c.in-Ok-list.seen.names.items c.in-Ok-list.seen.picked names
+    c.in-Ok-list.ensures.picked c.list.ensures.looks c.expiry.ensures.looks
+    c.list.ensures.calls c.list.ensures.lists c.in-Ok-list.ensures.cause.kept c.expiry.ensures.calls c.expiry.ensures.lists c.in-Ok-expiry.ensures.kept
+    (subst (λ (x : Outline). SettlesFirst name.hash x k.journal m.journal) c.in-Ok-list.ensures.shape c.in-Ok-list.ensures.settles) c.expiry.ensures.journal
+    None c.in-Ok-expiry.expiry read
+    (ap (λ (x : Outline). refusal_by x c.in-Ok-expiry.expiry change) (sym c.in-Ok-list.ensures.shape) ∙ fact) in
+    looked
+
+pub write-requires-clause-names : goal.write-requires-clause-names
+write-requires-clause-names g c =
+    let v = g.V.Volume in
+    let k = c.args.self.now in let m = c.list.new.self in let name = c.args.name.now in let change = c.args.change in
+    let dir : IsDir v.tells v.holds v.faults k = subst (λ (x : Kept _). IsDir v.tells v.holds v.faults x) c.self.view_is c.self.invariant in
+    let path_is : c.in-Ok.dir.items ≡ dir_text k.power name.hash = c.in-Ok.ensures.text ∙ ap (λ (x : Kept _). dir_text x.power name.hash) c.self.view_is in
+    let names : v.tells k.volume ≡ true → AreListedIn (contents (v.holds k.volume)) (dir_text k.power name.hash) c.in-Ok-list.seen.names.items =
+    λ told. subst (λ (d : List ℕ). AreListedIn (contents (v.holds k.volume)) d c.in-Ok-list.seen.names.items) (c.deref.ensures.value ∙ path_is)
+    (c.in-Ok-list.ensures.names told) in
+    let n = c.expiry.new.self in let both = looks-trans v.tells v.holds v.faults k m n c.list.ensures.looks c.expiry.ensures.looks in
+    λ told. subst (λ (d : List ℕ). AreListedIn (contents (v.holds n.volume)) d c.in-Ok-list.seen.names.items) (sym (c.deref-3.ensures.value ∙ path_is))
+    (listed-still v.tells v.holds v.faults v.calls v.lists k n both (dir_text k.power name.hash) c.in-Ok-list.seen.names.items names told)
+
+pub write-requires-clause-outline : goal.write-requires-clause-outline
+write-requires-clause-outline g c =
+    let v = g.V.Volume in
+    let k = c.args.self.now in let m = c.list.new.self in let name = c.args.name.now in let change = c.args.change in
+    let dir : IsDir v.tells v.holds v.faults k = subst (λ (x : Kept _). IsDir v.tells v.holds v.faults x) c.self.view_is c.self.invariant in
+    let n = c.expiry.new.self in let both = looks-trans v.tells v.holds v.faults k m n c.list.ensures.looks c.expiry.ensures.looks in
+    let dir_n : IsDir v.tells v.holds v.faults n = dir-still v.tells v.holds v.faults v.calls v.lists m n c.list.ensures.dir c.expiry.ensures.looks
+    c.expiry.ensures.journal in
+    let settled : written name.hash n.journal.doubts ≡ [] = ap (λ (j : Journal). written name.hash j.doubts) c.expiry.ensures.journal
+    ∙ c.in-Ok-list.ensures.settled in
+    let o = c.in-Ok-list.seen.outline in
+    outline-still v.tells v.holds v.faults v.calls v.lists k n dir both name.hash o c.in-Ok-list.ensures.outline
+
+pub write-requires-clause-allowed : goal.write-requires-clause-allowed
+write-requires-clause-allowed g c =
+    let v = g.V.Volume in
+    let k = c.args.self.now in let m = c.list.new.self in let name = c.args.name.now in let change = c.args.change in
+    let dir : IsDir v.tells v.holds v.faults k = subst (λ (x : Kept _). IsDir v.tells v.holds v.faults x) c.self.view_is c.self.invariant in
+    let n = c.expiry.new.self in let both = looks-trans v.tells v.holds v.faults k m n c.list.ensures.looks c.expiry.ensures.looks in
+    let dir_n : IsDir v.tells v.holds v.faults n = dir-still v.tells v.holds v.faults v.calls v.lists m n c.list.ensures.dir c.expiry.ensures.looks
+    c.expiry.ensures.journal in
+    let settled : written name.hash n.journal.doubts ≡ [] = ap (λ (j : Journal). written name.hash j.doubts) c.expiry.ensures.journal
+    ∙ c.in-Ok-list.ensures.settled in
+    let o = c.in-Ok-list.seen.outline in
+    let second = second-still v.tells v.holds v.faults v.calls v.lists k m dir c.list.ensures.looks name.hash o
+    (asks_expiry o change) c.in-Ok-expiry.expiry c.in-Ok-expiry.ensures.second in
+    let fact : refusal_by o c.in-Ok-expiry.expiry change ≡ None = sym c.refusal.ensures ∙ c.in_default-refusal.is in
+    refused-of v.tells v.holds v.faults v.calls v.lists k n dir both name.hash o c.in-Ok-expiry.expiry change None c.in-Ok-list.ensures.outline second fact
+
+pub returns-clause-made : goal.returns-clause-made
+returns-clause-made g c =
+    let v = g.V.Volume in
+    let k = c.args.self.now in let m = c.list.new.self in let name = c.args.name.now in let change = c.args.change in
+    let dir : IsDir v.tells v.holds v.faults k = subst (λ (x : Kept _). IsDir v.tells v.holds v.faults x) c.self.view_is c.self.invariant in
+    let n = c.expiry.new.self in let both = looks-trans v.tells v.holds v.faults k m n c.list.ensures.looks c.expiry.ensures.looks in
+    step-after v.tells v.holds v.faults k n dir both name change c.write.result c.write.new.self c.write.ensures.made
+
+pub returns-clause-called : goal.returns-clause-called
+returns-clause-called g c =
+    let v = g.V.Volume in
+    let k = c.args.self.now in let m = c.list.new.self in let name = c.args.name.now in let change = c.args.change in
+    let dir : IsDir v.tells v.holds v.faults k = subst (λ (x : Kept _). IsDir v.tells v.holds v.faults x) c.self.view_is c.self.invariant in
+    let path_is : c.in-Ok.dir.items ≡ dir_text k.power name.hash = c.in-Ok.ensures.text ∙ ap (λ (x : Kept _). dir_text x.power name.hash) c.self.view_is in
+    let names : v.tells k.volume ≡ true → AreListedIn (contents (v.holds k.volume)) (dir_text k.power name.hash) c.in-Ok-list.seen.names.items =
+    λ told. subst (λ (d : List ℕ). AreListedIn (contents (v.holds k.volume)) d c.in-Ok-list.seen.names.items) (c.deref.ensures.value ∙ path_is)
+    (c.in-Ok-list.ensures.names told) in
+    let n = c.expiry.new.self in let both = looks-trans v.tells v.holds v.faults k m n c.list.ensures.looks c.expiry.ensures.looks in
+    let fact : refusal_by c.in-Ok-list.seen.outline c.in-Ok-expiry.expiry change ≡ None = sym c.refusal.ensures ∙ c.in_default-refusal.is in
+    let read = second-before v.tells v.holds v.faults k m c.list.ensures.looks name.hash c.deref-2.result.now (dir_text k.power name.hash)
+    (c.deref-2.ensures.value ∙ path_is) c.in-Ok-list.seen.picked c.in-Ok-expiry.expiry (asks_expiry (picked_outline c.in-Ok-list.seen.picked) change ≡ true)
+    (subst (λ (x : Outline). v.tells m.volume ≡ true → asks_expiry x change ≡ true → IsSecondRead m.secrets name.hash (v.holds m.volume)
+    c.deref-2.result.now c.in-Ok-list.seen.picked c.in-Ok-expiry.expiry) c.in-Ok-list.ensures.shape c.in-Ok-expiry.ensures.read) in
+    let looked : Looked v.tells v.holds v.faults v.calls v.lists k name change None n =
+    looked-so v.tells v.holds v.faults v.calls v.lists k m n name change c.in-Ok-list.seen.names.items c.in-Ok-list.seen.picked names
+    c.in-Ok-list.ensures.picked c.list.ensures.looks c.expiry.ensures.looks
+    c.list.ensures.calls c.list.ensures.lists c.in-Ok-list.ensures.cause.kept c.expiry.ensures.calls c.expiry.ensures.lists c.in-Ok-expiry.ensures.kept
+    (subst (λ (x : Outline). SettlesFirst name.hash x k.journal m.journal) c.in-Ok-list.ensures.shape c.in-Ok-list.ensures.settles) c.expiry.ensures.journal
+    None c.in-Ok-expiry.expiry read
+    (ap (λ (x : Outline). refusal_by x c.in-Ok-expiry.expiry change) (sym c.in-Ok-list.ensures.shape) ∙ fact) in
+    called-written v.tells v.holds v.faults v.calls v.lists k n name change looked both.same.told both.same.power c.write.new.self c.write.result
+    c.write.ensures.written
+    (subst (λ (x : Outline). is_entered c.write.result ≡ true → c.write.result ≡ made_answer x change (length c.write.new.self.journal.entries))
+    c.in-Ok-list.ensures.shape c.write.ensures.answered)

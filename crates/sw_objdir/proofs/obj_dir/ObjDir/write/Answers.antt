@@ -1,0 +1,305 @@
+use Rattle.std.proofs.Common.{◌≡◌, ◌+◌, ℕ, true, List, [], ◌∷◌, ◌++◌, refl, sym, ◌∙◌, ap, subst, None, Some, ◌⊎◌, length, inl, inr}
+use Rattle.sw_cleanup.specs.Cleaning.{AreListedIn, obsolete_of}
+use Rattle.sw_cleanup.specs.Directories.{name_of}
+use Rattle.sw_diskfile.specs.FileNames.{name_text}
+use Rattle.sw_metafile.specs.Texts.{file_text}
+use Rattle.sw_outside.specs.Counts.{raised}
+use Rattle.sw_volume.specs.Volume.{MaySet, raised_by}
+use Rattle.sw_diskfile.specs.declared.file_name.FileName.{FileName}
+use Rattle.sw_hashdir.specs.Places.{dir_text}
+use Rattle.sw_hashdir.specs.Steps.{IsNewIn, IsOurs, Joins, JoinsAll, Keeps, MayJoin, Writes}
+use Rattle.sw_objdir.proofs.Deciding.{written-made}
+use Rattle.sw_objdir.proofs.Looking.{dir-moved, looks-moved, looks-refl, step-unsettled, tells-now}
+use Rattle.sw_objdir.proofs.Making.{allowed-stands, confirmed, dir-doubted, dir-entered, in-doubt, is-new-in, last, made-answers, made-not-failed}
+use Rattle.sw_objdir.proofs.Making.{outline-stands, own-doubt, step-doubts, step-enters, up-from, withdrawn}
+use Rattle.sw_objdir.specs.Calling.{WritesFile}
+use Rattle.sw_objdir.specs.Directories.{Kept, held, history_of, is_told}
+use Rattle.sw_peer.specs.Histories.{stands}
+use Rattle.sw_peer.specs.Journals.{Journal, has_room, with_doubt, with_entry, written}
+use Rattle.sw_peer.specs.Outlines.{outline_of}
+use Rattle.sw_peer.specs.Steps.{made_answer, refusal_of, write_of}
+use Rattle.sw_peer.specs.declared.answer.Answer.TheVariants as answers
+use Rattle.sw_peer.specs.declared.entry.ObjEntry.{ObjEntry}
+use Rattle.sw_peer.specs.declared.entry.ObjEntry.TheVariants.{Wrote}
+use Rattle.sw_state.specs.declared.write.Write.{Write}
+use Rattle.sw_volume.specs.Tree.{contents}
+use Rattle.sw_objdir.proofs.obj_dir.ObjDir.write.Goals as goal
+
+differ : answers.NoMemory ≡ answers.Failed → ⊥
+differ same = cc
+
+pub returns-in_default-clause-made : goal.returns-in_default-clause-made
+returns-in_default-clause-made g c =
+    let v = g.V.Volume in let i = c.self.inside in
+    let k : Kept _ = record { volume = i.volume; began = i.opening.value; secrets = i.secrets; power = i.power; journal = i.journal } in
+    let name = c.args.name.now in let change = c.args.change in let o = c.args.seen.now.outline in let w = write_of change in
+    rw (sym c.self.view_is) (step-unsettled v.tells v.holds v.faults k k c.self.invariant
+    (looks-refl v.tells v.holds v.faults k) name change answers.NoMemory refl (record { not_made = refl; same = refl }) (λ is. absurd (differ is)))
+
+pub returns-in_default-doubt-clause-made : goal.returns-in_default-doubt-clause-made
+returns-in_default-doubt-clause-made g c =
+    let v = g.V.Volume in let i = c.self.inside in
+    let k : Kept _ = record { volume = i.volume; began = i.opening.value; secrets = i.secrets; power = i.power; journal = i.journal } in
+    let name = c.args.name.now in let change = c.args.change in let o = c.args.seen.now.outline in let w = write_of change in
+    rw (sym c.self.view_is, c.in_default-doubt.ensures.err) (step-unsettled v.tells v.holds v.faults k k c.self.invariant
+    (looks-refl v.tells v.holds v.faults k) name change answers.NoMemory refl (record { not_made = refl; same = refl }) (λ is. absurd (differ is)))
+
+pub invariant_of-self-in-Ok-write_file : goal.invariant_of-self-in-Ok-write_file
+invariant_of-self-in-Ok-write_file g c =
+    let v = g.V.Volume in let i = c.self.inside in
+    let k : Kept _ = record { volume = i.volume; began = i.opening.value; secrets = i.secrets; power = i.power; journal = i.journal } in
+    let name = c.args.name.now in let change = c.args.change in let o = c.args.seen.now.outline in let w = write_of change in
+    let settled : written name.hash k.journal.doubts ≡ [] = subst (λ (x : Kept _). written name.hash x.journal.doubts ≡ [])
+    (sym c.self.view_is) c.requires.settled in
+    let ours : IsOurs k.secrets k.power name = subst (λ (x : Kept _). IsOurs x.secrets x.power name) (sym c.self.view_is) c.requires.ours in
+    let path_is : c.args.dir.now ≡ dir_text k.power name.hash = subst (λ (x : Kept _). c.args.dir.now ≡ dir_text x.power name.hash)
+    (sym c.self.view_is) c.requires.dir in
+    let names : v.tells k.volume ≡ true → AreListedIn (contents (v.holds k.volume)) c.args.dir.now c.args.seen.now.names.items =
+    subst (λ (x : Kept _). v.tells x.volume ≡ true → AreListedIn (contents (v.holds x.volume)) c.args.dir.now c.args.seen.now.names.items)
+    (sym c.self.view_is) c.requires.names in
+    let allowed : is_told v.tells v.holds v.faults k ≡ true → refusal_of (held v.tells v.holds v.faults k name.hash) change ≡ None =
+    subst (λ (x : Kept _). is_told v.tells v.holds v.faults x ≡ true → refusal_of (held v.tells v.holds v.faults x name.hash) change ≡ None)
+    (sym c.self.view_is) c.requires.allowed in
+    let entry : c.in-Ok.entry ≡ Wrote name w = c.in-Ok.ensures ∙ ap (λ (x : Write). Wrote name x) c.into_write.ensures in
+    let doubted = c.in-Ok-doubt.ensures.ok in
+    let new-in : is_told v.tells v.holds v.faults k ≡ true → IsNewIn k.secrets k.power (v.holds k.volume) c.args.dir.now c.args.seen.now.names.items name w =
+    is-new-in v.tells v.holds v.faults k c.self.invariant name settled change ours allowed c.args.dir.now c.args.seen.now.names.items path_is names in
+    let tells : is_told v.tells v.holds v.faults k ≡ true → v.tells k.volume ≡ true = tells-now v.tells v.holds v.faults k c.self.invariant in
+    let write_is : c.last_doubted-write.result.now ≡ w = c.last_doubted-write.ensures k.journal.doubts name w
+    (last k.journal c.doubt.new.self c.in-Ok.entry name w doubted entry ∙ ap (λ (x : ObjEntry). k.journal.doubts ++ x ∷ []) entry) in
+    let joins : is_told v.tells v.holds v.faults k ≡ true → Joins k.secrets k.power name.hash w (v.holds k.volume) (v.holds c.write_file.new.volume) = λ told.
+    (subst (λ (x : Write). JoinsAll (v.holds k.volume) (v.holds c.write_file.new.volume) c.args.dir.now c.args.seen.now.names.items name x) write_is
+    (subst (λ (fs : List FileName). JoinsAll (v.holds k.volume) (v.holds c.write_file.new.volume) c.args.dir.now fs name c.last_doubted-write.result.now)
+    c.deref.ensures.value (c.in-Ok-write_file.ensures.joins (tells told)))) k.secrets k.power (new-in told) in
+    let confirms : c.confirm.new.self ≡ with_entry k.journal name w = confirmed k.journal c.doubt.new.self c.in-Ok.entry name w doubted entry
+    c.confirm.new.self c.confirm.ensures in
+    rw confirms (dir-entered v.tells v.holds v.faults k c.self.invariant name settled change ours allowed c.write_file.new.volume c.write_file.ensures.told
+    c.write_file.ensures.later joins)
+
+pub invariant_of-self-in-Err-Failed : goal.invariant_of-self-in-Err-Failed
+invariant_of-self-in-Err-Failed g c =
+    let v = g.V.Volume in let i = c.self.inside in
+    let k : Kept _ = record { volume = i.volume; began = i.opening.value; secrets = i.secrets; power = i.power; journal = i.journal } in
+    let name = c.args.name.now in let change = c.args.change in let o = c.args.seen.now.outline in let w = write_of change in
+    let settled : written name.hash k.journal.doubts ≡ [] = subst (λ (x : Kept _). written name.hash x.journal.doubts ≡ [])
+    (sym c.self.view_is) c.requires.settled in
+    let ours : IsOurs k.secrets k.power name = subst (λ (x : Kept _). IsOurs x.secrets x.power name) (sym c.self.view_is) c.requires.ours in
+    let path_is : c.args.dir.now ≡ dir_text k.power name.hash = subst (λ (x : Kept _). c.args.dir.now ≡ dir_text x.power name.hash)
+    (sym c.self.view_is) c.requires.dir in
+    let names : v.tells k.volume ≡ true → AreListedIn (contents (v.holds k.volume)) c.args.dir.now c.args.seen.now.names.items =
+    subst (λ (x : Kept _). v.tells x.volume ≡ true → AreListedIn (contents (v.holds x.volume)) c.args.dir.now c.args.seen.now.names.items)
+    (sym c.self.view_is) c.requires.names in
+    let allowed : is_told v.tells v.holds v.faults k ≡ true → refusal_of (held v.tells v.holds v.faults k name.hash) change ≡ None =
+    subst (λ (x : Kept _). is_told v.tells v.holds v.faults x ≡ true → refusal_of (held v.tells v.holds v.faults x name.hash) change ≡ None)
+    (sym c.self.view_is) c.requires.allowed in
+    let entry : c.in-Ok.entry ≡ Wrote name w = c.in-Ok.ensures ∙ ap (λ (x : Write). Wrote name x) c.into_write.ensures in
+    let doubted = c.in-Ok-doubt.ensures.ok in
+    let new-in : is_told v.tells v.holds v.faults k ≡ true → IsNewIn k.secrets k.power (v.holds k.volume) c.args.dir.now c.args.seen.now.names.items name w =
+    is-new-in v.tells v.holds v.faults k c.self.invariant name settled change ours allowed c.args.dir.now c.args.seen.now.names.items path_is names in
+    let tells : is_told v.tells v.holds v.faults k ≡ true → v.tells k.volume ≡ true = tells-now v.tells v.holds v.faults k c.self.invariant in
+    let write_is : c.last_doubted-write.result.now ≡ w = c.last_doubted-write.ensures k.journal.doubts name w
+    (last k.journal c.doubt.new.self c.in-Ok.entry name w doubted entry ∙ ap (λ (x : ObjEntry). k.journal.doubts ++ x ∷ []) entry) in
+    let may : is_told v.tells v.holds v.faults k ≡ true → Keeps k.secrets k.power name.hash (v.holds k.volume) (v.holds c.write_file.new.volume)
+    ⊎ Joins k.secrets k.power name.hash w (v.holds k.volume) (v.holds c.write_file.new.volume) = λ told.
+    (subst (λ (x : Write). MayJoin (v.holds k.volume) (v.holds c.write_file.new.volume) c.args.dir.now c.args.seen.now.names.items name x) write_is
+    (subst (λ (fs : List FileName). MayJoin (v.holds k.volume) (v.holds c.write_file.new.volume) c.args.dir.now fs name c.last_doubted-write.result.now)
+    c.deref.ensures.value ((rw c.in-Err-Failed.field-0-is at c.in-Err-Failed.ensures.may_join) (tells told)))) k.secrets k.power (new-in told) in
+    let in_doubt : c.doubt.new.self ≡ with_doubt k.journal name w = in-doubt k.journal c.doubt.new.self c.in-Ok.entry name w doubted entry in
+    rw in_doubt (dir-doubted v.tells v.holds v.faults k c.self.invariant name settled change ours allowed c.write_file.new.volume c.write_file.ensures.told
+    c.write_file.ensures.later may)
+
+pub invariant_of-self-in-Err-NoMemory : goal.invariant_of-self-in-Err-NoMemory
+invariant_of-self-in-Err-NoMemory g c =
+    let v = g.V.Volume in let i = c.self.inside in
+    let k : Kept _ = record { volume = i.volume; began = i.opening.value; secrets = i.secrets; power = i.power; journal = i.journal } in
+    let name = c.args.name.now in let change = c.args.change in let o = c.args.seen.now.outline in let w = write_of change in
+    let entry : c.in-Ok.entry ≡ Wrote name w = c.in-Ok.ensures ∙ ap (λ (x : Write). Wrote name x) c.into_write.ensures in
+    let back : c.withdraw.new.self ≡ k.journal = withdrawn k.journal c.doubt.new.self c.in-Ok.entry name w c.in-Ok-doubt.ensures.ok entry c.withdraw.new.self
+    c.withdraw.ensures in
+    rw back (dir-moved v.tells v.holds v.faults k c.write_file.new.volume c.self.invariant c.write_file.ensures.told
+    (rw c.in-Err-NoMemory.field-0-is at c.in-Err-NoMemory.ensures.no_memory))
+
+pub returns-in-Ok-write_file-clause-made : goal.returns-in-Ok-write_file-clause-made
+returns-in-Ok-write_file-clause-made g c =
+    let v = g.V.Volume in let i = c.self.inside in
+    let k : Kept _ = record { volume = i.volume; began = i.opening.value; secrets = i.secrets; power = i.power; journal = i.journal } in
+    let name = c.args.name.now in let change = c.args.change in let o = c.args.seen.now.outline in let w = write_of change in
+    let settled : written name.hash k.journal.doubts ≡ [] = subst (λ (x : Kept _). written name.hash x.journal.doubts ≡ [])
+    (sym c.self.view_is) c.requires.settled in
+    let ours : IsOurs k.secrets k.power name = subst (λ (x : Kept _). IsOurs x.secrets x.power name) (sym c.self.view_is) c.requires.ours in
+    let path_is : c.args.dir.now ≡ dir_text k.power name.hash = subst (λ (x : Kept _). c.args.dir.now ≡ dir_text x.power name.hash)
+    (sym c.self.view_is) c.requires.dir in
+    let names : v.tells k.volume ≡ true → AreListedIn (contents (v.holds k.volume)) c.args.dir.now c.args.seen.now.names.items =
+    subst (λ (x : Kept _). v.tells x.volume ≡ true → AreListedIn (contents (v.holds x.volume)) c.args.dir.now c.args.seen.now.names.items)
+    (sym c.self.view_is) c.requires.names in
+    let allowed : is_told v.tells v.holds v.faults k ≡ true → refusal_of (held v.tells v.holds v.faults k name.hash) change ≡ None =
+    subst (λ (x : Kept _). is_told v.tells v.holds v.faults x ≡ true → refusal_of (held v.tells v.holds v.faults x name.hash) change ≡ None)
+    (sym c.self.view_is) c.requires.allowed in
+    let entry : c.in-Ok.entry ≡ Wrote name w = c.in-Ok.ensures ∙ ap (λ (x : Write). Wrote name x) c.into_write.ensures in
+    let doubted = c.in-Ok-doubt.ensures.ok in
+    let new-in : is_told v.tells v.holds v.faults k ≡ true → IsNewIn k.secrets k.power (v.holds k.volume) c.args.dir.now c.args.seen.now.names.items name w =
+    is-new-in v.tells v.holds v.faults k c.self.invariant name settled change ours allowed c.args.dir.now c.args.seen.now.names.items path_is names in
+    let tells : is_told v.tells v.holds v.faults k ≡ true → v.tells k.volume ≡ true = tells-now v.tells v.holds v.faults k c.self.invariant in
+    let write_is : c.last_doubted-write.result.now ≡ w = c.last_doubted-write.ensures k.journal.doubts name w
+    (last k.journal c.doubt.new.self c.in-Ok.entry name w doubted entry ∙ ap (λ (x : ObjEntry). k.journal.doubts ++ x ∷ []) entry) in
+    let room : has_room k.journal w ≡ true = subst (λ (x : Kept _). has_room x.journal w ≡ true) (sym c.self.view_is) c.requires.room in
+    let joins : is_told v.tells v.holds v.faults k ≡ true → Joins k.secrets k.power name.hash w (v.holds k.volume) (v.holds c.write_file.new.volume) = λ told.
+    (subst (λ (x : Write). JoinsAll (v.holds k.volume) (v.holds c.write_file.new.volume) c.args.dir.now c.args.seen.now.names.items name x) write_is
+    (subst (λ (fs : List FileName). JoinsAll (v.holds k.volume) (v.holds c.write_file.new.volume) c.args.dir.now fs name c.last_doubted-write.result.now)
+    c.deref.ensures.value (c.in-Ok-write_file.ensures.joins (tells told)))) k.secrets k.power (new-in told) in
+    let confirms : c.confirm.new.self ≡ with_entry k.journal name w = confirmed k.journal c.doubt.new.self c.in-Ok.entry name w doubted entry
+    c.confirm.new.self c.confirm.ensures in
+    let outline : is_told v.tells v.holds v.faults k ≡ true → o ≡ outline_of (held v.tells v.holds v.faults k name.hash) =
+    subst (λ (x : Kept _). is_told v.tells v.holds v.faults x ≡ true → o ≡ outline_of (held v.tells v.holds v.faults x name.hash))
+    (sym c.self.view_is) c.requires.outline in
+    rw (sym c.self.view_is, confirms, c.made_answer-answer.ensures)
+    (step-enters v.tells v.holds v.faults k c.self.invariant name settled change ours allowed c.write_file.new.volume c.write_file.ensures.told
+    c.write_file.ensures.later joins
+    (made_answer o change (c.front.result + 1))
+    (made-answers (is_told v.tells v.holds v.faults k) (stands (history_of v.tells v.holds v.faults k) name.hash) k.journal name o (c.front.result + 1)
+    (outline-stands v.tells v.holds v.faults k c.self.invariant name settled change ours allowed o outline) change
+    (up-from k.journal.entries (Wrote name w) c.front.result c.front.ensures.length) room
+    (allowed-stands v.tells v.holds v.faults k c.self.invariant name settled change ours allowed))
+    (made-not-failed o change (c.front.result + 1)))
+
+pub returns-in-Ok-write_file-clause-written : goal.returns-in-Ok-write_file-clause-written
+returns-in-Ok-write_file-clause-written g c =
+    let v = g.V.Volume in let i = c.self.inside in
+    let k : Kept _ = record { volume = i.volume; began = i.opening.value; secrets = i.secrets; power = i.power; journal = i.journal } in
+    let name = c.args.name.now in let change = c.args.change in let o = c.args.seen.now.outline in let w = write_of change in
+    let names = c.args.seen.now.names.items in let u = c.write_file.new.volume in
+    let path_is : c.args.dir.now ≡ dir_text k.power name.hash = subst (λ (x : Kept _). c.args.dir.now ≡ dir_text x.power name.hash)
+    (sym c.self.view_is) c.requires.dir in
+    let entry : c.in-Ok.entry ≡ Wrote name w = c.in-Ok.ensures ∙ ap (λ (x : Write). Wrote name x) c.into_write.ensures in
+    let doubted = c.in-Ok-doubt.ensures.ok in
+    let write_is : c.last_doubted-write.result.now ≡ w = c.last_doubted-write.ensures k.journal.doubts name w
+    (last k.journal c.doubt.new.self c.in-Ok.entry name w doubted entry ∙ ap (λ (x : ObjEntry). k.journal.doubts ++ x ∷ []) entry) in
+    let confirms : c.confirm.new.self ≡ with_entry k.journal name w = confirmed k.journal c.doubt.new.self c.in-Ok.entry name w doubted entry
+    c.confirm.new.self c.confirm.ensures in
+    let q : Kept _ = record { volume = u; began = i.opening.value; secrets = i.secrets; power = i.power; journal = c.confirm.new.self } in
+    let wrote : WritesFile v.tells v.holds v.faults v.calls v.lists k name w names q = record {
+      writes = λ told. subst (λ (d : List ℕ). Writes (v.holds k.volume) (v.holds u) d names name w (v.faults k.volume) (v.faults u)) path_is
+          (subst (λ (x : Write). Writes (v.holds k.volume) (v.holds u) c.args.dir.now names name x (v.faults k.volume) (v.faults u)) write_is
+          (subst (λ (fs : List FileName). Writes (v.holds k.volume) (v.holds u) c.args.dir.now fs name c.last_doubted-write.result.now
+          (v.faults k.volume) (v.faults u)) c.deref.ensures.value (c.in-Ok-write_file.ensures.ok told)));
+      called = subst (λ (x : Write). v.calls u ≡ raised_by (length (obsolete_of (names ++ name_of x ∷ []))) (raised (v.calls k.volume))) write_is
+          (subst (λ (fs : List FileName). v.calls u ≡ raised_by (length (obsolete_of (fs ++ name_of c.last_doubted-write.result.now ∷ [])))
+          (raised (v.calls k.volume))) c.deref.ensures.value c.in-Ok-write_file.ensures.calls);
+      listed = c.write_file.ensures.lists;
+      entered = confirms;
+    } in
+    rw (sym c.self.view_is, c.made_answer-answer.ensures)
+    (written-made v.tells v.holds v.faults v.calls v.lists k q name w names o change (c.front.result + 1) wrote)
+
+pub returns-in-Err-Failed-clause-made : goal.returns-in-Err-Failed-clause-made
+returns-in-Err-Failed-clause-made g c =
+    let v = g.V.Volume in let i = c.self.inside in
+    let k : Kept _ = record { volume = i.volume; began = i.opening.value; secrets = i.secrets; power = i.power; journal = i.journal } in
+    let name = c.args.name.now in let change = c.args.change in let o = c.args.seen.now.outline in let w = write_of change in
+    let settled : written name.hash k.journal.doubts ≡ [] = subst (λ (x : Kept _). written name.hash x.journal.doubts ≡ [])
+    (sym c.self.view_is) c.requires.settled in
+    let ours : IsOurs k.secrets k.power name = subst (λ (x : Kept _). IsOurs x.secrets x.power name) (sym c.self.view_is) c.requires.ours in
+    let path_is : c.args.dir.now ≡ dir_text k.power name.hash = subst (λ (x : Kept _). c.args.dir.now ≡ dir_text x.power name.hash)
+    (sym c.self.view_is) c.requires.dir in
+    let names : v.tells k.volume ≡ true → AreListedIn (contents (v.holds k.volume)) c.args.dir.now c.args.seen.now.names.items =
+    subst (λ (x : Kept _). v.tells x.volume ≡ true → AreListedIn (contents (v.holds x.volume)) c.args.dir.now c.args.seen.now.names.items)
+    (sym c.self.view_is) c.requires.names in
+    let allowed : is_told v.tells v.holds v.faults k ≡ true → refusal_of (held v.tells v.holds v.faults k name.hash) change ≡ None =
+    subst (λ (x : Kept _). is_told v.tells v.holds v.faults x ≡ true → refusal_of (held v.tells v.holds v.faults x name.hash) change ≡ None)
+    (sym c.self.view_is) c.requires.allowed in
+    let entry : c.in-Ok.entry ≡ Wrote name w = c.in-Ok.ensures ∙ ap (λ (x : Write). Wrote name x) c.into_write.ensures in
+    let doubted = c.in-Ok-doubt.ensures.ok in
+    let new-in : is_told v.tells v.holds v.faults k ≡ true → IsNewIn k.secrets k.power (v.holds k.volume) c.args.dir.now c.args.seen.now.names.items name w =
+    is-new-in v.tells v.holds v.faults k c.self.invariant name settled change ours allowed c.args.dir.now c.args.seen.now.names.items path_is names in
+    let tells : is_told v.tells v.holds v.faults k ≡ true → v.tells k.volume ≡ true = tells-now v.tells v.holds v.faults k c.self.invariant in
+    let write_is : c.last_doubted-write.result.now ≡ w = c.last_doubted-write.ensures k.journal.doubts name w
+    (last k.journal c.doubt.new.self c.in-Ok.entry name w doubted entry ∙ ap (λ (x : ObjEntry). k.journal.doubts ++ x ∷ []) entry) in
+    let room : has_room k.journal w ≡ true = subst (λ (x : Kept _). has_room x.journal w ≡ true) (sym c.self.view_is) c.requires.room in
+    let may : is_told v.tells v.holds v.faults k ≡ true → Keeps k.secrets k.power name.hash (v.holds k.volume) (v.holds c.write_file.new.volume)
+    ⊎ Joins k.secrets k.power name.hash w (v.holds k.volume) (v.holds c.write_file.new.volume) = λ told.
+    (subst (λ (x : Write). MayJoin (v.holds k.volume) (v.holds c.write_file.new.volume) c.args.dir.now c.args.seen.now.names.items name x) write_is
+    (subst (λ (fs : List FileName). MayJoin (v.holds k.volume) (v.holds c.write_file.new.volume) c.args.dir.now fs name c.last_doubted-write.result.now)
+    c.deref.ensures.value ((rw c.in-Err-Failed.field-0-is at c.in-Err-Failed.ensures.may_join) (tells told)))) k.secrets k.power (new-in told) in
+    let in_doubt : c.doubt.new.self ≡ with_doubt k.journal name w = in-doubt k.journal c.doubt.new.self c.in-Ok.entry name w doubted entry in
+    rw (sym c.self.view_is, in_doubt)
+    (step-doubts v.tells v.holds v.faults k c.self.invariant name settled change ours allowed c.write_file.new.volume c.write_file.ensures.told
+    c.write_file.ensures.later may
+    (rw c.in-Err-Failed.field-0-is at c.in-Err-Failed.ensures.risen) room)
+
+pub returns-in-Err-Failed-clause-written : goal.returns-in-Err-Failed-clause-written
+returns-in-Err-Failed-clause-written g c =
+    let v = g.V.Volume in let i = c.self.inside in
+    let k : Kept _ = record { volume = i.volume; began = i.opening.value; secrets = i.secrets; power = i.power; journal = i.journal } in
+    let name = c.args.name.now in let change = c.args.change in let o = c.args.seen.now.outline in let w = write_of change in
+    let settled : written name.hash k.journal.doubts ≡ [] = subst (λ (x : Kept _). written name.hash x.journal.doubts ≡ [])
+    (sym c.self.view_is) c.requires.settled in
+    let ours : IsOurs k.secrets k.power name = subst (λ (x : Kept _). IsOurs x.secrets x.power name) (sym c.self.view_is) c.requires.ours in
+    let path_is : c.args.dir.now ≡ dir_text k.power name.hash = subst (λ (x : Kept _). c.args.dir.now ≡ dir_text x.power name.hash)
+    (sym c.self.view_is) c.requires.dir in
+    let names : v.tells k.volume ≡ true → AreListedIn (contents (v.holds k.volume)) c.args.dir.now c.args.seen.now.names.items =
+    subst (λ (x : Kept _). v.tells x.volume ≡ true → AreListedIn (contents (v.holds x.volume)) c.args.dir.now c.args.seen.now.names.items)
+    (sym c.self.view_is) c.requires.names in
+    let allowed : is_told v.tells v.holds v.faults k ≡ true → refusal_of (held v.tells v.holds v.faults k name.hash) change ≡ None =
+    subst (λ (x : Kept _). is_told v.tells v.holds v.faults x ≡ true → refusal_of (held v.tells v.holds v.faults x name.hash) change ≡ None)
+    (sym c.self.view_is) c.requires.allowed in
+    let entry : c.in-Ok.entry ≡ Wrote name w = c.in-Ok.ensures ∙ ap (λ (x : Write). Wrote name x) c.into_write.ensures in
+    let doubted = c.in-Ok-doubt.ensures.ok in
+    let new-in : is_told v.tells v.holds v.faults k ≡ true → IsNewIn k.secrets k.power (v.holds k.volume) c.args.dir.now c.args.seen.now.names.items name w =
+    is-new-in v.tells v.holds v.faults k c.self.invariant name settled change ours allowed c.args.dir.now c.args.seen.now.names.items path_is names in
+    let tells : is_told v.tells v.holds v.faults k ≡ true → v.tells k.volume ≡ true = tells-now v.tells v.holds v.faults k c.self.invariant in
+    let write_is : c.last_doubted-write.result.now ≡ w = c.last_doubted-write.ensures k.journal.doubts name w
+    (last k.journal c.doubt.new.self c.in-Ok.entry name w doubted entry ∙ ap (λ (x : ObjEntry). k.journal.doubts ++ x ∷ []) entry) in
+    let in_doubt : c.doubt.new.self ≡ with_doubt k.journal name w = in-doubt k.journal c.doubt.new.self c.in-Ok.entry name w doubted entry in
+    rw (sym c.self.view_is) (record {
+      may = λ told. subst (λ (d : List ℕ). MaySet (contents (v.holds k.volume)) (contents (v.holds c.write_file.new.volume)) d (name_text (name_of w))
+          (Some (file_text name.account name.container name.object w))) path_is
+          (subst (λ (x : Write). MaySet (contents (v.holds k.volume)) (contents (v.holds c.write_file.new.volume)) c.args.dir.now (name_text (name_of x))
+          (Some (file_text name.account name.container name.object x))) write_is
+          ((rw c.in-Err-Failed.field-0-is at c.in-Err-Failed.ensures.failed) told));
+      counts = record {
+        called = rw c.in-Err-Failed.field-0-is at c.in-Err-Failed.ensures.failed_first;
+        listed = c.write_file.ensures.lists;
+        failed = rw c.in-Err-Failed.field-0-is at c.in-Err-Failed.ensures.once;
+      };
+      doubted = ap (λ (x : Journal). written name.hash x.doubts) in_doubt ∙ own-doubt k.journal name w settled;
+      in_doubt = in_doubt;
+    })
+
+pub returns-in-Err-NoMemory-clause-made : goal.returns-in-Err-NoMemory-clause-made
+returns-in-Err-NoMemory-clause-made g c =
+    let v = g.V.Volume in let i = c.self.inside in
+    let k : Kept _ = record { volume = i.volume; began = i.opening.value; secrets = i.secrets; power = i.power; journal = i.journal } in
+    let name = c.args.name.now in let change = c.args.change in let o = c.args.seen.now.outline in let w = write_of change in
+    let entry : c.in-Ok.entry ≡ Wrote name w = c.in-Ok.ensures ∙ ap (λ (x : Write). Wrote name x) c.into_write.ensures in
+    let back : c.withdraw.new.self ≡ k.journal = withdrawn k.journal c.doubt.new.self c.in-Ok.entry name w c.in-Ok-doubt.ensures.ok entry c.withdraw.new.self
+    c.withdraw.ensures in
+    rw (sym c.self.view_is, back) (step-unsettled v.tells v.holds v.faults k (record k { volume = c.write_file.new.volume }) c.self.invariant
+    (looks-moved v.tells v.holds v.faults k c.write_file.new.volume c.write_file.ensures.told
+    (rw c.in-Err-NoMemory.field-0-is at c.in-Err-NoMemory.ensures.no_memory) c.write_file.ensures.later)
+    name change answers.NoMemory refl (record { not_made = refl; same = refl }) (λ is. absurd (differ is)))
+
+pub returns-in-Err-NoMemory-clause-written : goal.returns-in-Err-NoMemory-clause-written
+returns-in-Err-NoMemory-clause-written g c =
+    let v = g.V.Volume in let i = c.self.inside in
+    let k : Kept _ = record { volume = i.volume; began = i.opening.value; secrets = i.secrets; power = i.power; journal = i.journal } in
+    let name = c.args.name.now in let w = write_of c.args.change in
+    let entry : c.in-Ok.entry ≡ Wrote name w = c.in-Ok.ensures ∙ ap (λ (x : Write). Wrote name x) c.into_write.ensures in
+    let fine = rw c.in-Err-NoMemory.field-0-is at c.in-Err-NoMemory.ensures.kept in
+    rw (sym c.self.view_is) (record {
+      same = rw c.in-Err-NoMemory.field-0-is at c.in-Err-NoMemory.ensures.no_memory;
+      counts = elim (rw c.in-Err-NoMemory.field-0-is at c.in-Err-NoMemory.ensures.wanted_first) [
+        | inl none ↦ inl (record { called = none; listed = c.write_file.ensures.lists; failed = fine })
+        | inr one ↦ inr (record { called = one; listed = c.write_file.ensures.lists; failed = fine })
+      ];
+      journal = withdrawn k.journal c.doubt.new.self c.in-Ok.entry name w c.in-Ok-doubt.ensures.ok entry c.withdraw.new.self c.withdraw.ensures;
+    })
+
+pub returns-in-Ok-write_file-clause-answered : goal.returns-in-Ok-write_file-clause-answered
+returns-in-Ok-write_file-clause-answered g c =
+    let i = c.self.inside in let name = c.args.name.now in let change = c.args.change in let o = c.args.seen.now.outline in let w = write_of change in
+    let j : Journal = i.journal in
+    let entry : c.in-Ok.entry ≡ Wrote name w = c.in-Ok.ensures ∙ ap (λ (x : Write). Wrote name x) c.into_write.ensures in
+    let confirms : c.confirm.new.self ≡ with_entry j name w = confirmed j c.doubt.new.self c.in-Ok.entry name w c.in-Ok-doubt.ensures.ok entry
+    c.confirm.new.self c.confirm.ensures in
+    λ is. c.made_answer-answer.ensures ∙ ap (made_answer o change)
+    (up-from j.entries (Wrote name w) c.front.result c.front.ensures.length ∙ ap (λ (x : Journal). length x.entries) (sym confirms))

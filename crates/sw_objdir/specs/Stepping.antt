@@ -1,0 +1,43 @@
+-- What a step of an object directory is: one of its lock, by the relations that every door of object nodes uses. (This project's own.)
+use Rattle.std.specs.Prelude.{◌≡◌, ◌≢◌, ℕ, ◌≤◌, Bool, true}
+use Rattle.sw_hashpath.specs.declared.name.Name.{Name}
+use Rattle.sw_objdir.specs.Directories.{Kept, held, history_of}
+use Rattle.sw_peer.specs.Histories.{OnlySettles, StepChanges, StepReads}
+use Rattle.sw_peer.specs.Journals.{Hash}
+use Rattle.sw_peer.specs.declared.answer.Answer.{Answer}
+use Rattle.sw_peer.specs.declared.change.Change.{Change}
+use Rattle.sw_peer.specs.declared.got.Got.{Got}
+use Rattle.sw_volume.specs.Tree.{Folders, contents}
+use Rattle.sw_volume.specs.Volume.{IsSame}
+
+module _ {V : Type 0} (tells : V → Bool) (files : V → Folders) (faults : V → ℕ) where
+  -- at every path stands what stood there
+  abbrev pub SameFiles : Kept V → Kept V → Type 0
+  SameFiles k n = tells k.volume ≡ true → IsSame (contents (files k.volume)) (contents (files n.volume))
+
+  -- what no step changes
+  pub record IsSameDir (k n : Kept V) : Type 0 where
+    pub began : n.began ≡ k.began
+    pub secrets : n.secrets ≡ k.secrets
+    pub power : n.power ≡ k.power
+    pub told : tells n.volume ≡ tells k.volume
+
+  -- files were looked at, and doubts settled
+  pub record OnlyLooks (k n : Kept V) : Type 0 where
+    pub same : IsSameDir k n
+    pub settles : OnlySettles (history_of tells files faults k) (history_of tells files faults n)
+    pub still : SameFiles k n
+    pub later : faults k.volume ≤ faults n.volume
+
+  -- a step that may change what stands under the name; every other hash stands for what it stood for
+  pub record IsStep (k : Kept V) (name : Name) (change : Change) (answer : Answer) (n : Kept V) : Type 0 where
+    pub same : IsSameDir k n
+    pub others : (hash : Hash) → hash ≢ name.hash → held tells files faults n hash ≡ held tells files faults k hash
+    pub made : StepChanges true (history_of tells files faults k) (held tells files faults k name.hash) name change answer
+        (history_of tells files faults n) (held tells files faults n name.hash)
+
+  -- a step that reads the name; every hash stands for what it stood for
+  pub record IsReadStep (k : Kept V) (name : Name) (got : Got) (n : Kept V) : Type 0 where
+    pub same : IsSameDir k n
+    pub all : (hash : Hash) → held tells files faults n hash ≡ held tells files faults k hash
+    pub read : StepReads true (history_of tells files faults k) name.hash got (history_of tells files faults n) (held tells files faults n name.hash)

@@ -1,0 +1,174 @@
+ghost use Rattle.std.specs.Prelude.{◌≡◌, ℕ, ◌≤◌, true, false, [], Some, None, IfOk, OnOk, OnErr};
+ghost use Rattle.sw_cleanup.specs.Cleaning.{AreListedIn};
+ghost use Rattle.sw_diskfile.specs.Picking.{IsPicked};
+ghost use Rattle.sw_hashdir.specs.Places.{dir_text};
+ghost use Rattle.sw_hashdir.specs.Steps.{IsHashed, IsOurs, picked_outline};
+ghost use Rattle.sw_hashdir.specs.Readings.{IfDamaged, IsDamagedAt, IsSecondRead, OnFailedRead, UnlessFailedRead, expiry_file};
+ghost use Rattle.sw_journal.specs.Settling.{SettlesFirst};
+ghost use Rattle.sw_objdir.specs.Calling.{Called, reads_of};
+ghost use Rattle.sw_objdir.specs.Directories.{IsDir, held, history_of, is_told};
+ghost use Rattle.sw_objdir.specs.Stepping.{IsStep, OnlyLooks};
+ghost use Rattle.sw_outside.specs.Counts.{raised};
+ghost use Rattle.sw_peer.specs.Histories.{OnlySettles};
+ghost use Rattle.sw_peer.specs.Journals.{body_size, written};
+ghost use Rattle.sw_peer.specs.Outlines.{outline_of, standing_expiry};
+ghost use Rattle.sw_peer.specs.Steps.{asks_expiry, write_of};
+ghost use Rattle.sw_peer.specs.declared.change.Change.TheVariants as changes;
+ghost use Rattle.sw_volume.specs.Tree.{contents};
+ghost use Rattle.sw_volume.specs.Volume.{HasCause, raised_by};
+
+use crate::obj_dir::ObjDir;
+use std::alloc::Global;
+use sw_hashdir::{ReadFault, Seen, dir_of, look, read_expiry};
+use sw_hashpath::Name;
+use sw_peer::{Answer, Change, Outline, refusal};
+use sw_state::{Content, Heads, Kind, Write};
+use sw_timestamp::Timestamp;
+use sw_volume::{Volume, VolumeError};
+
+impl<V: Volume + Drop> ObjDir<V> {
+    /// Makes a step that may change what stands under the name. Its hash has to be that of its path under the ring's secrets.
+    ///
+    /// It lists the name's directory, and settles the name's doubt by it. A deletion that asks for the second of expiry reads the one file that
+    /// tells it. What then stands refuses the step, or a limit of the journal does, or its write's file is put, and what it makes obsolete is
+    /// unlinked, in byte order of the names. An unlink that fails changes no answer.
+    ///
+    /// [`Answer::Damaged`] comes only where the file that it read is no file of this name. [`Answer::Failed`] comes only where a call of the
+    /// volume other than an unlink failed: after the listing or the read nothing was done, and after the put the write is in doubt.
+    /// [`Answer::NoMemory`] leaves all files as they are.
+    pub fn change(&mut self, alloc: Global, name: &Name, change: Change) -> Answer
+        requires hashed { IsHashed self.old.secrets name.now }
+        ensures made { IsStep V.tells V.holds V.faults self.old name.now change result self.new }
+        ensures called { Called V.tells V.holds V.faults V.calls V.lists self.old name.now change result self.new }
+    {
+        let Ok(dir) = dir_of(alloc, &name.hash, self.power) else {
+            return Answer::NoMemory;
+        };
+        let seen = match self.list(alloc, name, &dir) {
+            Ok(seen) => seen,
+            Err(VolumeError::Failed) => return Answer::Failed,
+            Err(VolumeError::NoMemory) => return Answer::NoMemory,
+        };
+        let expiry = match self.expiry(alloc, name, &dir, &seen, &change) {
+            Ok(expiry) => expiry,
+            Err(ReadFault::Damaged(bad)) => return Answer::Damaged(bad),
+            Err(ReadFault::Failed) => return Answer::Failed,
+            Err(ReadFault::NoMemory) => return Answer::NoMemory,
+        };
+        if let Some(refused) = refusal(&seen.outline, expiry, &change) {
+            return refused;
+        }
+        if !self.journal.has_room(body_size(&change)) {
+            return Answer::JournalFull;
+        }
+        self.write(alloc, name, &dir, &seen, change)
+    }
+
+    /// Lists the name's directory, and settles the name's doubt by it.
+    pub(crate) fn list(
+        &mut self,
+        alloc: Global,
+        name: &Name,
+        dir: &[u8],
+    ) -> Result<Seen, VolumeError>
+        requires ours { IsOurs self.old.secrets self.old.power name.now }
+        requires dir { dir.now ≡ dir_text self.old.power name.now.hash }
+        ensures dir { IsDir V.tells V.holds V.faults self.new }
+        ensures looks { OnlyLooks V.tells V.holds V.faults self.old self.new }
+        ensures settled { OnOk result (written name.now.hash self.new.journal.doubts ≡ []) }
+        ensures settles { IfOk result (λ seen. SettlesFirst name.now.hash seen.outline self.old.journal self.new.journal) }
+        ensures unsettled { OnErr result (self.new.journal ≡ self.old.journal) }
+        ensures names { IfOk result (λ seen. V.tells self.old.volume ≡ true → AreListedIn (contents (V.holds self.old.volume)) dir.now seen.names.items) }
+        ensures picked { IfOk result (λ seen. IsPicked seen.names.items seen.picked) }
+        ensures shape { IfOk result (λ seen. seen.outline ≡ picked_outline seen.picked) }
+        ensures outline { IfOk result (λ seen. is_told V.tells V.holds V.faults self.old ≡ true → seen.outline
+            ≡ outline_of (held V.tells V.holds V.faults self.old name.now.hash)) }
+        ensures cause { HasCause (V.faults self.old.volume) (V.faults self.new.volume) result }
+        ensures calls { V.calls self.new.volume ≡ raised (V.calls self.old.volume) }
+        ensures lists { V.lists self.new.volume ≡ raised (V.lists self.old.volume) }
+    {
+        let seen = look(alloc, &mut self.volume, dir)?;
+        self.journal.settle(&name.hash, &seen.outline);
+        Ok(seen)
+    }
+
+    /// The second of expiry of what stands, where the step asks for it: the one file that tells it is read. It has been listed.
+    fn expiry(
+        &mut self,
+        alloc: Global,
+        name: &Name,
+        dir: &[u8],
+        seen: &Seen,
+        change: &Change,
+    ) -> Result<Option<u64>, ReadFault>
+        requires ours { IsOurs self.old.secrets self.old.power name.now }
+        requires dir { dir.now ≡ dir_text self.old.power name.now.hash }
+        requires names { V.tells self.old.volume ≡ true → AreListedIn (contents (V.holds self.old.volume)) dir.now seen.now.names.items }
+        requires picked { IsPicked seen.now.names.items seen.now.picked }
+        requires shape { seen.now.outline ≡ picked_outline seen.now.picked }
+        ensures looks { OnlyLooks V.tells V.holds V.faults self.old self.new }
+        ensures journal { self.new.journal ≡ self.old.journal }
+        ensures second { IfOk result (λ expiry. is_told V.tells V.holds V.faults self.old ≡ true → asks_expiry seen.now.outline change.now ≡ true
+            → expiry ≡ standing_expiry (held V.tells V.holds V.faults self.old name.now.hash)) }
+        ensures read { IfOk result (λ expiry. V.tells self.old.volume ≡ true → asks_expiry seen.now.outline change.now ≡ true
+            → IsSecondRead self.old.secrets name.now.hash (V.holds self.old.volume) dir.now seen.now.picked expiry) }
+        ensures damage { IfDamaged result (λ bad. V.tells self.old.volume ≡ true
+            → IsDamagedAt self.old.secrets name.now.hash (V.holds self.old.volume) dir.now (expiry_file seen.now.picked) bad) }
+        ensures damaged { IfDamaged result (λ bad. is_told V.tells V.holds V.faults self.old ≡ false) }
+        ensures asked { OnErr result (reads_of seen.now.picked change.now ≡ 1) }
+        ensures failed { OnFailedRead result (V.faults self.new.volume ≡ raised (V.faults self.old.volume)) }
+        ensures kept { UnlessFailedRead result (V.faults self.new.volume ≡ V.faults self.old.volume) }
+        ensures calls { V.calls self.new.volume ≡ raised_by (reads_of seen.now.picked change.now) (V.calls self.old.volume) }
+        ensures lists { V.lists self.new.volume ≡ V.lists self.old.volume }
+    {
+        if !asks_expiry(&seen.outline, change) {
+            return Ok(None);
+        }
+        read_expiry(
+            alloc,
+            &mut self.volume,
+            &self.secrets,
+            &name.hash,
+            dir,
+            &seen.picked,
+        )
+    }
+}
+
+/// Whether the step needs the second of expiry of what stands.
+fn asks_expiry(outline: &Outline, change: &Change) -> bool
+    ensures { result ≡ asks_expiry outline.now change.now }
+{
+    match change {
+        Change::Delete {
+            time,
+            if_delete_at: Some(_),
+        } => match outline.standing_time() {
+            Some(standing) => standing < *time,
+            None => false,
+        },
+        _ => false,
+    }
+}
+
+/// How many bytes the body has that a step brings.
+fn body_size(change: &Change) -> u64
+    ensures { result ≡ body_size (write_of change.now).kind }
+{
+    match change {
+        Change::Put { content, .. } => content.body.as_slice().len() as u64,
+        Change::Post { .. } => 0,
+        Change::Delete { .. } => 0,
+        Change::Receive { write } => kind_size(&write.kind),
+    }
+}
+
+fn kind_size(kind: &Kind) -> u64
+    ensures { result ≡ body_size kind.now }
+{
+    match kind {
+        Kind::Put(content) => content.body.as_slice().len() as u64,
+        Kind::Del => 0,
+        Kind::Meta(_) => 0,
+    }
+}

@@ -1,0 +1,20 @@
+//! The object directory: what one object lock holds, over any volume.
+//!
+//! An [`ObjDir`] lists a name's hash directory at each step, answers from what it finds there, and writes at most one file. It keeps
+//! no copy of what it finds, only the journal: the writes that it made since it began, and those that failed and may have been made. A
+//! doubt of the name is settled by the listing of the step that comes next.
+//!
+//! Each step is one of the relations that `sw_peer` has for every door, so that a lock over files and the machine of all locks speak of the
+//! same things; `specs/Directories` says what a hash stands for, `specs/Stepping` what a step is, and `specs/Calling` which calls of the volume
+//! it makes, in their order, and what each leaves of the files where it is the one that failed.
+//!
+//! The next layer down is `sw_hashdir`, which has the calls of one directory. No node is made of object directories yet.
+#![tactic(auto)]
+
+mod changing;
+mod getting;
+mod obj_dir;
+mod steps;
+mod writing;
+
+pub use obj_dir::ObjDir;

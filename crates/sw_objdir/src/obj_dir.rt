@@ -1,0 +1,87 @@
+ghost use Rattle.std.specs.Prelude.{◌≡◌, ℕ, ◌<◌, ◌≤◌, ◌^◌, true, List, ◌++◌, length, ◌&&◌};
+ghost use Rattle.sw_hashdir.specs.Places.{holds, in_order};
+ghost use Rattle.sw_objdir.specs.Directories.{Fits, history_of, is_told, started};
+ghost use Rattle.sw_peer.specs.Histories.{stands};
+ghost use Rattle.sw_peer.specs.Journals.{Hash, written};
+ghost use Rattle.sw_peer.specs.declared.entry.ObjEntry.{ObjEntry};
+
+use std::alloc::Global;
+use std::marker::Model;
+use std::snapshot::Snapshot;
+use sw_hashpath::Secrets;
+use sw_journal::Journal;
+use sw_peer::Added;
+use sw_volume::Volume;
+
+/// What one object lock holds: a volume, and the journal of what was done with it since it began.
+#[derive(Drop)]
+pub struct ObjDir<V: Volume + Drop> {
+    pub(crate) volume: V,
+    opening: Snapshot<V>,
+    pub(crate) secrets: Secrets,
+    pub(crate) power: u8,
+    pub(crate) journal: Journal,
+}
+
+impl<V: Volume + Drop> Model for ObjDir<V> {
+    ghost use Rattle.sw_objdir.specs.Directories.{IsDir, Kept};
+
+    ghost Value = { Kept V };
+
+    ghost view = { λ d. record { volume = d.volume; began = d.opening.value; secrets = d.secrets; power = d.power; journal = d.journal } };
+
+    ghost invariant = { λ d. IsDir V.tells V.holds V.faults
+        (record { volume = d.volume; began = d.opening.value; secrets = d.secrets; power = d.power; journal = d.journal }) };
+}
+
+impl<V: Volume + Drop> ObjDir<V> {
+    /// Begins with what the volume's files stand for, and an empty journal that has room for so many entries, whose bodies have together
+    /// at most so many bytes. The part power and the secrets are the ring's. It takes no memory.
+    pub fn start(
+        alloc: Global,
+        volume: V,
+        power: u8,
+        secrets: Secrets,
+        max_entries: u64,
+        max_bytes: u64,
+    ) -> ObjDir<V>
+        requires least { 1 ≤ power }
+        requires greatest { power ≤ 32 }
+        ensures { result ≡ started volume secrets power max_entries max_bytes }
+    {
+        ObjDir {
+            opening: Snapshot::of(&volume),
+            volume,
+            secrets,
+            power,
+            journal: Journal::new(alloc, max_entries, max_bytes),
+        }
+    }
+
+    /// Ends it, and gives the volume back. A directory that begins anew on it has every write that was entered, and of each that is in
+    /// doubt the write or not. It takes no memory.
+    pub fn into_volume(self) -> V
+        ensures same { result ≡ self.volume }
+        ensures told { is_told V.tells V.holds V.faults self ≡ true → (V.tells result && in_order self.secrets self.power (V.holds result)) ≡ true }
+        ensures stands { is_told V.tells V.holds V.faults self ≡ true → (hash : Hash)
+            → Fits (written hash self.journal.doubts) (holds self.secrets self.power (V.holds result) hash)
+            (stands (history_of V.tells V.holds V.faults self) hash) }
+    {
+        self.volume
+    }
+
+    /// The front: how many entries the journal has.
+    pub fn front(&self) -> u64
+        ensures length { result ≡ length self.now.journal.entries }
+        ensures within { result < 2 ^ 63 }
+    {
+        self.journal.front()
+    }
+
+    /// The entries past the first `from`. It takes no memory.
+    pub fn added_since(&self, from: u64) -> Added
+        ensures { (before added : List ObjEntry) → from ≡ length before → self.now.journal.entries ≡ before ++ added → result ≡ added }
+    {
+        self.journal.added_since(from)
+    }
+}
