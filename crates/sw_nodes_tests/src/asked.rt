@@ -1,3 +1,6 @@
+ghost use Rattle.std.specs.Prelude.{IfOk};
+ghost use Rattle.sw_hashdir.specs.Steps.{IsHashed};
+
 use std::alloc::Global;
 use std::test::Fail;
 use sw_hashpath::{Name, Secrets};
@@ -5,6 +8,7 @@ use sw_outside::{Bytes, NoMemory, is_utf8};
 use sw_peer::{Answer, Change, Event, Got};
 use sw_state::{Content, Head, HeadList, Heads, Kind, Write};
 use sw_timestamp::Timestamp;
+use sw_volume::FailingCall;
 
 /// What a step asks for, with its time in units.
 #[derive(Clone, Copy, Debug, PartialEq, Eq)]
@@ -169,13 +173,32 @@ fn receive(units: u64, kind: Kind) -> Result<Change, Fail> {
 
 /// The object of this name in the container `c` of the account `a`, under no prefix and the suffix `endcap`.
 pub fn name_of(alloc: Global, object: &[u8]) -> Result<Name, Fail> {
-    let secrets = secrets(alloc)?;
-    Ok(Name::new(alloc, &secrets, b"a", b"c", object)?)
+    name_under(alloc, &secrets(alloc)?, object)
 }
 
-fn secrets(alloc: Global) -> Result<Secrets, NoMemory> {
+/// The same under these secrets.
+pub fn name_under(alloc: Global, secrets: &Secrets, object: &[u8]) -> Result<Name, Fail>
+    ensures { IfOk result (λ name. IsHashed secrets.now name) }
+{
+    Ok(Name::new(alloc, secrets, b"a", b"c", object)?)
+}
+
+/// No prefix and the suffix `endcap`.
+pub fn secrets(alloc: Global) -> Result<Secrets, NoMemory> {
     Ok(Secrets {
         prefix: Bytes::from(Vec::new(alloc)),
         suffix: Bytes::copy(alloc, b"endcap")?,
     })
+}
+
+/// These calls, each with whether its change is made.
+pub fn failing_calls(alloc: Global, calls: &[(u64, bool)]) -> Result<Vec<FailingCall>, Fail> {
+    let mut failing = Vec::new(alloc);
+    for (call, made) in calls {
+        failing.push(FailingCall {
+            call: *call,
+            made: *made,
+        })?;
+    }
+    Ok(failing)
 }

@@ -1,7 +1,9 @@
 ghost use Rattle.std.specs.Prelude.{◌≡◌, ◌<◌, ◌≤◌, All, IfOk, true};
 ghost use Rattle.sw_core.specs.Stepping.{device_of};
 
-use crate::asked::{Asked, Told, change_of, name_of, told_by_answer, told_by_event, told_by_got};
+use crate::asked::{
+    Asked, Told, change_of, failing_calls, name_of, told_by_answer, told_by_event, told_by_got,
+};
 use Asked::{
     Delete, DeleteExpired, Get, Post, Put, PutIfNone, Restart, SentDelete, SentMeta, SentPut,
 };
@@ -14,7 +16,6 @@ use std::test::Fail;
 use sw_core::{MemShelf, Node, Step, World, run_steps};
 use sw_hashpath::Name;
 use sw_peer::{Got, Line, Link, Lost, ObjectDoor};
-use sw_volume::FailingCall;
 
 /// A step at a device, of an object, and what it is answered.
 type Row = (u8, &'static [u8], Asked, Told);
@@ -228,17 +229,6 @@ const NODES: [Case; 9] = [
         &[(Put(20), Failed), (Put(30), Done(1))],
     ),
 ];
-
-fn failing_calls(alloc: Global, calls: &[(u64, bool)]) -> Result<Vec<FailingCall>, Fail> {
-    let mut failing = Vec::new(alloc);
-    for (call, made) in calls {
-        failing.push(FailingCall {
-            call: *call,
-            made: *made,
-        })?;
-    }
-    Ok(failing)
-}
 
 /// What the node answers.
 fn told_by_node(
