@@ -2,8 +2,8 @@ use crate::making::row;
 use std::alloc::Global;
 use std::test::Fail;
 use sw_hashpath::Place;
-use sw_keeper::{Batch, Change, FailingCall, Keeper, KeeperError, MemKeeper};
-use sw_outside::{Bytes, NoMemory};
+use sw_keeper::{Batch, Change, Keeper, KeeperError, MemKeeper};
+use sw_outside::{Bytes, FailingCall, NoMemory};
 use sw_timestamp::Timestamp;
 
 fn place(alloc: Global, container: &[u8]) -> Result<Place, NoMemory> {

@@ -1,18 +1,13 @@
 -- What a keeper in memory is, as contracts see it. (This project's own.)
-use Rattle.std.specs.Prelude.{◌≡◌, ℕ, List, Bool, true, false, Option, Some, None, nat_eq, find}
+use Rattle.std.specs.Prelude.{◌≡◌, ℕ, List, Bool, true, false, Option, Some, None}
 use Rattle.std.specs.BTreeMap.{insert_entry}
-use Rattle.std.specs.Option.{option_map}
 use Rattle.sw_hashpath.specs.declared.place.Place.{Place}
 use Rattle.sw_keeper.specs.Changes.{all_changed}
 use Rattle.sw_keeper.specs.Places.{at, place_cmp}
 use Rattle.sw_keeper.specs.declared.batch.Change.{Change}
-use Rattle.sw_keeper.specs.declared.mem_keeper.FailingCall.{FailingCall}
+use Rattle.sw_outside.specs.declared.failing_call.FailingCall.{FailingCall}
 use Rattle.sw_outside.specs.Counts.{raised}
 use Rattle.sw_rows.specs.declared.tables.Tables.{Tables}
-
--- whether a call's failure leaves its changes made, where the call of this number is to fail
-abbrev pub failure_at : List FailingCall → ℕ → Option Bool
-failure_at failing call = option_map (λ f. f.made) (find (λ f. nat_eq f.call call) failing)
 
 -- a keeper in memory
 pub record MemState : Type 0 where

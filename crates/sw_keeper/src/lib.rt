@@ -21,4 +21,4 @@ mod shelves;
 pub use batch::{Batch, Change};
 pub use keeper::Keeper;
 pub use keeper_error::KeeperError;
-pub use mem_keeper::{FailingCall, MemKeeper};
+pub use mem_keeper::MemKeeper;

@@ -1,9 +1,10 @@
 ghost use Rattle.std.specs.Prelude.{◌≡◌, ◌≤◌, ◌↔◌, [], true, Err, IsSome, IsErr, IfOk, OnOk};
 ghost use Rattle.sw_outside.specs.Counts.{raised};
+ghost use Rattle.sw_outside.specs.Failing.{failure_at};
 ghost use Rattle.sw_outside.specs.Faults as outside;
 ghost use Rattle.sw_keeper.specs.Changes.{IsBatch};
 ghost use Rattle.sw_keeper.specs.Keeping.{HasCause, IsSame, ListsPlaces, MayChange, Changes, OnFailed, OnNoMemory};
-ghost use Rattle.sw_keeper.specs.MemState.{after_call, after_fault, failure_at, GoesAs, with_batch};
+ghost use Rattle.sw_keeper.specs.MemState.{after_call, after_fault, GoesAs, with_batch};
 ghost use Rattle.sw_keeper.specs.Places.{at};
 
 use crate::batch::Batch;
@@ -14,15 +15,8 @@ use crate::shelves::{change, load, places};
 use std::alloc::Global;
 use std::marker::Model;
 use sw_hashpath::Place;
-use sw_outside::Failed;
+use sw_outside::{Failed, FailingCall, failure_of};
 use sw_rows::Tables;
-
-/// A call that is to fail: its number, counted from 0 over all calls, and whether a commit makes its changes all the same.
-#[derive(Clone, Copy, Debug, PartialEq, Eq)]
-pub struct FailingCall {
-    pub call: u64,
-    pub made: bool,
-}
 
 /// A keeper in memory, which tells what it holds. Tests choose which calls fail. The time of a call grows with the number of
 /// places, with the rows of its place and with what it takes and answers.
@@ -79,16 +73,6 @@ impl MemKeeper {
         self.faults = self.faults.saturating_add(1);
         Failed
     }
-}
-
-/// Whether the failure of a call leaves its changes made, where the call of this number is to fail.
-fn failure_of(failing: &[FailingCall], call: u64) -> Option<bool>
-    ensures { result ≡ failure_at failing.now call }
-{
-    failing
-        .iter()
-        .find(|failing| failing.call == call)
-        .map(|failing| failing.made)
 }
 
 impl Keeper for MemKeeper {

@@ -1,4 +1,5 @@
 pub mod Counts
+pub mod Failing
 pub mod Faults
 pub mod Readings
 pub mod Store

@@ -8,14 +8,15 @@
 //! comes from: its meaning is the list of its readings to come, and it can't fail.
 //!
 //! The same crate has the byte string [`Bytes`] and the list [`BytesList`] of such, the errors [`NoMemory`] and
-//! [`Failed`], the ends in memory that tests use, and the adapters over std's reader, writer and clock. The next layer up is
-//! `sw_http`, which reads requests from a source.
+//! [`Failed`], the ends in memory that tests use, the plan of calls that fail ([`FailingCall`]), and the adapters over std's
+//! reader, writer and clock. The next layer up is `sw_http`, which reads requests from a source.
 #![tactic(auto)]
 
 mod bytes;
 mod bytes_list;
 mod clock;
 mod errors;
+mod failing_call;
 mod host_clock;
 mod mem_clock;
 mod mem_sink;
@@ -33,6 +34,7 @@ pub use bytes::Bytes;
 pub use bytes_list::BytesList;
 pub use clock::Clock;
 pub use errors::{Failed, NoMemory};
+pub use failing_call::{FailingCall, failure_of};
 pub use host_clock::HostClock;
 pub use mem_clock::MemClock;
 pub use mem_sink::{FailingPut, MemSink};

@@ -1,7 +1,8 @@
 ghost use Rattle.std.specs.Prelude.{◌≡◌, ◌≤◌, ◌↔◌, true, false, Some, None, Err, IsSome, IsErr, IfOk, OnOk, OnErr};
 ghost use Rattle.sw_outside.specs.Faults as outside;
 ghost use Rattle.sw_outside.specs.Counts.{raised};
-ghost use Rattle.sw_volume.specs.MemState.{failure_at, GoesAs};
+ghost use Rattle.sw_outside.specs.Failing.{failure_at};
+ghost use Rattle.sw_volume.specs.MemState.{GoesAs};
 ghost use Rattle.sw_volume.specs.Tree.{contents};
 ghost use Rattle.sw_volume.specs.Volume.{IsSame, Sets, MaySet, ListsAll, IsFileIn, IsFolderIn, HasCause, OnFailed, OnNoMemory};
 
@@ -10,15 +11,7 @@ use crate::tree::Tree;
 use crate::volume::{Listing, Volume};
 use std::alloc::Global;
 use std::marker::Model;
-use sw_outside::{Bytes, Failed};
-
-/// A call that is to fail: its number, counted from 0 over all calls, and whether a put or an unlink makes its change
-/// all the same.
-#[derive(Clone, Copy, Debug, PartialEq, Eq)]
-pub struct FailingCall {
-    pub call: u64,
-    pub made: bool,
-}
+use sw_outside::{Bytes, Failed, FailingCall, failure_of};
 
 /// A volume in memory, which tells what it holds. Tests choose which calls fail: each of these fails, and no other does. One
 /// whose change is to be made all the same may find no memory for it, and then makes nothing and isn't counted as failed. The
@@ -75,16 +68,6 @@ impl MemVolume {
         self.faults = self.faults.saturating_add(1);
         Failed
     }
-}
-
-/// Whether the failure of a call leaves its change made, where the call of this number is to fail.
-fn failure_of(failing: &[FailingCall], call: u64) -> Option<bool>
-    ensures { result ≡ failure_at failing.now call }
-{
-    failing
-        .iter()
-        .find(|failing| failing.call == call)
-        .map(|failing| failing.made)
 }
 
 impl Volume for MemVolume {
