@@ -5,7 +5,7 @@
 //! the state that its directory stands for, so an unlink that fails, or that is never reached, changes no answer.
 //!
 //! What a directory stands for is said for every way in which the bytes of a file are read as a write; `sw_metafile` gives
-//! the real one. No request is served from files yet.
+//! the real one.
 #![tactic(auto)]
 
 mod cleaning;

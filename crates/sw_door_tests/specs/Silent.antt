@@ -29,7 +29,7 @@ untold nothing = record {
 }
 
 abbrev pub silent_nodes : Nodes
-silent_nodes = record { devices = 256; fits = λ name. true; lock = λ device hash. 0 }
+silent_nodes = record { devices = 256; lock_bits = 0; power = 0; secrets = record { prefix = []; suffix = [] }; fits = λ name. true; lock = λ device hash. 0 }
 
 abbrev pub silent : Sight
 silent = record {

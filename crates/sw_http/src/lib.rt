@@ -9,7 +9,7 @@
 //! Each byte is gone over a bounded number of times, and beside the body no more is held than a head or a trailer and one piece: runs of
 //! blanks, chunk extensions and the bytes of a body that is too large are dropped as they come.
 //!
-//! The next layer up is `sw_cluster`, which answers the requests one after the other.
+//! The next layer up is `sw_session`, which has the requests answered one after the other.
 #![tactic(auto)]
 
 mod body;

@@ -1,7 +1,9 @@
+pub mod Briefs
 pub mod Halves
 pub mod Histories
 pub mod Journals
 pub mod Laws
+pub mod Lines
 pub mod Outlines
 pub mod Sights
 pub mod Steps

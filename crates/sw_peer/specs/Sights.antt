@@ -6,6 +6,7 @@ use Rattle.std.specs.Prelude.{◌≡◌, ◌≢◌, ⊤, ℕ, ◌≤◌, Bool, t
 use Rattle.std.specs.Option.{option_map}
 use Rattle.sw_hashpath.specs.declared.name.Name.{Name}
 use Rattle.sw_hashpath.specs.declared.place.Place.{Place}
+use Rattle.sw_hashpath.specs.declared.secrets.Secrets.{Secrets}
 use Rattle.sw_outside.specs.Faults.{HasRisen}
 use Rattle.sw_state.specs.declared.state.State.{State}
 use Rattle.sw_peer.specs.Halves.{Half, HalfMoves}
@@ -17,7 +18,7 @@ use Rattle.sw_peer.specs.declared.change.Change.{Change}
 use Rattle.sw_peer.specs.declared.entry.ObjEntry.{ObjEntry}
 use Rattle.sw_peer.specs.declared.got.Got.{Got}
 use Rattle.sw_peer.specs.declared.got.Got.TheVariants as gots
-use Rattle.sw_peer.specs.declared.line.Event.TheVariants.{Changed, Read}
+use Rattle.sw_peer.specs.declared.line.Event.TheVariants.{Changed, Listed, Read, Restarted}
 use Rattle.sw_peer.specs.declared.line.Line.{Line}
 use Rattle.sw_peer.specs.declared.link.Link.{Link}
 use Rattle.sw_peer.specs.declared.link.Link.TheVariants.{Local, Sent}
@@ -26,6 +27,9 @@ use Rattle.sw_peer.specs.declared.link.Lost.{Lost}
 -- what never changes
 pub record Nodes : Type 0 where
   pub devices : ℕ  -- how many nodes there are
+  pub lock_bits : ℕ  -- each has 2 to the lock_bits object locks
+  pub power : ℕ  -- there are 2 to this power partitions
+  pub secrets : Secrets
   pub fits : Name → Bool  -- whether the name's hash is that of its path under the nodes' secrets
   pub lock : ℕ → Hash → ℕ  -- which lock of a device the hash is under: a number for objects, and one for containers
 
@@ -113,9 +117,22 @@ abbrev pub Calls : {A : Type 0} → (Sight → A → Sight → Type 0) → Sight
 Calls {A} step old link (Ok answer) new = (earlier : List A) × (link ≡ Local → earlier ≡ []) × Comes step old (earlier ++ answer ∷ []) new
 Calls {A} step old link (Err lost) new = (link ≡ Sent) × HasRisen old.faults new.faults × ((unheard : List A) × Comes step old unheard new)
 
--- ---- a restart of a device, which is no call of a door
+-- ---- what the keeper of all nodes does with a device, which is no call of a door
 
--- Each lock of the device begins anew with what stands there, doubts that were made included. Where a lock told its contents, it tells
+-- all its files were listed: nothing changed but counts of faults, one of which has risen where that failed
+pub record IsListed (device : ℕ) (failed : Bool) (old new : Sight) : Type 0 where
+  pub nodes : new.nodes ≡ old.nodes
+  pub same : (l : ℕ) → new.objects.seen l ≡ record (old.objects.seen l) { faults = (new.objects.seen l).faults }
+  pub later : (l : ℕ) → (old.objects.seen l).faults ≤ (new.objects.seen l).faults
+  pub others : (d : ℕ) (hash : Hash) → d ≢ device → new.objects.seen (old.nodes.lock d hash) ≡ old.objects.seen (old.nodes.lock d hash)
+  pub risen : failed ≡ true → (l : ℕ) × HasRisen (old.objects.seen l).faults (new.objects.seen l).faults
+  pub holds : (d : ℕ) (hash : Hash) → new.objects.holds d hash ≡ old.objects.holds d hash
+  pub alone : new.alone ≡ old.alone
+  pub containers : new.containers ≡ old.containers
+  pub counts : (new.faults ≡ old.faults) × (new.asks ≡ old.asks)
+  pub trail : new.trail ≡ option_map (λ lines. lines ++ record { device = device; link = Local; event = Listed failed; added = [] } ∷ []) old.trail
+
+-- It was restarted. Each lock of the device begins anew with what stands there, doubts that were made included. Where a lock told its contents, it tells
 -- them still, and what stands is what stood; a lock that told none may tell them from now on.
 pub record Restarts (device : ℕ) (old new : Sight) : Type 0 where
   pub nodes : new.nodes ≡ old.nodes
@@ -133,4 +150,4 @@ pub record Restarts (device : ℕ) (old new : Sight) : Type 0 where
   pub alone : new.alone ≡ old.alone
   pub containers : new.containers ≡ old.containers
   pub counts : (new.faults ≡ old.faults) × (new.asks ≡ old.asks)
-  pub trail : new.trail ≡ old.trail
+  pub trail : new.trail ≡ option_map (λ lines. lines ++ record { device = device; link = Local; event = Restarted; added = [] } ∷ []) old.trail

@@ -18,6 +18,8 @@ use Rattle.sw_peer.specs.declared.answer.Answer.{Answer}
 use Rattle.sw_peer.specs.declared.answer.Answer.TheVariants as answers
 use Rattle.sw_peer.specs.declared.change.Change.{Change}
 use Rattle.sw_peer.specs.declared.change.Change.TheVariants.{Put, Post, Delete, Receive}
+use Rattle.sw_peer.specs.declared.change.StepKind.{StepKind}
+use Rattle.sw_peer.specs.declared.change.StepKind.TheVariants as step_kinds
 use Rattle.sw_peer.specs.declared.got.Got.{Got}
 use Rattle.sw_peer.specs.declared.got.Got.TheVariants as gots
 use Rattle.sw_peer.specs.declared.outline.Outline.{Outline}
@@ -34,6 +36,12 @@ time_in change = (write_of change).time
 
 abbrev pub tag_in : Change → Tag
 tag_in change = tag_of (write_of change).kind
+
+abbrev pub step_kind : Change → StepKind
+step_kind (Put time content none_match) = step_kinds.Put
+step_kind (Post time heads) = step_kinds.Post
+step_kind (Delete time if_delete_at) = step_kinds.Delete
+step_kind (Receive write) = step_kinds.Receive
 
 -- ---- refusals
 

@@ -1,17 +1,21 @@
 use crate::answer::Answer;
-use crate::change::Change;
 use crate::entry::Added;
 use crate::got::Got;
 use crate::link::Link;
+use crate::seen::{ChangeSeen, Seen};
 use sw_hashpath::Name;
 
-/// What a step asked for, and what it was answered.
-#[derive(Debug, Drop)]
+/// What a step asked for, and what it was answered. Bodies are seen by contracts alone, so that a line has no bytes of them.
+#[derive(Drop)]
 pub enum Event {
     /// A step that may change the object of this name.
-    Changed(Name, Change, Answer),
+    Changed(Name, ChangeSeen, Answer),
     /// A read of this name.
-    Read(Name, Got),
+    Read(Seen<Name>, Seen<Got>),
+    /// A listing of the files of all locks of the device, and whether a call of a volume failed in it.
+    Listed(bool),
+    /// A restart of the device: the journal of each of its locks began anew.
+    Restarted,
 }
 
 /// A step as it came to a device: a message that is lost leaves no line, and one that comes twice leaves two.

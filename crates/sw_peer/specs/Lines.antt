@@ -1,0 +1,23 @@
+-- What the line of a step tells of the entries that it added. (This project's own.)
+use Rattle.std.specs.Prelude.{ℕ, ◌-◌, List, length, take, if◌then◌else◌}
+use Rattle.sw_peer.specs.Steps.{is_entered}
+use Rattle.sw_peer.specs.declared.answer.Answer.{Answer}
+use Rattle.sw_peer.specs.declared.entry.ObjEntry.{ObjEntry}
+use Rattle.sw_peer.specs.declared.line.Event.{Event}
+use Rattle.sw_peer.specs.declared.line.Event.TheVariants as events
+use Rattle.sw_peer.specs.declared.line.Line.{Line}
+
+-- how many entries a step adds for its own write, by its answer
+abbrev pub own_by : Answer → ℕ
+own_by answer = if is_entered answer then 1 else 0
+
+-- and by its event: they come last
+abbrev pub own_count : Event → ℕ
+own_count (events.Changed name change answer) = own_by answer
+own_count (events.Read name got) = 0
+own_count (events.Listed failed) = 0
+own_count events.Restarted = 0
+
+-- the entries of doubts that the step settled
+abbrev pub settled_in : Line → List ObjEntry
+settled_in line = take (length line.added - own_count line.event) line.added
