@@ -1,5 +1,5 @@
 //! One hash directory over any volume: where it is, what it stands for, and the calls that a step makes there. Beside it, a listing of
-//! the files of all of them: [`paths_below`].
+//! the files of all of them: [`paths_below`], or [`add_paths_below`] where those of several volumes are one list of [`Paths`].
 //!
 //! The files of an object's writes stand in the directory of its hash. [`dir_of`] gives its path, [`look`] lists it, [`read_write`] reads the
 //! write of a file, and [`write_file`] puts the file of a new write and unlinks what it makes obsolete. What no name of a file tells is read
@@ -24,8 +24,9 @@ mod writing;
 
 pub use expiry::read_expiry;
 pub use listing::{Seen, look};
+pub use paths::Paths;
 pub use place::dir_of;
 pub use reading::{ReadFault, read_write};
 pub use showing::show;
-pub use walk::paths_below;
+pub use walk::{add_paths_below, paths_below};
 pub use writing::write_file;

@@ -11,7 +11,7 @@ use sw_outside::{Bytes, BytesList, NoMemory};
 
 /// Paths in byte order, each once.
 #[derive(Debug, Drop)]
-pub(crate) struct Paths {
+pub struct Paths {
     set: BTreeSet<Vec<u8>>,
 }
 
@@ -24,7 +24,7 @@ impl Model for Paths {
 }
 
 impl Paths {
-    pub(crate) fn new(alloc: Global) -> Paths
+    pub fn new(alloc: Global) -> Paths
         ensures { result ≡ [] }
     {
         Paths {
@@ -33,7 +33,7 @@ impl Paths {
     }
 
     /// Adds a path, where it isn't there yet.
-    pub(crate) fn add(&mut self, path: Vec<u8>) -> Result<(), NoMemory>
+    pub fn add(&mut self, path: Vec<u8>) -> Result<(), NoMemory>
         ensures { OnOk result (Adds self.old self.new (λ p. p ≡ path.items)) }
     {
         self.set.insert(path)?;
@@ -41,7 +41,7 @@ impl Paths {
     }
 
     /// All paths, in byte order.
-    pub(crate) fn into_list(self, alloc: Global) -> Result<BytesList, NoMemory>
+    pub fn into_list(self, alloc: Global) -> Result<BytesList, NoMemory>
         ensures all { IfOk result (λ list. list ≡ self) }
         ensures ordered { IfOk result (λ list. IsStrictlySortedBy (slice_cmp nat_cmp) list) }
     {

@@ -21,8 +21,23 @@ pub fn paths_below<V: Volume>(alloc: Global, volume: &mut V) -> Result<BytesList
     ensures only_lists { (n : ℕ) × (V.calls volume.new ≡ raised_by n (V.calls volume.old)) × (V.lists volume.new ≡ raised_by n (V.lists volume.old)) }
 {
     let mut found = Paths::new(alloc);
-    walk(alloc, volume, b"objects", LEVELS, &mut found)?;
+    add_paths_below(alloc, volume, &mut found)?;
     Ok(found.into_list(alloc)?)
+}
+
+/// Adds these paths to those that were found before, as in other volumes.
+pub fn add_paths_below<V: Volume>(
+    alloc: Global,
+    volume: &mut V,
+    found: &mut Paths,
+) -> Result<(), VolumeError>
+    ensures adds { OnOk result (V.tells volume.old ≡ true → Adds found.old found.new (IsPathBelow (contents (V.holds volume.old)))) }
+    ensures same { V.tells volume.old ≡ true → IsSame (contents (V.holds volume.old)) (contents (V.holds volume.new)) }
+    ensures told { V.tells volume.new ≡ V.tells volume.old }
+    ensures cause { HasCause (V.faults volume.old) (V.faults volume.new) result }
+    ensures only_lists { (n : ℕ) × (V.calls volume.new ≡ raised_by n (V.calls volume.old)) × (V.lists volume.new ≡ raised_by n (V.lists volume.old)) }
+{
+    walk(alloc, volume, b"objects", LEVELS, found)
 }
 
 /// Adds the path of every file in a directory or at most so many folders below it.

@@ -1,5 +1,6 @@
 -- The entries and doubts of a journal, and what each call makes of them. (This project's own.)
-use Rattle.std.specs.Prelude.{◌≡◌, ℕ, ◌+◌, ◌<◌, ◌≤◌, Bool, List, [], ◌∷◌, ◌++◌, length, slice_index_or, take}
+use Rattle.std.specs.Prelude.{◌≡◌, ℕ, ◌+◌, ◌<◌, ◌≤◌, Bool, List, [], ◌∷◌, ◌++◌, length, slice_index_or, take, Option, find}
+use Rattle.std.specs.Str.{bytes_eq}
 use Rattle.std.specs.declared.alloc.Global.{Global}
 use Rattle.std.specs.declared.vec.Vec.{Vec}
 use Rattle.sw_peer.specs.Journals.{Hash, Journal, bodies, body_size, written}
@@ -20,6 +21,10 @@ entry_size (Wrote name w) = body_size w.kind
 -- whether its write would change what has this outline
 abbrev pub is_new_entry : Outline → ObjEntry → Bool
 is_new_entry o (Wrote name w) = is_new_to o w.time (tag_of w.kind)
+
+-- the first entry of a hash
+abbrev pub first_in : Hash → List ObjEntry → Option ObjEntry
+first_in hash entries = find (λ entry. bytes_eq (entry_hash entry) hash) entries
 
 -- the first entry of a hash stands there
 pub record IsFirstOf (entries : List ObjEntry) (hash : Hash) (at : ℕ) : Type 0 where

@@ -20,7 +20,7 @@ pub(crate) fn first_of(entries: &[ObjEntry], hash: &[u8; 16]) -> Option<usize>
 }
 
 /// Whether an entry is of this hash.
-fn is_of(entry: &ObjEntry, hash: &[u8; 16]) -> bool
+pub(crate) fn is_of(entry: &ObjEntry, hash: &[u8; 16]) -> bool
     ensures { result ≡ bytes_eq (entry_hash entry.now) hash.now }
 {
     let ObjEntry::Wrote(name, _) = entry;

@@ -1,5 +1,6 @@
 ghost use Rattle.std.specs.Prelude.{◌≡◌, ◌<◌, ◌≤◌, ◌+◌, ◌^◌, ℕ, List, [], ◌∷◌, ◌++◌, length, true, nat_le, ◌&&◌, OnOk, OnErr};
-ghost use Rattle.sw_journal.specs.Entries.{begun, entry_size, with_last_entered, with_new_doubt, without_last_doubt};
+ghost use Rattle.std.specs.Option.{option_copied};
+ghost use Rattle.sw_journal.specs.Entries.{begun, entry_size, first_in, with_last_entered, with_new_doubt, without_last_doubt};
 ghost use Rattle.sw_journal.specs.Settling.{SettlesFirst};
 ghost use Rattle.sw_peer.specs.Journals.{bodies};
 ghost use Rattle.sw_hashpath.specs.declared.name.Name.{Name};
@@ -7,7 +8,7 @@ ghost use Rattle.sw_peer.specs.declared.entry.ObjEntry.{ObjEntry};
 ghost use Rattle.sw_peer.specs.declared.entry.ObjEntry.TheVariants.{Wrote};
 ghost use Rattle.sw_state.specs.declared.write.Write.{Write};
 
-use crate::entries::{first_of, is_new, size_in, size_of};
+use crate::entries::{first_of, is_new, is_of, size_in, size_of};
 use std::alloc::Global;
 use std::marker::Model;
 use sw_outside::NoMemory;
@@ -96,6 +97,13 @@ impl Journal {
     {
         let ObjEntry::Wrote(_, write) = &self.doubts[self.doubts.len() - 1];
         write
+    }
+
+    /// The first doubt of a hash, which is the one that [`Journal::settle`] settles.
+    pub fn doubted(&self, hash: &[u8; 16]) -> Option<&ObjEntry>
+        ensures { option_copied result ≡ first_in hash.now self.now.doubts }
+    {
+        self.doubts.iter().find(|entry| is_of(entry, hash))
     }
 
     /// The last doubt's write was made: it becomes the last entry. It takes no memory.

@@ -1,14 +1,16 @@
 ghost use Rattle.std.specs.Prelude.{◌≡◌, ℕ, true, IfOk, OnOk};
 ghost use Rattle.sw_hashdir.specs.Steps.{IsHashed};
-ghost use Rattle.sw_hashdir.specs.Walks.{IsPathBelow};
+ghost use Rattle.sw_hashdir.specs.Walks.{Adds, IsPathBelow};
 ghost use Rattle.sw_objdir.specs.Calling.{ReadCalled};
+ghost use Rattle.sw_objdir.specs.Directories.{held};
 ghost use Rattle.sw_objdir.specs.Stepping.{IsReadStep, OnlyLooks};
+ghost use Rattle.sw_peer.specs.Journals.{Hash};
 ghost use Rattle.sw_volume.specs.Tree.{contents};
 ghost use Rattle.sw_volume.specs.Volume.{HasCause, ListsAll, raised_by};
 
 use crate::obj_dir::ObjDir;
 use std::alloc::Global;
-use sw_hashdir::{dir_of, paths_below, show};
+use sw_hashdir::{Paths, add_paths_below, dir_of, paths_below, show};
 use sw_hashpath::Name;
 use sw_outside::BytesList;
 use sw_peer::Got;
@@ -52,5 +54,18 @@ impl<V: Volume + Drop> ObjDir<V> {
             × (V.lists self.new.volume ≡ raised_by n (V.lists self.old.volume)) }
     {
         paths_below(alloc, &mut self.volume)
+    }
+
+    /// The same, added to the paths that other directories gave.
+    pub fn add_files(&mut self, alloc: Global, found: &mut Paths) -> Result<(), VolumeError>
+        ensures looks { OnlyLooks V.tells V.holds V.faults self.old self.new }
+        ensures journal { self.new.journal ≡ self.old.journal }
+        ensures held { (hash : Hash) → held V.tells V.holds V.faults self.new hash ≡ held V.tells V.holds V.faults self.old hash }
+        ensures paths { OnOk result (V.tells self.old.volume ≡ true → Adds found.old found.new (IsPathBelow (contents (V.holds self.old.volume)))) }
+        ensures cause { HasCause (V.faults self.old.volume) (V.faults self.new.volume) result }
+        ensures only_lists { (n : ℕ) × (V.calls self.new.volume ≡ raised_by n (V.calls self.old.volume))
+            × (V.lists self.new.volume ≡ raised_by n (V.lists self.old.volume)) }
+    {
+        add_paths_below(alloc, &mut self.volume, found)
     }
 }

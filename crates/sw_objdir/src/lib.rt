@@ -8,7 +8,8 @@
 //! same things; `specs/Directories` says what a hash stands for, `specs/Stepping` what a step is, and `specs/Calling` which calls of the volume
 //! it makes, in their order, and what each leaves of the files where it is the one that failed.
 //!
-//! The next layer down is `sw_hashdir`, which has the calls of one directory. No node is made of object directories yet.
+//! The next layer down is `sw_hashdir`, which has the calls of one directory; the next one up is `sw_core`, whose world is made
+//! of object directories.
 #![tactic(auto)]
 
 mod changing;

@@ -1,5 +1,7 @@
 ghost use Rattle.std.specs.Prelude.{◌≡◌, ℕ, ◌<◌, ◌≤◌, ◌^◌, true, List, ◌++◌, length, ◌&&◌};
 ghost use Rattle.sw_hashdir.specs.Places.{holds, in_order};
+ghost use Rattle.std.specs.Option.{option_copied};
+ghost use Rattle.sw_journal.specs.Entries.{first_in};
 ghost use Rattle.sw_objdir.specs.Directories.{Fits, history_of, is_told, started};
 ghost use Rattle.sw_peer.specs.Histories.{stands};
 ghost use Rattle.sw_peer.specs.Journals.{Hash, written};
@@ -10,7 +12,7 @@ use std::marker::Model;
 use std::snapshot::Snapshot;
 use sw_hashpath::Secrets;
 use sw_journal::Journal;
-use sw_peer::Added;
+use sw_peer::{Added, ObjEntry};
 use sw_volume::Volume;
 
 /// What one object lock holds: a volume, and the journal of what was done with it since it began.
@@ -70,12 +72,28 @@ impl<V: Volume + Drop> ObjDir<V> {
         self.volume
     }
 
+    /// The same, with the secrets, so that who begins it anew takes no memory for them.
+    pub fn into_parts(self) -> (V, Secrets)
+        ensures volume { result.0 ≡ self.volume }
+        ensures secrets { result.1 ≡ self.secrets }
+        ensures told { is_told V.tells V.holds V.faults self ≡ true → (V.tells self.volume && in_order self.secrets self.power (V.holds self.volume)) ≡ true }
+    {
+        (self.volume, self.secrets)
+    }
+
     /// The front: how many entries the journal has.
     pub fn front(&self) -> u64
         ensures length { result ≡ length self.now.journal.entries }
         ensures within { result < 2 ^ 63 }
     {
         self.journal.front()
+    }
+
+    /// The doubt of a hash, where there is one: the write that the next listing of its directory settles.
+    pub fn doubted(&self, hash: &[u8; 16]) -> Option<&ObjEntry>
+        ensures { option_copied result ≡ first_in hash.now self.now.journal.doubts }
+    {
+        self.journal.doubted(hash)
     }
 
     /// The entries past the first `from`. It takes no memory.
