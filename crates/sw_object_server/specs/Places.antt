@@ -24,9 +24,10 @@ name_in ring p = record {
   hash = hash_of ring.secrets p.account (Some p.container) (Some p.object);
 }
 
--- the name's hash is that of its path under the ring's secrets
+-- the name is a good one, and its hash is that of its path under the ring's secrets
 abbrev pub IsHashed : Ring → Name → Type 0
-IsHashed ring name = name.hash ≡ hash_of ring.secrets name.account (Some name.container) (Some name.object)
+IsHashed ring name = (name.hash ≡ hash_of ring.secrets name.account (Some name.container) (Some name.object))
+    × (bad_name name.account (Some name.container) (Some name.object) ≡ None)
 
 -- the device of this name, as its place in the ring's list, where the ring has it
 abbrev pub IsDevice : Ring → List ℕ → Option ℕ → Type 0
@@ -37,7 +38,7 @@ IsDevice ring name (Some device) = slice_get ring.devices device ≡ Some name
 abbrev pub is_partition_of : Ring → Name → List ℕ → Bool
 is_partition_of ring name text = bytes_eq text (decimal (partition_of name.hash ring.power))
 
--- the device is one of the ring's, and the name's hash is right
+-- the device is one of the ring's, and the name is good and its hash right
 abbrev pub IsPlace : Ring → ℕ → Name → Type 0
 IsPlace ring device name = (device < length ring.devices) × IsHashed ring name
 
