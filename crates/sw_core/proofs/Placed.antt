@@ -1,5 +1,5 @@
 -- A step at one node, as the world tells it.
-use Rattle.std.proofs.Common.{◌≡◌, ◌≢◌, ℕ, ◌%◌, ◌^◌, ◌<◌, ◌≤◌, Bool, true, false, ◌==◌, List, [], ◌∷◌, ◌++◌, length, refl, sym, ◌∙◌, ap, subst, arith, Option, Some, ◌⊎◌, inl, inr, slice_set, length-set}
+use Rattle.std.proofs.Common.{◌≡◌, ◌≢◌, ℕ, ◌%◌, ◌^◌, ◌<◌, ◌≤◌, Bool, true, false, ◌==◌, List, [], ◌∷◌, ◌++◌, length, refl, sym, ◌∙◌, ap, arith, Option, Some, inl, inr, slice_set, length-set}
 use Rattle.std.specs.List.{slice_get}
 use Rattle.std.proofs.lemmas.Option.{slice_get-get_or, slice_get_within, slice_get_past}
 use Rattle.std.proofs.lemmas.List.{get_or-set_same, get_or-set_other}
@@ -10,19 +10,20 @@ use borrow.Author.Tests.{eqb-true, eqb-false}
 use Rattle.sw_hashpath.specs.HashParts.{stripe_of}
 use Rattle.sw_hashpath.specs.declared.name.Name.{Name}
 use Rattle.sw_peer.proofs.Calls.{grows-refl, grows-trans}
-use Rattle.sw_peer.specs.Histories.{Grows, History, StepChanges, StepReads, is_shown, stands}
-use Rattle.sw_peer.specs.Journals.{Hash, Shows}
+use Rattle.sw_peer.specs.Histories.{Grows, StepChanges, StepReads}
+use Rattle.sw_peer.specs.Journals.{Hash}
 use Rattle.sw_peer.specs.Sights.{IsAt, IsMade, IsRead, Moves}
 use Rattle.sw_peer.specs.declared.answer.Answer.{Answer}
 use Rattle.sw_peer.specs.declared.change.Change.{Change}
 use Rattle.sw_peer.specs.declared.got.Got.{Got}
-use Rattle.sw_peer.specs.declared.got.Got.TheVariants as gots
 use Rattle.sw_peer.specs.declared.line.Event.TheVariants.{Changed, Read}
 use Rattle.sw_peer.specs.declared.line.Line.{Line}
 use Rattle.sw_peer.specs.declared.link.Link.{Link}
-use Rattle.sw_state.specs.declared.state.State.{State}
 use Rattle.sw_core.proofs.Recasts.{recast, recast-read}
-use Rattle.sw_core.specs.Nodes.{Kept, history_of}
+use Rattle.sw_objdir.specs.Directories.{Kept, held, history_of}
+use Rattle.sw_volume.specs.Tree.{Folders}
+use Rattle.sw_core.specs.declared.slot.Slot.{Slot}
+use Rattle.sw_core.specs.declared.slot.Slot.TheVariants as slots
 use Rattle.sw_core.specs.Worlds.{AllNodes, held_of, lock_of, seen_of, sight_of}
 
 pub slice_get-set_same : {X : Type 0} (xs : List X) (i : ℕ) (x : X) → i < length xs → slice_get (slice_set xs i x) i ≡ Some x
@@ -49,81 +50,44 @@ stripe-below bits hash = mod_below (stripe_of hash bits) (2 ^ bits) (pow_pos bit
 pub device-of : (bits d e : ℕ) (h k : Hash) → lock_of bits d h ≡ lock_of bits e k → d ≡ e
 device-of bits d e h k is = (same_from_place d (stripe_of h bits % 2 ^ bits) e (stripe_of k bits % 2 ^ bits) (2 ^ bits) (stripe-below bits h) (stripe-below bits k) is).0
 
--- a read whose answer couldn't be kept
-never : false ≡ true → ⊥
-never is = cc
-
-other : gots.NoMemory ≡ gots.Failed → ⊥
-other is = cc
-
-abbrev unkept : (h g : History) (hash : Hash) (got : Got) (t : State) → StepReads true h hash got g t → StepReads true h hash gots.NoMemory g t
-unkept h g hash got t step = record {
-  follows = step.follows;
-  settles = step.settles;
-  settled = λ is. absurd (never is);
-  shown = tt;
-  failed = λ is. absurd (other is);
-  held = λ al told is. absurd (never is);
-  added = step.added;
-  adds = step.adds;
-}
-
--- the same read, with an equal answer
-abbrev resaid : (h g : History) (hash : Hash) (got r : Got) (t : State) → r ≡ got → StepReads true h hash got g t → StepReads true h hash r g t
-resaid h g hash got r t same step = record {
-  follows = step.follows;
-  settles = step.settles;
-  settled = λ is. step.settled (ap is_shown (sym same) ∙ is);
-  shown = subst (λ (x : Got). Shows g.told (stands g hash) (length g.journal.entries) x) (sym same) step.shown;
-  failed = λ is. step.failed (sym same ∙ is);
-  held = λ al told is. step.held al told (ap is_shown (sym same) ∙ is);
-  added = step.added;
-  adds = step.adds;
-}
-
--- a read as its answer was kept, or wasn't
-pub heard : (h g : History) (hash : Hash) (got r : Got) (t : State) → (r ≡ got) ⊎ (r ≡ gots.NoMemory) → (step : StepReads true h hash got g t) → (kept : StepReads true h hash r g t) × (kept.added ≡ step.added)
-heard h g hash got r t (inl same) step = (resaid h g hash got r t same step, refl)
-heard h g hash got r t (inr none) step = (resaid h g hash gots.NoMemory r t none (unkept h g hash got t step), refl)
-
-module _ {V : Type 0} (tells : V → Bool) (holds : V → Hash → State) (faults : V → ℕ) (w : AllNodes V) (device : ℕ) (name : Name) (d x : Kept V)
-    (at : slice_get w.nodes (lock_of w.lock_bits device name.hash) ≡ Some d) (lines : List Line) where
+module _ {V : Type 0} (tells : V → Bool) (files : V → Folders) (faults : V → ℕ) (w : AllNodes V) (device : ℕ) (name : Name) (d x : Kept V)
+    (at : slice_get w.slots (lock_of w.lock_bits device name.hash) ≡ Some (slots.Open d)) (lines : List Line) where
   abbrev place : ℕ
   place = lock_of w.lock_bits device name.hash
 
   abbrev pub after : AllNodes V
-  after = record { devices = w.devices; lock_bits = w.lock_bits; nodes = slice_set w.nodes (lock_of w.lock_bits device name.hash) x; lines = lines }
+  after = record w { slots = slice_set w.slots (lock_of w.lock_bits device name.hash) (slots.Open x); lines = lines }
 
-  now : slice_get (slice_set w.nodes place x) place ≡ Some x
-  now = slice_get-set_same w.nodes place x (slice_get_within w.nodes place d at)
+  now : slice_get (slice_set w.slots place (slots.Open x)) place ≡ Some (slots.Open x)
+  now = slice_get-set_same w.slots place (slots.Open x) (slice_get_within w.slots place (slots.Open d) at)
 
-  grows_at : Grows (history_of tells holds faults d) (history_of tells holds faults x)
-      → (l : ℕ) (b : Bool) → (l == place) ≡ b → Grows (seen_of tells holds faults (slice_get w.nodes l)) (seen_of tells holds faults (slice_get (slice_set w.nodes place x) l))
+  grows_at : Grows (history_of tells files faults d) (history_of tells files faults x)
+      → (l : ℕ) (b : Bool) → (l == place) ≡ b → Grows (seen_of tells files faults (slice_get w.slots l)) (seen_of tells files faults (slice_get (slice_set w.slots place (slots.Open x)) l))
   grows_at up l true is =
       let same : l ≡ place = eqb-true l place is in
       rw (same, now, at) up
   grows_at up l false is =
       let away : l ≢ place = λ same. absurd (omega (arith, nat_tests, eqb-false l place is, same)) in
-      rw (slice_get-set_other w.nodes place l x away) (grows-refl (seen_of tells holds faults (slice_get w.nodes l)))
+      rw (slice_get-set_other w.slots place l (slots.Open x) away) (grows-refl (seen_of tells files faults (slice_get w.slots l)))
 
   -- what other hashes stand for
-  others_at : ((h : Hash) → h ≢ name.hash → holds x.shelf h ≡ holds d.shelf h) → (e : ℕ) (h : Hash) → (IsAt device name.hash e h → ⊥)
+  others_at : ((h : Hash) → h ≢ name.hash → held tells files faults x h ≡ held tells files faults d h) → (e : ℕ) (h : Hash) → (IsAt device name.hash e h → ⊥)
       → (b : Bool) → (lock_of w.lock_bits e h == place) ≡ b
-      → held_of holds (slice_get (slice_set w.nodes place x) (lock_of w.lock_bits e h)) h ≡ held_of holds (slice_get w.nodes (lock_of w.lock_bits e h)) h
+      → held_of tells files faults (slice_get (slice_set w.slots place (slots.Open x)) (lock_of w.lock_bits e h)) h ≡ held_of tells files faults (slice_get w.slots (lock_of w.lock_bits e h)) h
   others_at same e h away true is =
       let equal : lock_of w.lock_bits e h ≡ place = eqb-true (lock_of w.lock_bits e h) place is in
       rw (equal, now, at) (same h (λ it. away (device-of w.lock_bits e device h name.hash equal, it)))
   others_at same e h away false is =
       let apart : lock_of w.lock_bits e h ≢ place = λ equal. absurd (omega (arith, nat_tests, eqb-false (lock_of w.lock_bits e h) place is, equal)) in
-      ap (λ (o : Option (Kept V)). held_of holds o h) (slice_get-set_other w.nodes place (lock_of w.lock_bits e h) x apart)
+      ap (λ (o : Option (Slot V)). held_of tells files faults o h) (slice_get-set_other w.slots place (lock_of w.lock_bits e h) (slots.Open x) apart)
 
-  moves : Grows (history_of tells holds faults d) (history_of tells holds faults x) → ((h : Hash) → h ≢ name.hash → holds x.shelf h ≡ holds d.shelf h)
-      → Moves (IsAt device name.hash) (sight_of tells holds faults w) (sight_of tells holds faults after)
+  moves : Grows (history_of tells files faults d) (history_of tells files faults x) → ((h : Hash) → h ≢ name.hash → held tells files faults x h ≡ held tells files faults d h)
+      → Moves (IsAt device name.hash) (sight_of tells files faults w) (sight_of tells files faults after)
   moves up same = record {
     nodes = refl;
     objects = record {
       grows = λ l. grows_at up l (l == place) refl;
-      elsewhere = λ l away. ap (seen_of tells holds faults) (slice_get-set_other w.nodes place l x (away device name.hash (refl, refl)));
+      elsewhere = λ l away. ap (seen_of tells files faults) (slice_get-set_other w.slots place l (slots.Open x) (away device name.hash (refl, refl)));
       others = λ a e h away. others_at same e h away (lock_of w.lock_bits e h == place) refl;
     };
     containers = refl;
@@ -132,36 +96,36 @@ module _ {V : Type 0} (tells : V → Bool) (holds : V → Hash → State) (fault
   }
 
   pub world-made : (link : Link) (change : Change) (answer : Answer)
-      → ((h : Hash) → h ≢ name.hash → holds x.shelf h ≡ holds d.shelf h)
-      → (step : StepChanges true (history_of tells holds faults d) (holds d.shelf name.hash) name change answer (history_of tells holds faults x) (holds x.shelf name.hash))
+      → ((h : Hash) → h ≢ name.hash → held tells files faults x h ≡ held tells files faults d h)
+      → (step : StepChanges true (history_of tells files faults d) (held tells files faults d name.hash) name change answer (history_of tells files faults x) (held tells files faults x name.hash))
       → lines ≡ w.lines ++ record { device = device; link = link; event = Changed name change answer; added = step.added } ∷ []
-      → IsMade link device name change (sight_of tells holds faults w) answer (sight_of tells holds faults after)
+      → IsMade link device name change (sight_of tells files faults w) answer (sight_of tells files faults after)
   world-made link change answer same step items = record {
-    moves = moves (grows-trans (history_of tells holds faults d) step.before (history_of tells holds faults x) step.follows step.after) same;
-    step = recast true (history_of tells holds faults d) (seen_of tells holds faults (slice_get w.nodes place)) (holds d.shelf name.hash) (held_of holds (slice_get w.nodes place) name.hash) name change answer
-        (history_of tells holds faults x) (seen_of tells holds faults (slice_get (slice_set w.nodes place x) place)) (holds x.shelf name.hash) (held_of holds (slice_get (slice_set w.nodes place x) place) name.hash)
-        refl (ap (seen_of tells holds faults) (sym at)) (ap (λ (o : Option (Kept V)). held_of holds o name.hash) (sym at))
-        (ap (seen_of tells holds faults) (sym now)) (ap (λ (o : Option (Kept V)). held_of holds o name.hash) (sym now)) step;
+    moves = moves (grows-trans (history_of tells files faults d) step.before (history_of tells files faults x) step.follows step.after) same;
+    step = recast true (history_of tells files faults d) (seen_of tells files faults (slice_get w.slots place)) (held tells files faults d name.hash) (held_of tells files faults (slice_get w.slots place) name.hash) name change answer
+        (history_of tells files faults x) (seen_of tells files faults (slice_get (slice_set w.slots place (slots.Open x)) place)) (held tells files faults x name.hash) (held_of tells files faults (slice_get (slice_set w.slots place (slots.Open x)) place) name.hash)
+        refl (ap (seen_of tells files faults) (sym at)) (ap (λ (o : Option (Slot V)). held_of tells files faults o name.hash) (sym at))
+        (ap (seen_of tells files faults) (sym now)) (ap (λ (o : Option (Slot V)). held_of tells files faults o name.hash) (sym now)) step;
     trail = inl (ap Some items);
   }
 
   pub world-read : (link : Link) (got : Got)
-      → ((h : Hash) → holds x.shelf h ≡ holds d.shelf h)
-      → (step : StepReads true (history_of tells holds faults d) name.hash got (history_of tells holds faults x) (holds x.shelf name.hash))
+      → ((h : Hash) → held tells files faults x h ≡ held tells files faults d h)
+      → (step : StepReads true (history_of tells files faults d) name.hash got (history_of tells files faults x) (held tells files faults x name.hash))
       → lines ≡ w.lines ++ record { device = device; link = link; event = Read name got; added = step.added } ∷ []
-      → IsRead link device name (sight_of tells holds faults w) got (sight_of tells holds faults after)
+      → IsRead link device name (sight_of tells files faults w) got (sight_of tells files faults after)
   world-read link got same step items = record {
     moves = moves step.follows (λ h away. same h);
     holds_all = λ alone e h. all e h (lock_of w.lock_bits e h == place) refl;
-    step = recast-read true (history_of tells holds faults d) (seen_of tells holds faults (slice_get w.nodes place)) name.hash got
-        (history_of tells holds faults x) (seen_of tells holds faults (slice_get (slice_set w.nodes place x) place)) (holds x.shelf name.hash) (held_of holds (slice_get (slice_set w.nodes place x) place) name.hash)
-        refl (ap (seen_of tells holds faults) (sym at)) (ap (seen_of tells holds faults) (sym now)) (ap (λ (o : Option (Kept V)). held_of holds o name.hash) (sym now)) step;
+    step = recast-read true (history_of tells files faults d) (seen_of tells files faults (slice_get w.slots place)) name.hash got
+        (history_of tells files faults x) (seen_of tells files faults (slice_get (slice_set w.slots place (slots.Open x)) place)) (held tells files faults x name.hash) (held_of tells files faults (slice_get (slice_set w.slots place (slots.Open x)) place) name.hash)
+        refl (ap (seen_of tells files faults) (sym at)) (ap (seen_of tells files faults) (sym now)) (ap (λ (o : Option (Slot V)). held_of tells files faults o name.hash) (sym now)) step;
     trail = inl (ap Some items);
   }
     where
       all : (e : ℕ) (h : Hash) (b : Bool) → (lock_of w.lock_bits e h == place) ≡ b
-          → held_of holds (slice_get (slice_set w.nodes place x) (lock_of w.lock_bits e h)) h ≡ held_of holds (slice_get w.nodes (lock_of w.lock_bits e h)) h
+          → held_of tells files faults (slice_get (slice_set w.slots place (slots.Open x)) (lock_of w.lock_bits e h)) h ≡ held_of tells files faults (slice_get w.slots (lock_of w.lock_bits e h)) h
       all e h true is = let equal : lock_of w.lock_bits e h ≡ place = eqb-true (lock_of w.lock_bits e h) place is in rw (equal, now, at) (same h)
       all e h false is =
           let apart : lock_of w.lock_bits e h ≢ place = λ equal. absurd (omega (arith, nat_tests, eqb-false (lock_of w.lock_bits e h) place is, equal)) in
-          ap (λ (o : Option (Kept V)). held_of holds o h) (slice_get-set_other w.nodes place (lock_of w.lock_bits e h) x apart)
+          ap (λ (o : Option (Slot V)). held_of tells files faults o h) (slice_get-set_other w.slots place (lock_of w.lock_bits e h) (slots.Open x) apart)

@@ -12,13 +12,13 @@ use Rattle.sw_peer.specs.declared.change.Change.{Change}
 use Rattle.sw_peer.specs.declared.entry.ObjEntry.{ObjEntry}
 use Rattle.sw_peer.specs.declared.entry.ObjEntry.TheVariants.{Wrote}
 use Rattle.sw_peer.specs.declared.line.Event.{Event}
-use Rattle.sw_peer.specs.declared.line.Event.TheVariants.{Changed, Read}
+use Rattle.sw_peer.specs.declared.line.Event.TheVariants.{Changed, Listed, Read, Restarted}
 use Rattle.sw_peer.specs.declared.line.Line.{Line}
 use Rattle.sw_state.specs.States.{state_of}
 use Rattle.sw_state.specs.declared.state.State.{State}
 use Rattle.sw_state.specs.declared.write.Write.{Write}
-use Rattle.sw_core.specs.Laws.{NoDoubts, NoneFailed, RunEnters, RunFromNothing, RunReaches, RunStands, RunsJoin, entered_by, has_failed, hash_in, is_failed, told_by}
-use Rattle.sw_core.specs.Machine.{Came, Machine, MachineComes, MachineRestarts, Restarted, RunLine, Runs, Went, empty_machine, made_writes, reached_with, state}
+use Rattle.sw_core.specs.Laws.{NoDoubts, NoneFailed, RunEnters, RunReaches, RunStands, RunsJoin, entered_by, has_failed, is_entered_at, is_failed, is_restart, told_by}
+use Rattle.sw_core.specs.Machine.{Came, Machine, MachineComes, MachineRestarts, RunLine, Runs, Went, made_writes, reached_with, state}
 
 empty : {A : Type 0} (xs : List A) → length xs ≤ 0 → xs ≡ []
 empty [] h = refl
@@ -95,6 +95,11 @@ with-told reached device hash ws d k vs is = by (nat_eq device d) (bytes_eq hash
     by true false same = sym (ap (λ (x : List Write). reached d k ++ x) same ∙ append-nil (reached d k))
     by false q same = sym (append-nil (reached d k))
 
+-- what reached where nothing was added
+nothing : (ws : List Write) (b : Bool) (vs : List Write) → vs ≡ [] → ws ≡ ws ++ (if b then vs else [])
+nothing ws true vs is = sym (ap (λ (x : List Write). ws ++ x) is ∙ append-nil ws)
+nothing ws false vs is = sym (append-nil ws)
+
 module _ (lock : ℕ → Hash → ℕ) where
   elsewhere-none : (m after : Machine) (device : ℕ) (hash : Hash) → NoDoubts lock m → ((l : ℕ) → l ≢ lock device hash → after.seen l ≡ m.seen l)
       → (after.seen (lock device hash)).journal.doubts ≡ [] → NoDoubts lock after
@@ -106,6 +111,16 @@ module _ (lock : ℕ → Hash → ℕ) where
         where
           apart : nat_eq (lock d k) (lock device hash) ≡ false → lock d k ≢ lock device hash
           apart no_match equal = let yes_match : nat_eq (lock d k) (lock device hash) ≡ true = eq-eqb (lock d k) (lock device hash) equal in cc
+
+  restarted-none : (m : Machine) (device : ℕ) (after : Machine) → NoDoubts lock m → MachineRestarts lock m device after → NoDoubts lock after
+  restarted-none m device after none r d k = by (nat_eq d device) refl
+    where
+      by : (b : Bool) → nat_eq d device ≡ b → (after.seen (lock d k)).journal.doubts ≡ []
+      by true is = let at : d ≡ device = eqb-true d device is in subst (λ (e : ℕ). (after.seen (lock e k)).journal.doubts ≡ []) (sym at) (r.doubts k)
+      by false is = ap (λ (h : History). h.journal.doubts) (r.elsewhere d k (apart is)) ∙ none d k
+        where
+          apart : nat_eq d device ≡ false → d ≢ device
+          apart no_match equal = let yes_match : nat_eq d device ≡ true = eq-eqb d device equal in cc
 
   -- one step that comes
   comes : (m : Machine) (line : Line) (after : Machine) → NoDoubts lock m → has_failed line.event ≡ false
@@ -128,20 +143,14 @@ module _ (lock : ℕ → Hash → ℕ) where
         (λ d k. came.reached d k ∙ nothing (m.reached d k) (nat_eq line.device d) (written k line.added) (ap (written k) added)),
         elsewhere-none m after line.device name.hash none came.elsewhere zero_of.1,
       )
-    where
-      nothing : (ws : List Write) (b : Bool) (vs : List Write) → vs ≡ [] → ws ≡ ws ++ (if b then vs else [])
-      nothing ws true vs is = sym (ap (λ (x : List Write). ws ++ x) is ∙ append-nil ws)
-      nothing ws false vs is = sym (append-nil ws)
-
-  restarted-none : (m : Machine) (device : ℕ) (after : Machine) → NoDoubts lock m → MachineRestarts lock m device after → NoDoubts lock after
-  restarted-none m device after none r d k = by (nat_eq d device) refl
-    where
-      by : (b : Bool) → nat_eq d device ≡ b → (after.seen (lock d k)).journal.doubts ≡ []
-      by true is = let at : d ≡ device = eqb-true d device is in subst (λ (e : ℕ). (after.seen (lock e k)).journal.doubts ≡ []) (sym at) (r.doubts k)
-      by false is = ap (λ (h : History). h.journal.doubts) (r.elsewhere d k (apart is)) ∙ none d k
-        where
-          apart : nat_eq d device ≡ false → d ≢ device
-          apart no_match equal = let yes_match : nat_eq d device ≡ true = eq-eqb d device equal in cc
+  comes m line after none fine (Listed failed) is came = (
+    (λ d k. came.1.reached d k ∙ nothing (m.reached d k) (nat_eq line.device d) (written k line.added) (ap (written k) came.0)),
+    λ d k. ap (λ (h : History). h.journal.doubts) (came.1.same (lock d k)) ∙ none d k,
+  )
+  comes m line after none fine Restarted is came = (
+    (λ d k. came.1.reached d k ∙ nothing (m.reached d k) (nat_eq line.device d) (written k line.added) (ap (written k) came.0)),
+    restarted-none m line.device after none came.1,
+  )
 
   pub run : (m : Machine) (lines : List RunLine) (after : Machine) → Runs lock m lines after → NoDoubts lock m → NoneFailed lines
       → (device : ℕ) (hash : Hash) → after.reached device hash ≡ m.reached device hash ++ told_by lines device hash
@@ -155,18 +164,12 @@ module _ (lock : ℕ → Hash → ℕ) where
       let sends = r.1 in
       run r.0 lines after r.2 (λ d k. ap (λ (h : History). h.journal.doubts) (sends.seen (lock d k)) ∙ none d k) fine device hash
       ∙ ap (λ (x : List Write). x ++ told_by lines device hash) (sends.reached device hash)
-  run m (Restarted d ∷ lines) after r none fine device hash =
-      run r.0 lines after r.2 (restarted-none m d r.0 none r.1) fine device hash
-      ∙ ap (λ (x : List Write). x ++ told_by lines device hash) (r.1.reached device hash)
 
 pub reaches : RunReaches
 reaches lock m lines after r none fine device hash = run lock m lines after r none fine device hash
 
 pub stands_so : RunStands
 stands_so lock m lines after r none fine device hash = ap state_of (run lock m lines after r none fine device hash)
-
-pub from_nothing : RunFromNothing
-from_nothing lock lines after r fine device hash = run lock empty_machine lines after r (λ d k. refl) fine device hash
 
 pub joins : RunsJoin
 joins lock m [] mid more after first second = subst (λ (x : Machine). Runs lock x more after) first second
@@ -175,9 +178,9 @@ joins lock m (line ∷ lines) mid more after first second = (first.0, first.1, j
 pub enters : RunEnters
 enters lock m [] after r fine l = ap (λ (x : Machine). (x.seen l).journal.entries) r ∙ sym (append-nil (m.seen l).journal.entries)
 enters lock m (Came line ∷ lines) after r fine l =
-    enters lock r.0 lines after r.2 fine l
+    enters lock r.0 lines after r.2 fine.1 l
     ∙ (ap (λ (es : List ObjEntry). es ++ entered_by lock lines l) (one line.event refl r.1)
-    ∙ append_assoc (m.seen l).journal.entries (if nat_eq (lock line.device (hash_in line.event)) l then line.added else []) (entered_by lock lines l))
+    ∙ append_assoc (m.seen l).journal.entries (if is_entered_at lock line.device line.event l then line.added else []) (entered_by lock lines l))
   where
     at : (hash : Hash) → ((k : ℕ) → k ≢ lock line.device hash → (r.0).seen k ≡ m.seen k) → ((r.0).seen (lock line.device hash)).journal.entries ≡ (m.seen (lock line.device hash)).journal.entries ++ line.added
         → ((r.0).seen l).journal.entries ≡ (m.seen l).journal.entries ++ (if nat_eq (lock line.device hash) l then line.added else [])
@@ -192,13 +195,16 @@ enters lock m (Came line ∷ lines) after r fine l =
             apart equal = let yes_match : nat_eq (lock line.device hash) l ≡ true = eq-eqb (lock line.device hash) l (sym equal) in cc
 
     one : (event : Event) → line.event ≡ event → MachineComes lock m line.link line.device event line.added r.0
-        → ((r.0).seen l).journal.entries ≡ (m.seen l).journal.entries ++ (if nat_eq (lock line.device (hash_in line.event)) l then line.added else [])
+        → ((r.0).seen l).journal.entries ≡ (m.seen l).journal.entries ++ (if is_entered_at lock line.device line.event l then line.added else [])
     one (Changed name change answer) is came =
         let makes = came.1 in
-        subst (λ (e : Event). ((r.0).seen l).journal.entries ≡ (m.seen l).journal.entries ++ (if nat_eq (lock line.device (hash_in e)) l then line.added else [])) (sym is)
+        subst (λ (e : Event). ((r.0).seen l).journal.entries ≡ (m.seen l).journal.entries ++ (if is_entered_at lock line.device e l then line.added else [])) (sym is)
         (at name.hash makes.elsewhere (makes.step.adds refl ∙ ap (λ (es : List ObjEntry). (m.seen (lock line.device name.hash)).journal.entries ++ es) (sym makes.added_is)))
     one (Read name got) is came =
-        subst (λ (e : Event). ((r.0).seen l).journal.entries ≡ (m.seen l).journal.entries ++ (if nat_eq (lock line.device (hash_in e)) l then line.added else [])) (sym is)
+        subst (λ (e : Event). ((r.0).seen l).journal.entries ≡ (m.seen l).journal.entries ++ (if is_entered_at lock line.device e l then line.added else [])) (sym is)
         (at name.hash came.elsewhere (came.step.adds refl ∙ ap (λ (es : List ObjEntry). (m.seen (lock line.device name.hash)).journal.entries ++ es) (sym came.added_is)))
+    one (Listed failed) is came =
+        subst (λ (e : Event). ((r.0).seen l).journal.entries ≡ (m.seen l).journal.entries ++ (if is_entered_at lock line.device e l then line.added else [])) (sym is)
+        (ap (λ (h : History). h.journal.entries) (came.1.same l) ∙ sym (append-nil (m.seen l).journal.entries))
+    one Restarted is came = let never : true ≡ false = sym (ap is_restart is) ∙ fine.0 in cc
 enters lock m (Went from message ∷ lines) after r fine l = enters lock r.0 lines after r.2 fine l ∙ ap (λ (h : History). h.journal.entries ++ entered_by lock lines l) (r.1.seen l)
-enters lock m (Restarted d ∷ lines) after r fine l = absurd fine

@@ -1,32 +1,28 @@
 -- What a session knows of a door that is alone, call by call: the lines that the door kept are a run of the machine, and the door stands
 -- for the machine after it.
-use Rattle.std.proofs.Common.{◌≡◌, ℕ, true, List, [], ◌∷◌, ◌++◌, map, refl, sym, ◌∙◌, ap, subst, Some, Ok, Err, ◌⊎◌, inl, inr}
+use Rattle.std.proofs.Common.{◌≡◌, ℕ, Bool, true, List, [], ◌∷◌, ◌++◌, map, refl, sym, ◌∙◌, ap, subst, Some, Ok, Err, ◌⊎◌, inl, inr}
 use Rattle.std.proofs.lemmas.List.{map-append}
 use Rattle.std.specs.Option.{option_map}
 use Rattle.sw_hashpath.specs.declared.name.Name.{Name}
 use Rattle.sw_peer.specs.Journals.{Hash}
-use Rattle.sw_peer.specs.Sights.{Calls, Comes, IsMade, IsRead, IsSame, Nodes, Sight, is_wanting, is_wanting_read}
+use Rattle.sw_peer.specs.Sights.{Calls, Comes, IsListed, IsMade, IsRead, IsSame, Nodes, Restarts, Sight, is_wanting, is_wanting_read}
 use Rattle.sw_peer.specs.declared.answer.Answer.{Answer}
 use Rattle.sw_peer.specs.declared.change.Change.{Change}
 use Rattle.sw_peer.specs.declared.got.Got.{Got}
-use Rattle.sw_peer.specs.declared.line.Event.TheVariants.{Changed, Read}
+use Rattle.sw_peer.specs.declared.line.Event.TheVariants.{Changed, Listed, Read, Restarted}
 use Rattle.sw_peer.specs.declared.line.Line.{Line}
 use Rattle.sw_peer.specs.declared.link.Link.TheVariants.{Local, Sent}
 use Rattle.sw_peer.specs.declared.link.Lost.{Lost}
-use Rattle.sw_core.proofs.Reaching.{from_nothing, joins}
-use Rattle.sw_core.proofs.Standing.{change_runs, read_runs}
+use Rattle.sw_core.proofs.Reaching.{joins, reaches}
+use Rattle.sw_core.proofs.Standing.{change_runs, listing_runs, read_runs, restart_runs}
 use Rattle.sw_core.specs.Doors.{HasRun, StandsFor}
-use Rattle.sw_core.specs.Laws.{NoneFailed, told_by}
+use Rattle.sw_core.specs.Laws.{NoDoubts, NoneFailed, told_by}
 use Rattle.sw_state.specs.States.{state_of}
-use Rattle.sw_core.specs.Machine.{Came, Machine, MachineComes, RunLine, Runs, empty_machine}
-use Rattle.sw_core.specs.Worlds.{Begins}
+use Rattle.sw_core.specs.Machine.{Came, Machine, MachineComes, RunLine, Runs}
 
 -- a door that stands for a machine, and has kept no lines yet
 pub run-begins : (m : Machine) (s : Sight) → StandsFor s m → s.trail ≡ Some [] → HasRun m s
 run-begins m s stands none = record { lines = []; kept = none; after = m; run = refl; stands = stands }
-
-pub run-fresh : (devices lock_bits : ℕ) (s : Sight) → Begins devices lock_bits s → HasRun empty_machine s
-run-fresh devices lock_bits s b = run-begins empty_machine s b.stands b.trail
 
 -- no step came
 pub stands-same : (s t : Sight) (m : Machine) → IsSame s t → StandsFor s m → StandsFor t m
@@ -79,6 +75,18 @@ run-read start device name s got t alone read has = by read.trail
         let runs = read_runs Local device name s got t has.after has.stands alone read in
         one-more start s t line has read.moves.nodes kept runs.0 runs.1 runs.2
     by (inr none) = run-kept start s t none.1 has
+
+-- all files of a device were listed
+pub run-listed : (start : Machine) (device : ℕ) (failed : Bool) (s t : Sight) → IsListed device failed s t → HasRun start s → HasRun start t
+run-listed start device failed s t r has =
+    let runs = listing_runs device failed s t has.after has.stands r in
+    one-more start s t (record { device = device; link = Local; event = Listed failed; added = [] }) has r.nodes r.trail runs.0 (refl, runs.1) runs.2
+
+-- a device was restarted
+pub run-restarted : (start : Machine) (device : ℕ) (s t : Sight) → t.alone ≡ true → Restarts device s t → HasRun start s → HasRun start t
+run-restarted start device s t alone r has =
+    let runs = restart_runs device s t has.after has.stands alone r in
+    one-more start s t (record { device = device; link = Local; event = Restarted; added = [] }) has r.nodes r.trail runs.0 (refl, runs.1) runs.2
 
 -- ---- calls at the device itself
 
@@ -137,7 +145,7 @@ pub run-taken : (start : Machine) (s t : Sight) → t ≡ record s { trail = Som
 run-taken start s t taken has =
     run-begins has.after t (subst (λ (x : Sight). StandsFor x has.after) (sym taken) (record { states = has.stands.states; seen = has.stands.seen; told = has.stands.told })) (ap (λ (x : Sight). x.trail) taken)
 
--- from nothing, where no step failed: each hash stands at each device for the state of what the lines tell
-pub run-holds : (s : Sight) (has : HasRun empty_machine s) → NoneFailed (map Came has.lines) → (device : ℕ) (hash : Hash)
-    → s.objects.holds device hash ≡ state_of (told_by (map Came has.lines) device hash)
-run-holds s has fine device hash = has.stands.states device hash ∙ ap state_of (from_nothing s.nodes.lock (map Came has.lines) has.after has.run fine device hash)
+-- where no step failed, each hash stands at each device for the state of what had reached and of what the lines tell
+pub run-holds : (start : Machine) (s : Sight) (has : HasRun start s) → NoDoubts s.nodes.lock start → NoneFailed (map Came has.lines) → (device : ℕ) (hash : Hash)
+    → s.objects.holds device hash ≡ state_of (start.reached device hash ++ told_by (map Came has.lines) device hash)
+run-holds start s has none fine device hash = has.stands.states device hash ∙ ap state_of (reaches s.nodes.lock start (map Came has.lines) has.after has.run none fine device hash)

@@ -1,5 +1,5 @@
 -- Counts of faults along a run.
-use Rattle.std.proofs.Common.{◌≡◌, ◌≢◌, ℕ, ◌+◌, ◌-◌, ◌^◌, ◌<◌, ◌≤◌, Bool, true, false, nat_eq, List, [], ◌∷◌, refl, sym, ◌∙◌, ap, subst, arith, ◌⊎◌, inl, inr}
+use Rattle.std.proofs.Common.{◌≡◌, ◌≢◌, ℕ, ◌≤◌, Bool, true, false, nat_eq, List, [], ◌∷◌, refl, sym, ap, subst, arith, inl, inr}
 use Rattle.std.proofs.lemmas.Bool.{eq-eqb, eqb-true}
 use Rattle.sw_outside.specs.Faults.{HasRisen}
 use Rattle.sw_peer.specs.Histories.{History}
@@ -8,10 +8,10 @@ use Rattle.sw_peer.specs.declared.answer.Answer.{Answer}
 use Rattle.sw_peer.specs.declared.answer.Answer.TheVariants as answers
 use Rattle.sw_peer.specs.declared.entry.ObjEntry.{ObjEntry}
 use Rattle.sw_peer.specs.declared.line.Event.{Event}
-use Rattle.sw_peer.specs.declared.line.Event.TheVariants.{Changed, Read}
+use Rattle.sw_peer.specs.declared.line.Event.TheVariants.{Changed, Listed, Read, Restarted}
 use Rattle.sw_peer.specs.declared.link.Link.{Link}
 use Rattle.sw_core.specs.Laws.{NoneFailed, RunSound, has_failed}
-use Rattle.sw_core.specs.Machine.{Came, Machine, MachineComes, Restarted, RunLine, Runs, Steps, Went}
+use Rattle.sw_core.specs.Machine.{Came, Machine, MachineComes, MachineRestarts, RunLine, Runs, Steps, Went}
 
 -- the counts of a machine's locks are no greater than another's
 abbrev Rises : (ℕ → Hash → ℕ) → Machine → Machine → Type 0
@@ -31,17 +31,8 @@ by_lock lock m n l own others device hash = by (nat_eq (lock device hash) l) ref
     by true is = let at : lock device hash ≡ l = eqb-true (lock device hash) l is in subst (λ (k : ℕ). (m.seen k).faults ≤ (n.seen k).faults) (sym at) own
     by false is = same (m.seen (lock device hash)) (n.seen (lock device hash)) (others (lock device hash) (apart is))
 
-comes_rise : (lock : ℕ → Hash → ℕ) (m : Machine) (link : Link) (device : ℕ) (event : Event) (added : List ObjEntry) (n : Machine) → MachineComes lock m link device event added n → Rises lock m n
-comes_rise lock m link device (Changed name change answer) added n step =
-    let made = step.1.step in
-    let up : (m.seen (lock device name.hash)).faults ≤ (n.seen (lock device name.hash)).faults = omega (arith, made.follows.faults, made.after.faults) in
-    by_lock lock m n (lock device name.hash) up step.1.elsewhere
-comes_rise lock m link device (Read name got) added n step = by_lock lock m n (lock device name.hash) step.step.follows.faults step.elsewhere
-
-steps_rise : (lock : ℕ → Hash → ℕ) (m : Machine) (line : RunLine) (n : Machine) → Steps lock m line n → Rises lock m n
-steps_rise lock m (Came line) n step device hash = comes_rise lock m line.link line.device line.event line.added n step device hash
-steps_rise lock m (Went from message) n step device hash = same (m.seen (lock device hash)) (n.seen (lock device hash)) (step.seen (lock device hash))
-steps_rise lock m (Restarted d) n step device hash = by (nat_eq device d) refl
+restart_rises : (lock : ℕ → Hash → ℕ) (m : Machine) (d : ℕ) (n : Machine) → MachineRestarts lock m d n → Rises lock m n
+restart_rises lock m d n step device hash = by (nat_eq device d) refl
   where
     apart : nat_eq device d ≡ false → device ≢ d
     apart no_match equal = let yes_match : nat_eq device d ≡ true = eq-eqb device d equal in cc
@@ -49,6 +40,19 @@ steps_rise lock m (Restarted d) n step device hash = by (nat_eq device d) refl
     by : (b : Bool) → nat_eq device d ≡ b → (m.seen (lock device hash)).faults ≤ (n.seen (lock device hash)).faults
     by true is = let at : device ≡ d = eqb-true device d is in subst (λ (e : ℕ). (m.seen (lock e hash)).faults ≤ (n.seen (lock e hash)).faults) (sym at) (step.faults hash)
     by false is = same (m.seen (lock device hash)) (n.seen (lock device hash)) (step.elsewhere device hash (apart is))
+
+comes_rise : (lock : ℕ → Hash → ℕ) (m : Machine) (link : Link) (device : ℕ) (event : Event) (added : List ObjEntry) (n : Machine) → MachineComes lock m link device event added n → Rises lock m n
+comes_rise lock m link device (Changed name change answer) added n step =
+    let made = step.1.step in
+    let up : (m.seen (lock device name.hash)).faults ≤ (n.seen (lock device name.hash)).faults = omega (arith, made.follows.faults, made.after.faults) in
+    by_lock lock m n (lock device name.hash) up step.1.elsewhere
+comes_rise lock m link device (Read name got) added n step = by_lock lock m n (lock device name.hash) step.step.follows.faults step.elsewhere
+comes_rise lock m link device (Listed failed) added n step = λ d hash. step.1.later (lock d hash)
+comes_rise lock m link device Restarted added n step = restart_rises lock m device n step.1
+
+steps_rise : (lock : ℕ → Hash → ℕ) (m : Machine) (line : RunLine) (n : Machine) → Steps lock m line n → Rises lock m n
+steps_rise lock m (Came line) n step device hash = comes_rise lock m line.link line.device line.event line.added n step device hash
+steps_rise lock m (Went from message) n step device hash = same (m.seen (lock device hash)) (n.seen (lock device hash)) (step.seen (lock device hash))
 
 runs_rise : (lock : ℕ → Hash → ℕ) (m : Machine) (lines : List RunLine) (n : Machine) → Runs lock m lines n → Rises lock m n
 runs_rise lock m [] n run device hash = let equal : (n.seen (lock device hash)).faults ≡ (m.seen (lock device hash)).faults = ap (λ (x : Machine). (x.seen (lock device hash)).faults) run in omega (arith, equal)
@@ -65,6 +69,8 @@ not_risen a b c (inr end) later none = omega (arith, end, later, none)
 fine : (lock : ℕ → Hash → ℕ) (m : Machine) (link : Link) (device : ℕ) (event : Event) (added : List ObjEntry) (n : Machine) → MachineComes lock m link device event added n
     → ((d : ℕ) (hash : Hash) → (n.seen (lock d hash)).faults ≤ 0) → has_failed event ≡ false
 fine lock m link device (Read name got) added n step none = refl
+fine lock m link device (Listed failed) added n step none = refl
+fine lock m link device Restarted added n step none = refl
 fine lock m link device (Changed name change answer) added n step none = by answer step.1.step.failed
   where
     by : (answer : Answer) → (answer ≡ answers.Failed → HasRisen (m.seen (lock device name.hash)).faults (n.seen (lock device name.hash)).faults) → has_failed (Changed name change answer) ≡ false
@@ -90,7 +96,6 @@ sound_from lock m (Came line ∷ lines) after run none = (fine lock m line.link 
         let none_now : (after.seen (lock device hash)).faults ≡ 0 = none device hash in
         omega (arith, up, none_now)
 sound_from lock m (Went from message ∷ lines) after run none = sound_from lock run.0 lines after run.2 none
-sound_from lock m (Restarted d ∷ lines) after run none = sound_from lock run.0 lines after run.2 none
 
 pub sound : RunSound
 sound lock m lines after run none = sound_from lock m lines after run none

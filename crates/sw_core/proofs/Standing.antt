@@ -4,6 +4,7 @@ use Rattle.std.proofs.lemmas.List.{append-nil}
 use Rattle.std.proofs.lemmas.Bool.{eq-eqb, eqb-true}
 use Rattle.sw_hashpath.specs.declared.name.Name.{Name}
 use Rattle.sw_peer.proofs.Hashes.{hash-same, hash-self}
+use Rattle.sw_outside.specs.Faults.{HasRisen}
 use Rattle.sw_peer.specs.Histories.{History}
 use Rattle.sw_peer.specs.Journals.{Hash, left_by}
 use Rattle.sw_peer.specs.Steps.{write_of}
@@ -16,7 +17,7 @@ use Rattle.sw_state.specs.States.{state_of}
 use Rattle.sw_state.specs.declared.state.State.{State}
 use Rattle.sw_state.specs.declared.write.Write.{Write}
 use Rattle.sw_core.proofs.Recasts.{recast, recast-read}
-use Rattle.sw_core.specs.Doors.{ChangeRuns, ReadRuns, RestartRuns, StandsFor}
+use Rattle.sw_core.specs.Doors.{ChangeRuns, ListingRuns, ReadRuns, RestartRuns, StandsFor}
 use Rattle.sw_core.specs.Machine.{Machine, MachineMakes, made_writes, reached_with, state}
 
 -- what told goes on telling
@@ -91,6 +92,20 @@ read_runs link device name s got t m stands alone read = (
     sent = refl;
   },
   record { states = λ d k. read.holds_all alone d k ∙ stands.states d k; seen = λ x. refl; told = told-on s t read.moves.nodes (λ x. (read.moves.objects.grows x).told) stands.told },
+)
+
+pub listing_runs : ListingRuns
+listing_runs device failed s t m stands r = (
+  record { reached = m.reached; seen = t.objects.seen; sent = m.sent },
+  record {
+    same = λ l. r.same l ∙ ap (λ (h : History). record h { faults = (t.objects.seen l).faults }) (stands.seen l);
+    later = λ l. subst (λ (h : History). h.faults ≤ (t.objects.seen l).faults) (stands.seen l) (r.later l);
+    elsewhere = λ d k away. r.others d k away ∙ stands.seen (s.nodes.lock d k);
+    risen = λ is. let up = r.risen is in (up.0, subst (λ (h : History). HasRisen h.faults (t.objects.seen up.0).faults) (stands.seen up.0) up.1);
+    reached = λ d k. refl;
+    sent = refl;
+  },
+  record { states = λ d k. r.holds d k ∙ stands.states d k; seen = λ x. refl; told = told-on s t r.nodes (λ l. ap (λ (h : History). h.told) (r.same l)) stands.told },
 )
 
 pub restart_runs : RestartRuns

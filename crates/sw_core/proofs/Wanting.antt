@@ -5,14 +5,13 @@ use Rattle.std.proofs.lemmas.List.{append-nil}
 use Rattle.sw_hashpath.specs.declared.name.Name.{Name}
 use Rattle.sw_peer.proofs.Calls.{calls-once, grows-refl, made-step, moves-refl, read-step, same-refl, settles-none, wanting}
 use Rattle.sw_peer.specs.Histories.{History}
-use Rattle.sw_peer.specs.Journals.{Hash}
 use Rattle.sw_peer.specs.Sights.{Calls, IsAt, IsMade, IsRead, Moves, Sight}
 use Rattle.sw_peer.specs.declared.answer.Answer.TheVariants as answers
 use Rattle.sw_peer.specs.declared.change.Change.{Change}
 use Rattle.sw_peer.specs.declared.got.Got.TheVariants as gots
 use Rattle.sw_peer.specs.declared.line.Line.{Line}
 use Rattle.sw_peer.specs.declared.link.Link.{Link}
-use Rattle.sw_state.specs.declared.state.State.{State}
+use Rattle.sw_volume.specs.Tree.{Folders}
 use Rattle.sw_core.specs.Worlds.{AllNodes, sight_of}
 
 wanting-read : (link : Link) (device : ℕ) (name : Name) (s : Sight) → IsRead link device name s gots.NoMemory s
@@ -41,14 +40,14 @@ wanting-read link device name s = record {
     other : gots.NoMemory ≡ gots.Failed → ⊥
     other is = cc
 
-module _ {V : Type 0} (tells : V → Bool) (holds : V → Hash → State) (faults : V → ℕ) (w : AllNodes V) (lines : List Line) (same : lines ≡ w.lines) (link : Link) (device : ℕ) (name : Name) where
-  pub wants : (change : Change) → Calls (IsMade link device name change) (sight_of tells holds faults w) link (Ok answers.NoMemory) (sight_of tells holds faults (record w { lines = lines }))
+module _ {V : Type 0} (tells : V → Bool) (files : V → Folders) (faults : V → ℕ) (w : AllNodes V) (lines : List Line) (same : lines ≡ w.lines) (link : Link) (device : ℕ) (name : Name) where
+  pub wants : (change : Change) → Calls (IsMade link device name change) (sight_of tells files faults w) link (Ok answers.NoMemory) (sight_of tells files faults (record w { lines = lines }))
   wants change = rw same (calls-once (Moves (IsAt device name.hash)) (IsMade link device name change) (made-step link device name change)
-      (sight_of tells holds faults w) (sight_of tells holds faults w) link answers.NoMemory (wanting link device name change (sight_of tells holds faults w)))
+      (sight_of tells files faults w) (sight_of tells files faults w) link answers.NoMemory (wanting link device name change (sight_of tells files faults w)))
 
-  pub wants-read : Calls (IsRead link device name) (sight_of tells holds faults w) link (Ok gots.NoMemory) (sight_of tells holds faults (record w { lines = lines }))
+  pub wants-read : Calls (IsRead link device name) (sight_of tells files faults w) link (Ok gots.NoMemory) (sight_of tells files faults (record w { lines = lines }))
   wants-read = rw same (calls-once (Moves (IsAt device name.hash)) (IsRead link device name) (read-step link device name)
-      (sight_of tells holds faults w) (sight_of tells holds faults w) link gots.NoMemory (wanting-read link device name (sight_of tells holds faults w)))
+      (sight_of tells files faults w) (sight_of tells files faults w) link gots.NoMemory (wanting-read link device name (sight_of tells files faults w)))
 
 -- there is room for one more, where reserving it didn't fail
 pub reserved : {T E : Type 0} (r : Result T E) (len capacity : ℕ) → is_err r ≡ false → OnOk r (len + 1 ≤ capacity) → len < capacity

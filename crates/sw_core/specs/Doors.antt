@@ -1,14 +1,14 @@
 -- How a door that is alone stands for the machine: each of its steps is one of the machine's. (This project's own.)
-use Rattle.std.specs.Prelude.{◌≡◌, ℕ, true, List, Some, map}
+use Rattle.std.specs.Prelude.{◌≡◌, ℕ, Bool, true, List, Some, map}
 use Rattle.sw_hashpath.specs.declared.name.Name.{Name}
 use Rattle.sw_peer.specs.Journals.{Hash}
-use Rattle.sw_peer.specs.Sights.{IsMade, IsRead, Restarts, Sight}
+use Rattle.sw_peer.specs.Sights.{IsListed, IsMade, IsRead, Restarts, Sight}
 use Rattle.sw_peer.specs.declared.answer.Answer.{Answer}
 use Rattle.sw_peer.specs.declared.change.Change.{Change}
 use Rattle.sw_peer.specs.declared.got.Got.{Got}
 use Rattle.sw_peer.specs.declared.line.Line.{Line}
 use Rattle.sw_peer.specs.declared.link.Link.{Link}
-use Rattle.sw_core.specs.Machine.{Came, Machine, MachineMakes, MachineReads, MachineRestarts, Runs, state}
+use Rattle.sw_core.specs.Machine.{Came, Machine, MachineLists, MachineMakes, MachineReads, MachineRestarts, Runs, state}
 
 -- the devices hold what reached, and their journals are the machine's
 pub record StandsFor (s : Sight) (m : Machine) : Type 0 where
@@ -27,6 +27,11 @@ abbrev pub ReadRuns : Type 0
 ReadRuns = (link : Link) (device : ℕ) (name : Name) (s : Sight) (got : Got) (t : Sight) (m : Machine)
     → StandsFor s m → t.alone ≡ true → (read : IsRead link device name s got t)
     → (after : Machine) × MachineReads s.nodes.lock m device name got read.step.added after × StandsFor t after
+
+-- so is a listing of all files of a device
+abbrev pub ListingRuns : Type 0
+ListingRuns = (device : ℕ) (failed : Bool) (s t : Sight) (m : Machine) → StandsFor s m → IsListed device failed s t
+    → (after : Machine) × MachineLists s.nodes.lock m device failed after × StandsFor t after
 
 -- so is a restart
 abbrev pub RestartRuns : Type 0

@@ -5,17 +5,16 @@ use Rattle.sw_peer.specs.declared.answer.Answer.{Answer}
 use Rattle.sw_peer.specs.declared.answer.Answer.TheVariants as answers
 use Rattle.sw_peer.specs.declared.entry.ObjEntry.{ObjEntry}
 use Rattle.sw_peer.specs.declared.line.Event.{Event}
-use Rattle.sw_peer.specs.declared.line.Event.TheVariants.{Changed, Read}
+use Rattle.sw_peer.specs.declared.line.Event.TheVariants.{Changed, Listed, Read, Restarted}
 use Rattle.sw_state.specs.States.{state_of}
 use Rattle.sw_state.specs.declared.write.Write.{Write}
-use Rattle.sw_core.specs.Machine.{Came, Machine, Restarted, RunLine, Runs, Went, empty_machine, state}
+use Rattle.sw_core.specs.Machine.{Came, Machine, RunLine, Runs, Went, state}
 
 -- the writes of a hash that reached a device, as the entries of the lines tell
 abbrev pub told_by : List RunLine → ℕ → Hash → List Write
 told_by [] device hash = []
 told_by (Came line ∷ lines) device hash = (if nat_eq line.device device then written hash line.added else []) ++ told_by lines device hash
 told_by (Went from message ∷ lines) device hash = told_by lines device hash
-told_by (Restarted d ∷ lines) device hash = told_by lines device hash
 
 abbrev pub is_failed : Answer → Bool
 is_failed (answers.Done front) = false
@@ -29,22 +28,18 @@ is_failed (answers.Damaged bad) = false
 is_failed answers.Failed = true
 is_failed answers.NoMemory = false
 
--- the hash of the name that the step is of
-abbrev pub hash_in : Event → Hash
-hash_in (Changed name change answer) = name.hash
-hash_in (Read name got) = name.hash
-
 -- whether a changing step failed
 abbrev pub has_failed : Event → Bool
 has_failed (Changed name change answer) = is_failed answer
 has_failed (Read name got) = false
+has_failed (Listed failed) = false
+has_failed Restarted = false
 
 -- no changing step failed
 abbrev pub NoneFailed : List RunLine → Type 0
 NoneFailed [] = ⊤
 NoneFailed (Came line ∷ lines) = (has_failed line.event ≡ false) × NoneFailed lines
 NoneFailed (Went from message ∷ lines) = NoneFailed lines
-NoneFailed (Restarted d ∷ lines) = NoneFailed lines
 
 -- no lock has a doubt
 abbrev pub NoDoubts : (ℕ → Hash → ℕ) → Machine → Type 0
@@ -60,23 +55,29 @@ abbrev pub RunStands : Type 0
 RunStands = (lock : ℕ → Hash → ℕ) (m : Machine) (lines : List RunLine) (after : Machine) → Runs lock m lines after → NoDoubts lock m → NoneFailed lines
     → (device : ℕ) (hash : Hash) → state after device hash ≡ state_of (m.reached device hash ++ told_by lines device hash)
 
--- after a run from nothing without failures there has reached what its lines tell, and nothing else
-abbrev pub RunFromNothing : Type 0
-RunFromNothing = (lock : ℕ → Hash → ℕ) (lines : List RunLine) (after : Machine) → Runs lock empty_machine lines after → NoneFailed lines
-    → (device : ℕ) (hash : Hash) → after.reached device hash ≡ told_by lines device hash
+-- whether the entries of an event at a device came to a lock
+abbrev pub is_entered_at : (ℕ → Hash → ℕ) → ℕ → Event → ℕ → Bool
+is_entered_at lock device (Changed name change answer) l = nat_eq (lock device name.hash) l
+is_entered_at lock device (Read name got) l = nat_eq (lock device name.hash) l
+is_entered_at lock device (Listed failed) l = false
+is_entered_at lock device Restarted l = false
 
 -- the entries that the lines added to a lock's journal
 abbrev pub entered_by : (ℕ → Hash → ℕ) → List RunLine → ℕ → List ObjEntry
 entered_by lock [] l = []
-entered_by lock (Came line ∷ lines) l = (if nat_eq (lock line.device (hash_in line.event)) l then line.added else []) ++ entered_by lock lines l
+entered_by lock (Came line ∷ lines) l = (if is_entered_at lock line.device line.event l then line.added else []) ++ entered_by lock lines l
 entered_by lock (Went from message ∷ lines) l = entered_by lock lines l
-entered_by lock (Restarted d ∷ lines) l = entered_by lock lines l
+
+abbrev pub is_restart : Event → Bool
+is_restart (Changed name change answer) = false
+is_restart (Read name got) = false
+is_restart (Listed failed) = false
+is_restart Restarted = true
 
 abbrev pub NoneRestarted : List RunLine → Type 0
 NoneRestarted [] = ⊤
-NoneRestarted (Came line ∷ lines) = NoneRestarted lines
+NoneRestarted (Came line ∷ lines) = (is_restart line.event ≡ false) × NoneRestarted lines
 NoneRestarted (Went from message ∷ lines) = NoneRestarted lines
-NoneRestarted (Restarted d ∷ lines) = ⊥
 
 -- where no device was restarted, a journal grows by the entries that the lines added to it, failed steps or not: so its front is the
 -- number of those

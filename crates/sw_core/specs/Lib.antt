@@ -1,8 +1,11 @@
 pub mod Doors
 pub mod Laws
+pub mod Lifting
 pub mod Limits
+pub mod Lines
+pub mod Listing
 pub mod Machine
-pub mod Nodes
-pub mod Shelves
+pub mod Making
 pub mod Stepping
+pub mod Stopping
 pub mod Worlds

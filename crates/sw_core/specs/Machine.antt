@@ -4,7 +4,9 @@ use Rattle.std.specs.Prelude.{◌≡◌, ◌≢◌, ⊤, ℕ, ◌≤◌, Bool, t
 use Rattle.std.specs.Str.{bytes_eq}
 use Rattle.sw_core.specs.Limits.{empty_journal}
 use Rattle.sw_hashpath.specs.declared.name.Name.{Name}
+use Rattle.sw_outside.specs.Faults.{HasRisen}
 use Rattle.sw_peer.specs.Histories.{History, StepChanges, StepReads}
+use Rattle.sw_peer.specs.Sights.{Sight}
 use Rattle.sw_peer.specs.Journals.{Hash}
 use Rattle.sw_peer.specs.Steps.{write_of}
 use Rattle.sw_peer.specs.declared.answer.Answer.{Answer}
@@ -13,7 +15,7 @@ use Rattle.sw_peer.specs.declared.change.Change.TheVariants.{Receive}
 use Rattle.sw_peer.specs.declared.entry.ObjEntry.{ObjEntry}
 use Rattle.sw_peer.specs.declared.got.Got.{Got}
 use Rattle.sw_peer.specs.declared.line.Event.{Event}
-use Rattle.sw_peer.specs.declared.line.Event.TheVariants.{Changed, Read}
+use Rattle.sw_peer.specs.declared.line.Event.TheVariants.{Changed, Listed, Read, Restarted}
 use Rattle.sw_peer.specs.declared.line.Line.{Line}
 use Rattle.sw_peer.specs.declared.link.Link.{Link}
 use Rattle.sw_peer.specs.declared.link.Link.TheVariants.{Local, Sent}
@@ -36,9 +38,9 @@ pub record Machine : Type 0 where
 abbrev pub empty_history : History
 empty_history = record { told = true; opening = λ hash. state_of []; journal = empty_journal; faults = 0 }
 
--- the machine in which nothing has happened
-abbrev pub empty_machine : Machine
-empty_machine = record { reached = λ device hash. []; seen = λ l. empty_history; sent = [] }
+-- the machine in which nothing has happened but what stands at the nodes
+abbrev pub machine_of : Sight → Machine
+machine_of s = record { reached = λ device hash. writes_of (s.objects.holds device hash); seen = s.objects.seen; sent = [] }
 
 -- what a hash stands for at a device
 abbrev pub state : Machine → ℕ → Hash → State
@@ -51,11 +53,10 @@ reached_with reached device hash ws d k = if nat_eq device d && bytes_eq hash k 
 abbrev pub made_writes : Change → Bool → List Write
 made_writes change made = if made then write_of change ∷ [] else []
 
--- a line of a run: a step that came to a device, a message that was sent, or a restart
+-- a line of a run: what came to a device, or a message that was sent
 pub data RunLine : Type 0 where
   Came : (line : Line) → RunLine
   Went : (from : ℕ) (message : Message) → RunLine
-  Restarted : (device : ℕ) → RunLine
 
 module _ (lock : ℕ → Hash → ℕ) where
   -- a step that may change something: that of the lock's history, with what reached in place of what is held
@@ -79,11 +80,6 @@ module _ (lock : ℕ → Hash → ℕ) where
   MayCome m Local device name change = ⊤
   MayCome m Sent device name change = (w : Write) × (change ≡ Receive w) × Contains m.sent (record { to = device; name = name; write = w })
 
-  -- a step that comes to a device over this link
-  abbrev pub MachineComes : Machine → Link → ℕ → Event → List ObjEntry → Machine → Type 0
-  MachineComes m link device (Changed name change answer) added after = MayCome m link device name change × MachineMakes m device name change answer added after
-  MachineComes m link device (Read name got) added after = MachineReads m device name got added after
-
   -- each lock of a device begins anew with what reached
   pub record MachineRestarts (m : Machine) (device : ℕ) (after : Machine) : Type 0 where
     pub told : (k : Hash) → (after.seen (lock device k)).told ≡ (m.seen (lock device k)).told
@@ -97,6 +93,22 @@ module _ (lock : ℕ → Hash → ℕ) where
     pub reached : (d : ℕ) (k : Hash) → after.reached d k ≡ m.reached d k
     pub sent : after.sent ≡ m.sent
 
+  -- the files of all locks of a device were listed: nothing changed but counts of faults, one of which has risen where that failed
+  pub record MachineLists (m : Machine) (device : ℕ) (failed : Bool) (after : Machine) : Type 0 where
+    pub same : (l : ℕ) → after.seen l ≡ record (m.seen l) { faults = (after.seen l).faults }
+    pub later : (l : ℕ) → (m.seen l).faults ≤ (after.seen l).faults
+    pub elsewhere : (d : ℕ) (k : Hash) → d ≢ device → after.seen (lock d k) ≡ m.seen (lock d k)
+    pub risen : failed ≡ true → (l : ℕ) × HasRisen (m.seen l).faults (after.seen l).faults
+    pub reached : (d : ℕ) (k : Hash) → after.reached d k ≡ m.reached d k
+    pub sent : after.sent ≡ m.sent
+
+  -- what comes to a device over this link
+  abbrev pub MachineComes : Machine → Link → ℕ → Event → List ObjEntry → Machine → Type 0
+  MachineComes m link device (Changed name change answer) added after = MayCome m link device name change × MachineMakes m device name change answer added after
+  MachineComes m link device (Read name got) added after = MachineReads m device name got added after
+  MachineComes m link device (Listed failed) added after = (added ≡ []) × MachineLists m device failed after
+  MachineComes m link device Restarted added after = (added ≡ []) × MachineRestarts m device after
+
   -- a device sends a write that it stands for
   pub record MachineSends (m : Machine) (from : ℕ) (message : Message) (after : Machine) : Type 0 where
     pub carried : Contains (writes_of (state m from message.name.hash)) message.write
@@ -108,7 +120,6 @@ module _ (lock : ℕ → Hash → ℕ) where
   abbrev pub Steps : Machine → RunLine → Machine → Type 0
   Steps m (Came line) after = MachineComes m line.link line.device line.event line.added after
   Steps m (Went from message) after = MachineSends m from message after
-  Steps m (Restarted device) after = MachineRestarts m device after
 
   -- the steps of these lines, one after another
   abbrev pub Runs : Machine → List RunLine → Machine → Type 0

@@ -1,81 +1,216 @@
 -- What a world is, and what its user knows of its nodes. (This project's own.)
-use Rattle.std.specs.Prelude.{◌≡◌, ⊤, ℕ, ◌+◌, ◌*◌, ◌%◌, ◌^◌, ◌<◌, ◌≤◌, ◌⊎◌, Bool, true, false, List, [], length, Option, Some, None}
-use Rattle.std.specs.List.{slice_get}
-use Rattle.sw_core.specs.Doors.{StandsFor}
-use Rattle.sw_core.specs.Machine.{empty_history, empty_machine}
-use Rattle.sw_core.specs.Nodes.{Kept, anew, history_of}
+use Rattle.std.specs.Prelude.{◌≡◌, ⊤, ℕ, ◌+◌, ◌*◌, ◌%◌, ◌^◌, ◌<◌, ◌≤◌, ◌⊎◌, Bool, true, false, ◌&&◌, nat_le, nat_lt, List, [], ◌∷◌, ◌++◌, length, map, Option}
+use Rattle.std.specs.Prelude.{Some, None, is_none, IsSome}
+use Rattle.std.specs.List.{flat_map, slice_get}
+use Rattle.std.specs.Str.{bytes_eq}
+use Rattle.std.specs.declared.alloc.Global.{Global}
+use Rattle.std.specs.declared.vec.Vec.{Vec}
+use Rattle.sw_core.specs.Limits.{journal_bytes, journal_entries}
+use Rattle.sw_core.specs.Machine.{empty_history}
+use Rattle.sw_core.specs.declared.slot.Slot.{Slot}
+use Rattle.sw_core.specs.declared.slot.Slot.TheVariants as slots
+use Rattle.sw_hashpath.specs.BadNames.{bad_name}
 use Rattle.sw_hashpath.specs.HashParts.{stripe_of}
+use Rattle.sw_hashpath.specs.Paths.{hash_of}
+use Rattle.sw_hashpath.specs.declared.name.Name.{Name}
 use Rattle.sw_hashpath.specs.declared.place.Place.{Place}
+use Rattle.sw_hashpath.specs.declared.secrets.Secrets.{Secrets}
+use Rattle.sw_hashdir.specs.Places.{in_order}
+use Rattle.sw_objdir.specs.Directories.{Kept, held, history_of, is_told, started}
 use Rattle.sw_peer.specs.Halves.{HistoryOf}
 use Rattle.sw_peer.specs.Histories.{History}
 use Rattle.sw_peer.specs.Journals.{Hash}
 use Rattle.sw_peer.specs.Sights.{Nodes, Sight}
+use Rattle.sw_peer.specs.declared.line.Event.TheVariants.{Restarted}
 use Rattle.sw_peer.specs.declared.line.Line.{Line}
+use Rattle.sw_peer.specs.declared.link.Link.TheVariants.{Local}
+use Rattle.sw_ring.specs.declared.ring.Ring.{Ring}
 use Rattle.sw_state.specs.States.{state_of}
 use Rattle.sw_state.specs.declared.state.State.{State}
+use Rattle.sw_volume.specs.Tree.{Folders}
 
 pub record AllNodes (V : Type 0) : Type 0 where
   pub devices : ℕ
   pub lock_bits : ℕ
-  pub nodes : List (Kept V)  -- one a lock
-  pub lines : List Line  -- of the steps that came since they were last taken
+  pub power : ℕ
+  pub secrets : Secrets
+  pub slots : List (Slot V)  -- one a lock
+  pub lines : List Line  -- of what came since they were last taken
+  pub lifted : Option ℕ  -- the device whose volumes are out
+
+-- ---- places
 
 -- the lock of a hash at a device: those of a device stand together, one a stripe. The hash of a name is 16 bytes, so that its stripe is
 -- below 2 to the lock bits, and the remainder is the stripe itself
 abbrev pub lock_of : ℕ → ℕ → Hash → ℕ
 lock_of lock_bits device hash = device * 2 ^ lock_bits + stripe_of hash lock_bits % 2 ^ lock_bits
 
--- every name fits
-abbrev pub nodes_of : ℕ → ℕ → Nodes
-nodes_of devices lock_bits = record { devices = devices; fits = λ name. true; lock = lock_of lock_bits }
+-- the first lock of a device, and the place past its last one
+abbrev pub first_of : ℕ → ℕ → ℕ
+first_of lock_bits device = device * 2 ^ lock_bits
 
--- the history of a node; past all nodes one in which nothing has happened
-abbrev pub seen_of : {V : Type 0} → (V → Bool) → (V → Hash → State) → (V → ℕ) → Option (Kept V) → History
-seen_of tells holds faults None = empty_history
-seen_of tells holds faults (Some k) = history_of tells holds faults k
+abbrev pub past_of : ℕ → ℕ → ℕ
+past_of lock_bits device = device * 2 ^ lock_bits + 2 ^ lock_bits
 
--- what a hash stands for at a node
-abbrev pub held_of : {V : Type 0} → (V → Hash → State) → Option (Kept V) → Hash → State
-held_of holds None hash = state_of []
-held_of holds (Some k) hash = holds k.shelf hash
+-- whether a lock is one of the device that is out
+abbrev pub is_out : ℕ → Option ℕ → ℕ → Bool
+is_out lock_bits None l = false
+is_out lock_bits (Some device) l = nat_le (first_of lock_bits device) l && nat_lt l (past_of lock_bits device)
 
--- no node keeps a container
-abbrev pub no_containers : HistoryOf Place ⊤ ⊥
-no_containers = record { told = false; opening = λ place. tt; journal = record { entries = []; doubts = []; max_entries = 0; max_bytes = 0 }; faults = 0 }
+-- the journal has the limits of every object lock
+abbrev pub HasLimits : {V : Type 0} → Kept V → Type 0
+HasLimits k = (k.journal.max_entries ≡ journal_entries) × (k.journal.max_bytes ≡ journal_bytes)
 
-abbrev pub sight_of : {V : Type 0} → (V → Bool) → (V → Hash → State) → (V → ℕ) → AllNodes V → Sight
-sight_of tells holds faults w = record {
-  nodes = nodes_of w.devices w.lock_bits;
-  objects = record {
-    seen = λ l. seen_of tells holds faults (slice_get w.nodes l);
-    holds = λ d hash. held_of holds (slice_get w.nodes (lock_of w.lock_bits d hash)) hash;
-  };
-  containers = record { seen = λ l. no_containers; holds = λ d place. tt };
-  alone = true;
-  faults = 0;
-  asks = 0;
-  trail = Some w.lines;
-}
-
--- the same nodes, with no lines
-abbrev pub without_lines : {V : Type 0} → AllNodes V → AllNodes V
-without_lines w = record w { lines = [] }
+-- what stands at a lock: an open directory of these secrets and this part power, or those secrets alone
+abbrev pub IsSlot : {V : Type 0} → Secrets → ℕ → Bool → Option (Slot V) → Type 0
+IsSlot {V} secrets power false slot = (k : Kept V) × (slot ≡ Some (slots.Open k)) × (k.secrets ≡ secrets) × (k.power ≡ power) × HasLimits k
+IsSlot secrets power true slot = slot ≡ Some (slots.Lifted secrets)
 
 -- so many devices, of which each has so many locks
 pub record IsWorld {V : Type 0} (w : AllNodes V) : Type 0 where
   pub devices : w.devices ≤ 256
   pub lock_bits : w.lock_bits ≤ 4
-  pub nodes : length w.nodes ≡ w.devices * 2 ^ w.lock_bits
+  pub least : 1 ≤ w.power
+  pub greatest : w.power ≤ 32
+  pub count : length w.slots ≡ w.devices * 2 ^ w.lock_bits
+  pub out : (device : ℕ) → w.lifted ≡ Some device → device < w.devices
+  pub slots : (l : ℕ) → l < length w.slots → IsSlot w.secrets w.power (is_out w.lock_bits w.lifted l) (slice_get w.slots l)
 
--- the nodes from one place on, up to another, began anew, and told as they told
-pub record AreAnew {V : Type 0} (tells : V → Bool) (first past : ℕ) (old new : List (Kept V)) : Type 0 where
-  pub within : (l : ℕ) → first ≤ l → l < past → (k : Kept V) → slice_get old l ≡ Some k → (slice_get new l ≡ Some (anew k)) × (tells k.shelf ≡ tells k.began)
+-- ---- what its user knows
+
+-- whether a name is a good one, and its hash that of its path under these secrets
+abbrev pub is_hashed : Secrets → Name → Bool
+is_hashed secrets name =
+    bytes_eq (hash_of secrets name.account (Some name.container) (Some name.object)) name.hash
+    && is_none (bad_name name.account (Some name.container) (Some name.object))
+
+abbrev pub nodes_of : ℕ → ℕ → ℕ → Secrets → Nodes
+nodes_of devices lock_bits power secrets =
+    record { devices = devices; lock_bits = lock_bits; power = power; secrets = secrets; fits = is_hashed secrets; lock = lock_of lock_bits }
+
+-- how many devices may be asked: none while one is out
+abbrev pub shown : Option ℕ → ℕ → ℕ
+shown None devices = devices
+shown (Some device) devices = 0
+
+-- no node keeps a container
+abbrev pub no_containers : HistoryOf Place ⊤ ⊥
+no_containers = record { told = false; opening = λ place. tt; journal = record { entries = []; doubts = []; max_entries = 0; max_bytes = 0 }; faults = 0 }
+
+module _ {V : Type 0} (tells : V → Bool) (files : V → Folders) (faults : V → ℕ) where
+  -- the history of a lock; where no directory is open one in which nothing has happened
+  abbrev pub seen_of : Option (Slot V) → History
+  seen_of (Some (slots.Open k)) = history_of tells files faults k
+  seen_of (Some (slots.Lifted secrets)) = empty_history
+  seen_of (Some slots.Empty) = empty_history
+  seen_of None = empty_history
+
+  -- what a hash stands for at a lock
+  abbrev pub held_of : Option (Slot V) → Hash → State
+  held_of (Some (slots.Open k)) hash = held tells files faults k hash
+  held_of (Some (slots.Lifted secrets)) hash = state_of []
+  held_of (Some slots.Empty) hash = state_of []
+  held_of None hash = state_of []
+
+  abbrev pub sight_of : AllNodes V → Sight
+  sight_of w = record {
+    nodes = nodes_of (shown w.lifted w.devices) w.lock_bits w.power w.secrets;
+    objects = record {
+      seen = λ l. seen_of (slice_get w.slots l);
+      holds = λ d hash. held_of (slice_get w.slots (lock_of w.lock_bits d hash)) hash;
+    };
+    containers = record { seen = λ l. no_containers; holds = λ d place. tt };
+    alone = true;
+    faults = 0;
+    asks = 0;
+    trail = Some w.lines;
+  }
+
+-- ---- beginning and ending
+
+-- the nodes of a ring over these volumes, in which nothing has happened
+abbrev pub opened : {V : Type 0} → Ring → List V → AllNodes V
+opened ring volumes = record {
+  devices = length ring.devices;
+  lock_bits = ring.lock_bits;
+  power = ring.power;
+  secrets = ring.secrets;
+  slots = map (λ v. slots.Open (started v ring.secrets ring.power journal_entries journal_bytes)) volumes;
+  lines = [];
+  lifted = None;
+}
+
+-- the volume of a lock, where it is there
+abbrev pub volume_in : {V : Type 0} → Slot V → List V
+volume_in (slots.Open k) = k.volume ∷ []
+volume_in (slots.Lifted secrets) = []
+volume_in slots.Empty = []
+
+-- the volumes that are there, in the order of their locks
+abbrev pub volumes_of : {V : Type 0} → AllNodes V → List V
+volumes_of w = flat_map volume_in w.slots
+
+-- the same nodes, with no lines
+abbrev pub without_lines : {V : Type 0} → AllNodes V → AllNodes V
+without_lines w = record w { lines = [] }
+
+-- of the same devices, secrets and places, none of which is out that wasn't
+pub record IsSameWorld {V : Type 0} (old new : AllNodes V) : Type 0 where
+  pub devices : new.devices ≡ old.devices
+  pub lock_bits : new.lock_bits ≡ old.lock_bits
+  pub power : new.power ≡ old.power
+  pub secrets : new.secrets ≡ old.secrets
+  pub lifted : new.lifted ≡ old.lifted
+
+-- ---- lifting and setting down
+
+-- the directories from one lock on, up to another, were taken out, and their volumes given
+pub record AreLifted {V : Type 0} (first past : ℕ) (old new : List (Slot V)) (given : List V) : Type 0 where
+  pub within : (l : ℕ) (k : Kept V) → first ≤ l → l < past → slice_get old l ≡ Some (slots.Open k) → slice_get new l ≡ Some (slots.Lifted k.secrets)
+  pub gives : (i : ℕ) (k : Kept V) → first + i < past → slice_get old (first + i) ≡ Some (slots.Open k) → slice_get given i ≡ Some k.volume
   pub outside : (l : ℕ) → (l < first) ⊎ (past ≤ l) → slice_get new l ≡ slice_get old l
   pub count : length new ≡ length old
+  pub amount : first + length given ≡ past
 
--- nodes in which nothing has happened
-pub record Begins (devices lock_bits : ℕ) (s : Sight) : Type 0 where
-  pub nodes : s.nodes ≡ nodes_of devices lock_bits
-  pub stands : StandsFor s empty_machine
-  pub alone : s.alone ≡ true
-  pub trail : s.trail ≡ Some []
+-- a directory that told its contents, and was in order, does so still
+abbrev pub TellsOn : {V : Type 0} → (V → Bool) → (V → Folders) → (V → ℕ) → Kept V → Type 0
+TellsOn tells files faults k = is_told tells files faults k ≡ true → (tells k.volume && in_order k.secrets k.power (files k.volume)) ≡ true
+
+-- a volume was put in at one lock, where one was out
+abbrev pub IsSetDown : {V : Type 0} → ℕ → V → Slot V → Slot V → Type 0
+IsSetDown power v (slots.Lifted secrets) new = new ≡ slots.Open (started v secrets power journal_entries journal_bytes)
+IsSetDown power v (slots.Open k) new = new ≡ slots.Open k
+IsSetDown power v slots.Empty new = new ≡ slots.Empty
+
+-- these volumes were put in from one lock on, each as a directory that begins anew
+pub record AreSetDown {V : Type 0} (power first : ℕ) (volumes : List V) (old new : List (Slot V)) : Type 0 where
+  pub within : (i : ℕ) (v : V) (secrets : Secrets) → slice_get volumes i ≡ Some v → slice_get old (first + i) ≡ Some (slots.Lifted secrets)
+      → slice_get new (first + i) ≡ Some (slots.Open (started v secrets power journal_entries journal_bytes))
+  pub outside : (l : ℕ) → (l < first) ⊎ (first + length volumes ≤ l) → slice_get new l ≡ slice_get old l
+  pub count : length new ≡ length old
+
+-- a device of a world was lifted, and these are the volumes of its locks
+pub record Lifts {V : Type 0} (tells : V → Bool) (files : V → Folders) (faults : V → ℕ) (old : AllNodes V) (device : ℕ) (given : List V) (new : AllNodes V)
+    : Type 0 where
+  pub world : IsWorld old
+  pub whole : old.lifted ≡ None
+  pub is_device : device < old.devices
+  pub lifted : AreLifted (first_of old.lock_bits device) (past_of old.lock_bits device) old.slots new.slots given
+  pub told : (l : ℕ) (k : Kept V) → first_of old.lock_bits device ≤ l → l < past_of old.lock_bits device → slice_get old.slots l ≡ Some (slots.Open k)
+      → TellsOn tells files faults k
+  pub rest : new ≡ record old { slots = new.slots; lifted = Some device }
+
+abbrev pub restart_line : ℕ → Line
+restart_line device = record { device = device; link = Local; event = Restarted; added = [] }
+
+-- it was set down over these volumes
+pub record SetsDown {V : Type 0} (old : AllNodes V) (device : ℕ) (volumes : List V) (new : AllNodes V) : Type 0 where
+  pub down : AreSetDown old.power (first_of old.lock_bits device) volumes old.slots new.slots
+  pub rest : new ≡ record old { slots = new.slots; lines = old.lines ++ restart_line device ∷ []; lifted = None }
+
+-- there is room for the volumes of all locks, and, while a device is out, for the line of its restart
+pub record HasRoom {V : Type 0} (slots : List (Slot V)) (room : Vec V Global) (lines spare : Vec Line Global) (lifted : Option ℕ) : Type 0 where
+  pub empty : room.items ≡ []
+  pub wide : length slots ≤ room.cap
+  pub spared : IsSome lifted → (spare.items ≡ []) × (1 ≤ spare.cap)
+  pub line : IsSome lifted → (lines.items ≡ []) ⊎ (length lines.items < lines.cap)

@@ -1,7 +1,10 @@
 //! Laws of runs. Each function does nothing: its clause is the law.
 
-ghost use Rattle.sw_core.specs.Doors.{ChangeRuns, ReadRuns, RestartRuns};
-ghost use Rattle.sw_core.specs.Laws.{RunEnters, RunFromNothing, RunReaches, RunSound, RunStands, RunsJoin};
+ghost use Rattle.sw_core.specs.Doors.{ChangeRuns, ListingRuns, ReadRuns, RestartRuns};
+ghost use Rattle.sw_core.specs.Lifting.{LiftingRestarts};
+ghost use Rattle.sw_core.specs.Laws.{RunEnters, RunReaches, RunSound, RunStands, RunsJoin};
+
+use sw_volume::Volume;
 
 /// After a run in which no step failed, there have reached what had reached before it, and then what its lines tell.
 pub fn run_reaches()
@@ -11,11 +14,6 @@ pub fn run_reaches()
 /// And each device stands for the state of that.
 pub fn run_stands()
     ensures { RunStands }
-{}
-
-/// After such a run from nothing there has reached what its lines tell, and nothing else.
-pub fn run_from_nothing()
-    ensures { RunFromNothing }
 {}
 
 /// A journal grows by the entries that the lines added to it.
@@ -38,6 +36,11 @@ pub fn read_runs()
     ensures { ReadRuns }
 {}
 
+/// So is a listing of all files of a device.
+pub fn listing_runs()
+    ensures { ListingRuns }
+{}
+
 /// So is a restart.
 pub fn restart_runs()
     ensures { RestartRuns }
@@ -46,4 +49,9 @@ pub fn restart_runs()
 /// Where no lock has counted a fault at the end, no step failed.
 pub fn run_sound()
     ensures { RunSound }
+{}
+
+/// A device that is lifted, and set down over the volumes that were given, was restarted.
+pub fn lifting_restarts<V: Volume + Drop>()
+    ensures { LiftingRestarts V.tells V.holds V.faults }
 {}

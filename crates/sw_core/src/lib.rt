@@ -1,12 +1,13 @@
-//! The cluster: all nodes, and the steps that were made of them.
+//! The cluster: all nodes, and what came to them.
 //!
-//! A [`World`] is all nodes of all devices, each over a [`Shelf`] of states, and is a door (`sw_peer`): each call is one step at one
-//! device, and the world keeps a line of it. [`run_steps`] makes a list of steps by the same calls. A [`Node`] is one lock of a device:
-//! what its shelf holds, its journal with two limits, and the doubt that a failing call leaves, which the next step settles.
-//! `specs/Machine.antt` has the machine: what reached each device, and what its journals have.
+//! A [`World`] is all nodes of all devices of a ring, each object lock an object directory (`sw_objdir`) over a volume of its own, and is a
+//! door (`sw_peer`): each call is one step at one device, and the world keeps a line of it. A device is restarted by [`World::lift`], which
+//! gives its volumes, and [`World::set_down`], which begins anew on them. [`run_steps`] makes a list of steps by the same calls.
+//! `specs/Machine.antt` has the machine: what reached each device, and what the journals of its locks have.
 //!
-//! What is promised: each step of the world is one of the machine, with failing calls, full journals and restarts; and where no step
-//! failed, at each device each hash stands for exactly the state of the writes that reached it, which the entries of the lines tell.
+//! What is promised: each step of the world is one of the machine, with calls that fail, full journals and restarts, so that the files of
+//! each hash at each device stand for the state of the writes that reached it; and where no step failed, the entries of the lines tell
+//! these writes.
 //!
 //! The next layer up is `sw_cluster`, which answers requests over the world and writes its trail.
 #![tactic(auto)]
@@ -14,21 +15,17 @@
 pub mod laws;
 mod limits;
 mod lines;
-mod mem_shelf;
-mod node;
+mod making;
+mod parts;
 mod run;
-mod shelf;
-mod sound_shelf;
+mod slot;
 mod step;
 mod trail;
 mod world;
 
 pub use lines::LineList;
-pub use mem_shelf::MemShelf;
-pub use node::Node;
+pub use parts::Parts;
 pub use run::run_steps;
-pub use shelf::Shelf;
-pub use sound_shelf::SoundShelf;
 pub use step::Step;
 pub use trail::{MomentList, Trail};
 pub use world::World;

@@ -2,12 +2,12 @@ ghost use Rattle.std.specs.Prelude.{◌≡◌, []};
 
 use std::alloc::Global;
 use std::marker::Model;
-use sw_peer::Line;
+use sw_peer::KeptLine;
 
-/// The steps that came, in order. Contracts see the list of their lines.
+/// What came to the devices, in order: steps, listings of all files and restarts. Contracts see the list of their lines.
 #[derive(Drop)]
 pub struct LineList {
-    vec: Vec<Line>,
+    vec: Vec<KeptLine>,
 }
 
 impl Model for LineList {
@@ -29,7 +29,7 @@ impl LineList {
         }
     }
 
-    pub fn as_slice(&self) -> &[Line]
+    pub fn as_slice(&self) -> &[KeptLine]
         ensures { result.now ≡ self.now }
     {
         &self.vec
@@ -37,19 +37,19 @@ impl LineList {
 }
 
 /// Moves the lines: no memory is taken.
-impl From<Vec<Line>> for LineList {
+impl From<Vec<KeptLine>> for LineList {
     ghost from_gives = { λ vec list. list ≡ vec.items };
 
-    fn from(vec: Vec<Line>) -> LineList {
+    fn from(vec: Vec<KeptLine>) -> LineList {
         LineList { vec }
     }
 }
 
 /// Gives the lines back: no memory is taken.
-impl From<LineList> for Vec<Line> {
+impl From<LineList> for Vec<KeptLine> {
     ghost from_gives = { λ list vec. vec.items ≡ list };
 
-    fn from(list: LineList) -> Vec<Line> {
+    fn from(list: LineList) -> Vec<KeptLine> {
         list.vec
     }
 }

@@ -16,6 +16,10 @@ pub enum Step {
         device: u8,
         name: Name,
     },
+    /// A listing of all files of a device.
+    List {
+        device: u8,
+    },
     /// A restart of a device.
     Restart {
         device: u8,

@@ -1,83 +1,122 @@
-ghost use Rattle.std.specs.Prelude.{◌≡◌, ◌*◌, ◌<◌, ◌≤◌, ◌^◌, [], length, map, All, IfOk};
-ghost use Rattle.sw_core.specs.Limits.{journal_bytes, journal_entries};
-ghost use Rattle.sw_core.specs.Nodes.{begun};
-ghost use Rattle.sw_core.specs.Shelves.{empty_sound, sound_faults, sound_holds, sound_tells};
-ghost use Rattle.sw_core.specs.Worlds.{AreAnew, Begins, lock_of, sight_of, without_lines};
-ghost use Rattle.sw_peer.specs.Sights.{Restarts};
+ghost use Rattle.std.specs.Prelude.{◌≡◌, ◌*◌, ◌<◌, ◌≤◌, ◌^◌, ◌⊎◌, false, [], length, Err, IfOk, IfErr, OnErr, None, Some};
+ghost use Rattle.sw_core.specs.Listing.{AreCalm, ListsFiles, is_failed};
+ghost use Rattle.sw_core.specs.Stopping.{Gives};
+ghost use Rattle.sw_core.specs.Worlds.{IsWorld, IsSameWorld, Lifts, SetsDown, lock_of, opened, sight_of, volumes_of, without_lines};
+ghost use Rattle.sw_peer.specs.Sights.{IsListed};
+ghost use Rattle.sw_volume.specs.declared.errors.VolumeError.TheVariants.{NoMemory as Wanting};
 
 mod door;
+mod listing;
+mod slots;
 
-use crate::limits::{JOURNAL_BYTES, JOURNAL_ENTRIES};
 use crate::lines::LineList;
-use crate::node::Node;
-use crate::shelf::Shelf;
-use crate::sound_shelf::SoundShelf;
+use crate::parts::Parts;
+use crate::slot::Slot;
+use crate::world::listing::files_in;
+use crate::world::slots::{
+    lift_slots, lifted_slots, line_of_listing, line_of_restart, make_room, open_slots, volumes_in,
+};
 use std::alloc::Global;
 use std::marker::Model;
 use std::mem;
-use sw_hashpath::stripe;
-use sw_outside::NoMemory;
-use sw_peer::Line;
+use sw_hashpath::{Secrets, stripe};
+use sw_outside::{BytesList, NoMemory};
+use sw_peer::KeptLine;
+use sw_ring::Ring;
+use sw_volume::{Volume, VolumeError};
 
-/// All nodes of all devices, which nobody else changes, and the lines of the steps that came to them.
+/// All nodes of all devices of a ring, which nobody else changes, and the lines of what came to them.
 ///
-/// A device has 2 to the `lock_bits` locks, and a name belongs to the one of its stripe.
+/// A device has 2 to the `lock_bits` object locks, each with a volume of its own, and a name belongs to the one of its stripe.
 #[derive(Drop)]
-pub struct World<V: Shelf> {
+pub struct World<V: Volume + Drop> {
     devices: u16,
     lock_bits: u8,
-    nodes: Vec<Node<V>>,
-    lines: Vec<Line>,
+    power: u8,
+    secrets: Secrets,
+    slots: Vec<Slot<V>>,
+    lines: Vec<KeptLine>,
+    lifted: Option<u8>,
+    /// Empty, with room for all volumes, so that giving them back takes no memory.
+    room: Vec<V>,
+    /// Empty, with room for one line while a device is out, so that setting it down takes none either.
+    spare: Vec<KeptLine>,
 }
 
-impl<V: Shelf> Model for World<V> {
-    ghost use Rattle.sw_core.specs.Worlds.{AllNodes, IsWorld};
+impl<V: Volume + Drop> Model for World<V> {
+    ghost use Rattle.sw_core.specs.Stopping.{Gives};
+    ghost use Rattle.sw_core.specs.Worlds.{IsWorld, AllNodes, HasRoom, IsWorld};
 
     ghost Value = { AllNodes V };
 
-    ghost view = { λ w. record { devices = w.devices; lock_bits = w.lock_bits; nodes = w.nodes.items; lines = w.lines.items } };
+    ghost view = { λ w. record {
+      devices = w.devices;
+      lock_bits = w.lock_bits;
+      power = w.power;
+      secrets = w.secrets;
+      slots = w.slots.items;
+      lines = w.lines.items;
+      lifted = w.lifted;
+    } };
 
-    ghost invariant = { λ w. IsWorld (record { devices = w.devices; lock_bits = w.lock_bits; nodes = w.nodes.items; lines = w.lines.items }) };
+    ghost invariant = { λ w. IsWorld (record {
+      devices = w.devices;
+      lock_bits = w.lock_bits;
+      power = w.power;
+      secrets = w.secrets;
+      slots = w.slots.items;
+      lines = w.lines.items;
+      lifted = w.lifted;
+    })
+        × HasRoom w.slots.items w.room w.lines w.spare w.lifted };
 }
 
-impl World<SoundShelf> {
-    /// Nodes in memory, where nothing stands and nothing has happened, and whose shelves never fail.
-    pub fn new(alloc: Global, devices: u16, lock_bits: u8) -> Result<World<SoundShelf>, NoMemory>
-        requires devices { devices ≤ 256 }
-        requires lock_bits { lock_bits ≤ 4 }
-        ensures begins { IfOk result (λ w. Begins devices lock_bits (sight_of sound_tells sound_holds sound_faults w)) }
-        ensures shape { IfOk result (λ w. (w.devices ≡ devices) × (w.lock_bits ≡ lock_bits)) }
+impl<V: Volume + Drop> World<V> {
+    /// The nodes of a ring over these volumes: those of the first device, one a stripe, then those of the next. Each begins with what its
+    /// volume's files stand for. Where memory runs out the volumes come back.
+    pub fn open(alloc: Global, ring: &Ring, parts: Parts<V>) -> Result<World<V>, Parts<V>>
+        requires volumes { length parts.volumes.items ≡ length ring.now.devices * 2 ^ ring.now.lock_bits }
+        ensures opens { IfOk result (λ w. w ≡ opened ring.now parts.volumes.items) }
+        ensures back { IfErr result (λ p. p ≡ parts) }
     {
-        let shelves = empty_shelves(alloc, usize::from(devices) * stripes(lock_bits))?;
-        World::open(alloc, devices, lock_bits, shelves)
-    }
-}
-
-impl<V: Shelf> World<V> {
-    /// Nodes over these shelves: those of the first device, one a stripe, then those of the next. Each begins with what its shelf holds.
-    pub fn open(
-        alloc: Global,
-        devices: u16,
-        lock_bits: u8,
-        shelves: Vec<V>,
-    ) -> Result<World<V>, NoMemory>
-        requires devices { devices ≤ 256 }
-        requires lock_bits { lock_bits ≤ 4 }
-        requires shelves { length shelves.items ≡ devices * 2 ^ lock_bits }
-        ensures nodes { IfOk result (λ w. w.nodes ≡ map (begun journal_entries journal_bytes) shelves.items) }
-        ensures shape { IfOk result (λ w. (w.devices ≡ devices) × (w.lock_bits ≡ lock_bits)) }
-        ensures lines { IfOk result (λ w. w.lines ≡ []) }
-    {
+        let count = parts.volumes.len();
+        let Ok(secrets) = ring.secrets.copy(alloc) else {
+            return Err(parts);
+        };
+        let Ok(room) = Vec::with_capacity(alloc, count) else {
+            return Err(parts);
+        };
+        let Ok(mut slots) = lifted_slots(alloc, &ring.secrets, count) else {
+            return Err(parts);
+        };
+        open_slots(alloc, &mut slots, 0, ring.power, parts.volumes);
         Ok(World {
-            devices,
-            lock_bits,
-            nodes: nodes_over(alloc, shelves)?,
+            devices: ring.devices.as_slice().len() as u16,
+            lock_bits: ring.lock_bits,
+            power: ring.power,
+            secrets,
+            slots,
             lines: Vec::new(alloc),
+            lifted: None,
+            room,
+            spare: Vec::new(alloc),
         })
     }
 
-    /// The lines of the steps that came since they were last taken.
-    pub fn lines(&self) -> &[Line]
+    /// Ends all nodes, and gives their volumes back, in the order in which they were given; those of a device that is out are not among
+    /// them. It takes no memory.
+    pub fn stop(self) -> Parts<V>
+        ensures all { result.volumes.items ≡ volumes_of self }
+        ensures gives { Gives self.lifted self result.volumes.items }
+        ensures world { IsWorld self }
+    {
+        Parts {
+            volumes: volumes_in(self.slots, self.room),
+        }
+    }
+
+    /// The lines of what came since they were last taken.
+    pub fn lines(&self) -> &[KeptLine]
         ensures { result.now ≡ self.now.lines }
     {
         &self.lines
@@ -91,21 +130,69 @@ impl<V: Shelf> World<V> {
         LineList::from(mem::replace(&mut self.lines, Vec::new(alloc)))
     }
 
-    /// Restarts a device: the journal of each of its locks begins anew with what its shelf holds.
-    pub fn restart(&mut self, alloc: Global, device: u8)
-        requires { device < self.old.devices }
-        ensures { Restarts device (sight_of V.tells V.holds V.faults self.old) (sight_of V.tells V.holds V.faults self.new) }
+    /// Takes the volumes of a device out, one a stripe. Until it is set down again no step can be made.
+    pub fn lift(&mut self, alloc: Global, device: u8) -> Result<Parts<V>, NoMemory>
+        requires device { device < self.old.devices }
+        requires whole { self.old.lifted ≡ None }
+        ensures ok { IfOk result (λ parts. Lifts V.tells V.holds V.faults self.old device parts.volumes.items self.new) }
+        ensures err { OnErr result (self.new ≡ self.old) }
     {
         let count = stripes(self.lock_bits);
         let first = usize::from(device) * count;
-        begin_anew(alloc, &mut self.nodes, first, first + count);
+        let spare = Vec::with_capacity(alloc, 1)?;
+        let mut volumes = Vec::with_capacity(alloc, count)?;
+        self.lines.reserve(1)?;
+        lift_slots(&mut self.slots, first, first + count, &mut volumes);
+        self.spare = spare;
+        self.lifted = Some(device);
+        Ok(Parts { volumes })
+    }
+
+    /// Sets the lifted device down over these volumes, one a stripe: the journal of each of its locks begins anew with what its volume's
+    /// files stand for. It takes no memory.
+    pub fn set_down(&mut self, alloc: Global, device: u8, parts: Parts<V>)
+        requires lifted { self.old.lifted ≡ Some device }
+        requires volumes { length parts.volumes.items ≡ 2 ^ self.old.lock_bits }
+        ensures { SetsDown self.old device parts.volumes.items self.new }
+    {
+        let first = usize::from(device) * stripes(self.lock_bits);
+        open_slots(alloc, &mut self.slots, first, self.power, parts.volumes);
+        make_room(alloc, &mut self.lines, &mut self.spare);
+        self.lines.push_reserved(line_of_restart(alloc, device));
+        self.lifted = None;
+    }
+
+    /// The paths of all files below `objects` of a device, in byte order, each once. No journal changes.
+    pub fn files(&mut self, alloc: Global, device: u8) -> Result<BytesList, VolumeError>
+        requires device { device < self.old.devices }
+        requires whole { self.old.lifted ≡ None }
+        ensures listed { IsListed device (is_failed result) (sight_of V.tells V.holds V.faults self.old) (sight_of V.tells V.holds V.faults self.new)
+            ⊎ ((result ≡ Err Wanting) × (self.new ≡ self.old)) }
+        ensures paths { IfOk result (ListsFiles V.tells V.holds self.old device) }
+        ensures calm { is_failed result ≡ false → AreCalm V.tells V.holds V.faults self.old.slots self.new.slots }
+        ensures same { IsSameWorld self.old self.new }
+    {
+        self.lines.reserve(1)?;
+        let count = stripes(self.lock_bits);
+        let first = usize::from(device) * count;
+        let paths = files_in(alloc, &mut self.slots, first, first + count);
+        self.lines
+            .push_reserved(line_of_listing(alloc, device, &paths));
+        paths
+    }
+
+    /// The device whose volumes are out.
+    pub fn lifted(&self) -> Option<u8>
+        ensures { result ≡ self.now.lifted }
+    {
+        self.lifted
     }
 
     /// The place of the lock of a hash at a device.
     pub(crate) fn lock(&self, device: u8, hash: &[u8; 16]) -> usize
         requires { device < self.now.devices }
         ensures lock { result ≡ lock_of self.now.lock_bits device hash.now }
-        ensures within { result < length self.now.nodes }
+        ensures within { result < length self.now.slots }
     {
         usize::from(device) * stripes(self.lock_bits) + usize::from(stripe(hash, self.lock_bits))
     }
@@ -118,36 +205,4 @@ fn stripes(lock_bits: u8) -> usize
     ensures within { result ≤ 16 }
 {
     1 << lock_bits
-}
-
-fn empty_shelves(alloc: Global, count: usize) -> Result<Vec<SoundShelf>, NoMemory>
-    ensures count { IfOk result (λ shelves. length shelves.items ≡ count) }
-    ensures empty { IfOk result (λ shelves. All (λ shelf. shelf ≡ empty_sound) shelves.items) }
-{
-    let mut shelves = Vec::with_capacity(alloc, count)?;
-    for _ in 0..count {
-        shelves.push(SoundShelf::new(alloc))?;
-    }
-    Ok(shelves)
-}
-
-fn nodes_over<V: Shelf>(alloc: Global, shelves: Vec<V>) -> Result<Vec<Node<V>>, NoMemory>
-    ensures { IfOk result (λ nodes. nodes.items ≡ map (begun journal_entries journal_bytes) shelves.items) }
-{
-    let mut nodes = Vec::with_capacity(alloc, shelves.len())?;
-    for shelf in shelves {
-        nodes.push(Node::start(alloc, shelf, JOURNAL_ENTRIES, JOURNAL_BYTES))?;
-    }
-    Ok(nodes)
-}
-
-/// The nodes from `first` on, up to `past`, begin anew with what their shelves hold.
-fn begin_anew<V: Shelf>(alloc: Global, nodes: &mut Vec<Node<V>>, first: usize, past: usize)
-    requires order { first ≤ past }
-    requires within { past ≤ length nodes.old.items }
-    ensures { AreAnew V.tells first past nodes.old.items nodes.new.items }
-{
-    for place in first..past {
-        nodes[place].begin_anew(alloc);
-    }
 }

@@ -4,11 +4,10 @@ ghost use Rattle.sw_hashdir.specs.Steps.{IsHashed};
 use std::alloc::Global;
 use std::test::Fail;
 use sw_hashpath::{Name, Secrets};
-use sw_outside::{Bytes, NoMemory, is_utf8};
-use sw_peer::{Answer, Change, Event, Got};
+use sw_outside::{Bytes, FailingCall, NoMemory, is_utf8};
+use sw_peer::{Answer, Change, Got};
 use sw_state::{Content, Head, HeadList, Heads, Kind, Write};
 use sw_timestamp::Timestamp;
-use sw_volume::FailingCall;
 
 /// What a step asks for, with its time in units.
 #[derive(Clone, Copy, Debug, PartialEq, Eq)]
@@ -78,13 +77,6 @@ pub fn told_by_got(got: &Got) -> Told {
         Got::NotFound(time) => told_gone(*time),
         Got::Failed => Told::Failed,
         Got::Found { .. } | Got::Damaged(_) | Got::NoMemory => Told::Other,
-    }
-}
-
-pub fn told_by_event(event: &Event) -> Told {
-    match event {
-        Event::Changed(_, _, answer) => told_by_answer(answer),
-        Event::Read(_, got) => told_by_got(got),
     }
 }
 
@@ -171,12 +163,7 @@ fn receive(units: u64, kind: Kind) -> Result<Change, Fail> {
     Ok(Change::Receive { write })
 }
 
-/// The object of this name in the container `c` of the account `a`, under no prefix and the suffix `endcap`.
-pub fn name_of(alloc: Global, object: &[u8]) -> Result<Name, Fail> {
-    name_under(alloc, &secrets(alloc)?, object)
-}
-
-/// The same under these secrets.
+/// The object of this name in the container `c` of the account `a`, under these secrets.
 pub fn name_under(alloc: Global, secrets: &Secrets, object: &[u8]) -> Result<Name, Fail>
     ensures { IfOk result (λ name. IsHashed secrets.now name) }
 {

@@ -22,11 +22,11 @@ use sw_volume::MemVolume;
 const POWER: u8 = 8;
 
 /// The names of objects: their partitions are 6, 109 and 7.
-const O: &[u8] = b"o";
+pub const O: &[u8] = b"o";
 
-const P: &[u8] = b"p";
+pub const P: &[u8] = b"p";
 
-const S: &[u8] = b"s";
+pub const S: &[u8] = b"s";
 
 /// The last segments of paths: data, metadata and tombstones, by the units of their times.
 const DATA_20: &[u8] = b"/0000000000.00020.data";
@@ -51,13 +51,13 @@ const TOMB_40: &[u8] = b"/0000000000.00040.ts";
 type Segments = &'static [&'static [u8]];
 
 /// A step of an object, and what it is answered.
-type Row = (&'static [u8], Asked, Told);
+pub type Row = (&'static [u8], Asked, Told);
 
 /// How many entries a journal takes, and how many bytes of bodies.
-type Limits = (u64, u64);
+pub type Limits = (u64, u64);
 
 /// Limits that no table reaches but those that are about them.
-const AMPLE: Limits = (10, 100);
+pub const AMPLE: Limits = (10, 100);
 
 /// A directory and the secrets of its ring.
 #[derive(Drop)]
@@ -144,7 +144,7 @@ fn end_so(paths: &[Bytes], wanted: &[&[u8]]) -> bool {
 
 /// Whether a directory of whose volume these calls fail answers so, first to these steps and then to those; and whether these files are
 /// left, where the question is asked.
-fn goes_so(
+pub fn goes_so(
     alloc: Global,
     limits: Limits,
     failing: &[(u64, bool)],

@@ -1,4 +1,4 @@
-use crate::asked::{content, heads, name_of};
+use crate::asked::{content, heads, name_under, secrets};
 use std::alloc::Global;
 use std::test::Fail;
 use sw_hashpath::BadFile;
@@ -82,7 +82,7 @@ fn an_entry_is_copied_whole(rt: HostRuntime) -> Result<(), Fail> {
         time: Timestamp::parse(b"5")?,
         kind: Kind::Put(content(alloc, b"abc")?),
     };
-    let entry = ObjEntry::Wrote(name_of(alloc, b"o")?, write);
+    let entry = ObjEntry::Wrote(name_under(alloc, &secrets(alloc)?, b"o")?, write);
     assert!(rt; is_of_o(&entry.copy(alloc)?));
     Ok(())
 }

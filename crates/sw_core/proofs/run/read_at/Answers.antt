@@ -6,10 +6,11 @@ use Rattle.sw_core.proofs.run.read_at.Goals as goal
 
 pub returns-clause-made : goal.returns-clause-made
 returns-clause-made g c =
-    let v = g.V.Shelf in let s = sight_of v.tells v.holds v.faults c.args.world.now in let t = sight_of v.tells v.holds v.faults c.get.new.self in
-    whole c.unless_wanting_read.result (is_wanting_read c.in-Ok.got) (made-read s t refl refl c.args.device c.args.name.now c.in-Ok.got c.in-Ok.ensures.read) c.unless_wanting_read.ensures.ok
+    let v = g.V.Volume in let s = sight_of v.tells v.holds v.faults c.args.world.now in let t = sight_of v.tells v.holds v.faults c.get.new.self in
+    whole c.unless_wanting_read.result (is_wanting_read c.in-Ok.got)
+    (made-read s t refl refl c.args.device c.args.name.now c.in-Ok.got c.in-Ok.ensures.read) c.unless_wanting_read.ensures.ok
 
 pub returns-clause-tried : goal.returns-clause-tried
 returns-clause-tried g c =
-    let v = g.V.Shelf in let s = sight_of v.tells v.holds v.faults c.args.world.now in let t = sight_of v.tells v.holds v.faults c.get.new.self in
+    let v = g.V.Volume in let s = sight_of v.tells v.holds v.faults c.args.world.now in let t = sight_of v.tells v.holds v.faults c.get.new.self in
     tried c.unless_wanting_read.result (is_wanting_read c.in-Ok.got) (made-read s t refl refl c.args.device c.args.name.now c.in-Ok.got c.in-Ok.ensures.read)

@@ -1,0 +1,166 @@
+-- Which entries a step added: that of the doubt which its listing settled, where its write had been made, and then its own.
+use Rattle.std.proofs.Common.{◌≡◌, ℕ, ◌+◌, ◌-◌, ◌≤◌, Bool, true, false, List, [], ◌∷◌, ◌++◌, length, map, take, nat_lt, bytes_eq, refl, sym, ◌∙◌, ap, subst, arith, append_assoc, Option, None, Some, option_to_list, ◌⊎◌, inl, inr, if◌then◌else◌}
+use Rattle.std.proofs.lemmas.Bool.Decides.{nat_tests}
+use Rattle.std.proofs.lemmas.List.{append-nil, append_cancel_left, length-append}
+use Rattle.sw_hashpath.specs.declared.name.Name.{Name}
+use Rattle.sw_journal.specs.Entries.{entry_hash, first_in}
+use Rattle.sw_journal.specs.Settling.{SettlesFirst}
+use Rattle.sw_objdir.specs.Calling.{Called, Listed, ReadCalled}
+use Rattle.sw_objdir.specs.Directories.{Kept}
+use Rattle.sw_peer.proofs.Hashes.{hash-self}
+use Rattle.sw_peer.specs.Briefs.{brief_of}
+use Rattle.sw_peer.specs.Journals.{Hash, Journal, written}
+use Rattle.sw_peer.specs.Outlines.{is_new_to}
+use Rattle.sw_peer.specs.Steps.{write_of}
+use Rattle.sw_peer.specs.declared.answer.Answer.{Answer}
+use Rattle.sw_peer.specs.declared.answer.Answer.TheVariants as answers
+use Rattle.sw_peer.specs.declared.change.Change.{Change}
+use Rattle.sw_peer.specs.declared.entry.Brief.{Brief}
+use Rattle.sw_peer.specs.declared.entry.ObjEntry.{ObjEntry}
+use Rattle.sw_peer.specs.declared.entry.ObjEntry.TheVariants.{Wrote}
+use Rattle.sw_peer.specs.declared.got.Got.{Got}
+use Rattle.sw_peer.specs.declared.got.Got.TheVariants as gots
+use Rattle.sw_peer.specs.declared.outline.Outline.{Outline}
+use Rattle.sw_state.specs.Writes.{tag_of}
+use Rattle.sw_volume.specs.Tree.{Folders}
+use Rattle.sw_core.specs.Lines.{brief_in, settled_brief}
+use Rattle.sw_peer.specs.Lines.{own_by}
+
+-- the first entry of a hash behind entries of others
+find-past : (hash : Hash) (before : List ObjEntry) (entry : ObjEntry) (behind : List ObjEntry) → written hash before ≡ [] → bytes_eq (entry_hash entry) hash ≡ true
+    → first_in hash (before ++ entry ∷ behind) ≡ Some entry
+find-past hash [] entry behind none is = ap (λ (b : Bool). if b then Some entry else first_in hash behind) is
+find-past hash (Wrote n v ∷ before) entry behind none is = by (λ rest. find-past hash before entry behind rest is) (bytes_eq n.hash hash) refl
+  where
+    by : (written hash before ≡ [] → first_in hash (before ++ entry ∷ behind) ≡ Some entry) → (b : Bool) → bytes_eq n.hash hash ≡ b → first_in hash (Wrote n v ∷ before ++ entry ∷ behind) ≡ Some entry
+    by later true match = let never : v ∷ written hash before ≡ [] = sym (ap (λ (b : Bool). if b then v ∷ written hash before else written hash before) match) ∙ none in cc
+    by later false other = ap (λ (b : Bool). if b then Some (Wrote n v) else first_in hash (before ++ entry ∷ behind)) other
+        ∙ later (sym (ap (λ (b : Bool). if b then v ∷ written hash before else written hash before) other) ∙ none)
+
+-- the entries of the settled doubt: none, or one
+abbrev IsSettled : Hash → Journal → List ObjEntry → Type 0
+IsSettled hash j settled = (settled ≡ []) ⊎ ((entry : ObjEntry) × (settled ≡ entry ∷ []) × (first_in hash j.doubts ≡ Some entry))
+
+settled-one : (hash : Hash) (o : Outline) (j after : Journal) → SettlesFirst hash o j after → (settled : List ObjEntry) × (after.entries ≡ j.entries ++ settled) × IsSettled hash j settled
+settled-one hash o j after (inl none) = ([], ap (λ (x : Journal). x.entries) none.1 ∙ sym (append-nil j.entries), inl refl)
+settled-one hash o j after (inr one) = by (is_new_to o one.write.time (tag_of one.write.kind)) refl
+  where
+    first : first_in hash j.doubts ≡ Some (Wrote one.name one.write)
+    first = ap (first_in hash) one.among ∙ find-past hash one.before (Wrote one.name one.write) one.behind one.first
+        (subst (λ (h : Hash). bytes_eq h hash ≡ true) (sym one.of_hash) (hash-self hash))
+
+    by : (b : Bool) → is_new_to o one.write.time (tag_of one.write.kind) ≡ b → (settled : List ObjEntry) × (after.entries ≡ j.entries ++ settled) × IsSettled hash j settled
+    by true new = (
+      [],
+      ap (λ (x : Journal). x.entries) one.settled
+          ∙ (ap (λ (b : Bool). (if b then record j { doubts = one.before ++ one.behind } else record j { entries = j.entries ++ Wrote one.name one.write ∷ []; doubts = one.before ++ one.behind }).entries) new ∙ sym (append-nil j.entries)),
+      inl refl,
+    )
+    by false old = (
+      Wrote one.name one.write ∷ [],
+      ap (λ (x : Journal). x.entries) one.settled
+          ∙ ap (λ (b : Bool). (if b then record j { doubts = one.before ++ one.behind } else record j { entries = j.entries ++ Wrote one.name one.write ∷ []; doubts = one.before ++ one.behind }).entries) old,
+      inr (Wrote one.name one.write, refl, first),
+    )
+
+-- what a step added: the entry of a settled doubt, and so many of its own
+pub record AddsUp (hash : Hash) (j : Journal) (own : ℕ) (after : Journal) : Type 0 where
+  pub settled : List ObjEntry
+  pub owned : List ObjEntry
+  pub entries : after.entries ≡ j.entries ++ (settled ++ owned)
+  pub count : length owned ≡ own
+  pub is_settled : IsSettled hash j settled
+
+module _ (hash : Hash) (o : Outline) (j mid after : Journal) (settles : SettlesFirst hash o j mid) where
+  -- only a doubt was settled
+  kept-adds : after.entries ≡ mid.entries → AddsUp hash j 0 after
+  kept-adds same = let one = settled-one hash o j mid settles in record {
+    settled = one.0;
+    owned = [];
+    entries = same ∙ (one.1 ∙ ap (λ (es : List ObjEntry). j.entries ++ es) (sym (append-nil one.0)));
+    count = refl;
+    is_settled = one.2;
+  }
+
+  -- and an entry came
+  entered-adds : (entry : ObjEntry) → after.entries ≡ mid.entries ++ entry ∷ [] → AddsUp hash j 1 after
+  entered-adds entry is = let one = settled-one hash o j mid settles in record {
+    settled = one.0;
+    owned = entry ∷ [];
+    entries = is ∙ (ap (λ (es : List ObjEntry). es ++ entry ∷ []) one.1 ∙ append_assoc j.entries one.0 (entry ∷ []));
+    count = refl;
+    is_settled = one.2;
+  }
+
+nothing-adds : (hash : Hash) (j after : Journal) → after ≡ j → AddsUp hash j 0 after
+nothing-adds hash j after same = record { settled = []; owned = []; entries = ap (λ (x : Journal). x.entries) same ∙ sym (append-nil j.entries); count = refl; is_settled = inl refl }
+
+abbrev entries_in : Journal → List ObjEntry
+entries_in j = j.entries
+
+module _ {V : Type 0} (tells : V → Bool) (files : V → Folders) (faults calls lists : V → ℕ) (k n : Kept V) (name : Name) where
+  pub called-adds : (change : Change) (answer : Answer) → Called tells files faults calls lists k name change answer n → AddsUp name.hash k.journal (own_by answer) n.journal
+  called-adds change (answers.Done front) c = entered-adds name.hash _ k.journal c.seen.journal n.journal c.seen.settles (Wrote name (write_of change)) (ap entries_in c.entered)
+  called-adds change (answers.Buried front) c = entered-adds name.hash _ k.journal c.seen.journal n.journal c.seen.settles (Wrote name (write_of change)) (ap entries_in c.entered)
+  called-adds change (answers.Conflict time) c = kept-adds name.hash _ k.journal c.seen.journal n.journal c.seen.settles (ap entries_in c.kept)
+  called-adds change (answers.NotFound time) c = kept-adds name.hash _ k.journal c.seen.journal n.journal c.seen.settles (ap entries_in c.kept)
+  called-adds change (answers.Mismatch second) c = kept-adds name.hash _ k.journal c.seen.journal n.journal c.seen.settles (ap entries_in c.kept)
+  called-adds change answers.Exists c = kept-adds name.hash _ k.journal c.seen.journal n.journal c.seen.settles (ap entries_in c.kept)
+  called-adds change answers.JournalFull c = kept-adds name.hash _ k.journal c.seen.journal n.journal c.seen.settles (ap entries_in c.kept)
+  called-adds change (answers.Damaged bad) c = kept-adds name.hash _ k.journal c.seen.journal n.journal c.seen.settles (ap entries_in c.kept)
+  called-adds change answers.Failed (inl c) = nothing-adds name.hash k.journal n.journal c.journal
+  called-adds change answers.Failed (inr (inl c)) = kept-adds name.hash _ k.journal c.seen.journal n.journal c.seen.settles (ap entries_in c.kept)
+  called-adds change answers.Failed (inr (inr c)) = kept-adds name.hash _ k.journal c.seen.journal n.journal c.seen.settles (ap entries_in c.in_doubt)
+  called-adds change answers.NoMemory c = by c.journal
+    where
+      by : (n.journal ≡ k.journal) ⊎ ((seen : Listed tells files faults calls lists k name) × (n.journal ≡ seen.journal)) → AddsUp name.hash k.journal 0 n.journal
+      by (inl same) = nothing-adds name.hash k.journal n.journal same
+      by (inr listed) = kept-adds name.hash _ k.journal listed.0.journal n.journal listed.0.settles (ap entries_in listed.1)
+
+  pub read-adds : (got : Got) → ReadCalled tells files faults calls lists k name got n → AddsUp name.hash k.journal 0 n.journal
+  read-adds (gots.Found time content heads front) c = kept-adds name.hash _ k.journal c.seen.journal n.journal c.seen.settles (ap entries_in c.kept)
+  read-adds (gots.NotFound time) c = kept-adds name.hash _ k.journal c.seen.journal n.journal c.seen.settles (ap entries_in c.kept)
+  read-adds (gots.Damaged bad) c = kept-adds name.hash _ k.journal c.reads.seen.journal n.journal c.reads.seen.settles (ap entries_in c.reads.kept)
+  read-adds gots.Failed (inl c) = nothing-adds name.hash k.journal n.journal c.journal
+  read-adds gots.Failed (inr c) = kept-adds name.hash _ k.journal c.seen.journal n.journal c.seen.settles (ap entries_in c.kept)
+  read-adds gots.NoMemory c = by c.journal
+    where
+      by : (n.journal ≡ k.journal) ⊎ ((seen : Listed tells files faults calls lists k name) × (n.journal ≡ seen.journal)) → AddsUp name.hash k.journal 0 n.journal
+      by (inl same) = nothing-adds name.hash k.journal n.journal same
+      by (inr listed) = kept-adds name.hash _ k.journal listed.0.journal n.journal listed.0.settles (ap entries_in listed.1)
+
+no-more : (n : ℕ) (b : Option Brief) → option_to_list (settled_brief b n n) ≡ []
+no-more n b = let none : nat_lt n n ≡ false = grind (arith, nat_tests) in ap (λ (x : Bool). option_to_list (if x then b else None)) none
+
+one-more : (n : ℕ) (b : Option Brief) → option_to_list (settled_brief b (1 + n) n) ≡ option_to_list b
+one-more n b = let more : nat_lt n (1 + n) ≡ true = grind (arith, nat_tests) in ap (λ (x : Bool). option_to_list (if x then b else None)) more
+
+-- so the number of entries tells whether the doubt was settled as made
+module _ (hash : Hash) (j after : Journal) (own : ℕ) (adds : AddsUp hash j own after) (added : List ObjEntry) (is : after.entries ≡ j.entries ++ added) where
+  added-is : added ≡ adds.settled ++ adds.owned
+  added-is = append_cancel_left j.entries added (adds.settled ++ adds.owned) (sym is ∙ adds.entries)
+
+  counted : length after.entries ≡ length j.entries + (length adds.settled + own)
+  counted = ap length adds.entries ∙ (length-append j.entries (adds.settled ++ adds.owned)
+      ∙ ap (λ (n : ℕ). length j.entries + n) (length-append adds.settled adds.owned ∙ ap (λ (n : ℕ). length adds.settled + n) adds.count))
+
+  pub grown : length j.entries ≤ length after.entries
+  grown = omega (arith, counted)
+
+  pub briefed : option_to_list (settled_brief (brief_in (first_in hash j.doubts)) (length after.entries - length j.entries) own)
+      ≡ map brief_of (take (length added - own) added)
+  briefed = by adds.settled adds.is_settled counted added-is
+    where
+      by : (settled : List ObjEntry) → IsSettled hash j settled → length after.entries ≡ length j.entries + (length settled + own) → added ≡ settled ++ adds.owned
+          → option_to_list (settled_brief (brief_in (first_in hash j.doubts)) (length after.entries - length j.entries) own) ≡ map brief_of (take (length added - own) added)
+      by settled (inl none) count all =
+          let amount : length after.entries - length j.entries ≡ own = omega (arith, count, ap length none) in
+          let size : length added - own ≡ 0 = omega (arith, ap length all ∙ length-append settled adds.owned, ap length none, adds.count) in
+          ap (λ (m : ℕ). option_to_list (settled_brief (brief_in (first_in hash j.doubts)) m own)) amount
+          ∙ (no-more own (brief_in (first_in hash j.doubts)) ∙ sym (ap (λ (m : ℕ). map brief_of (take m added)) size))
+      by settled (inr one) count all =
+          let amount : length after.entries - length j.entries ≡ 1 + own = omega (arith, count, ap length one.1) in
+          let size : length added - own ≡ 1 = omega (arith, ap length all ∙ length-append settled adds.owned, ap length one.1, adds.count) in
+          ap (λ (m : ℕ). option_to_list (settled_brief (brief_in (first_in hash j.doubts)) m own)) amount
+          ∙ (one-more own (brief_in (first_in hash j.doubts)) ∙ (ap (λ (e : Option ObjEntry). option_to_list (brief_in e)) one.2
+          ∙ sym (ap (λ (m : ℕ). map brief_of (take m added)) size ∙ ap (λ (es : List ObjEntry). map brief_of (take 1 es)) (all ∙ ap (λ (es : List ObjEntry). es ++ adds.owned) one.1))))
