@@ -12,9 +12,11 @@ use Rattle.sw_http.specs.Reading.{BeginsWith}
 use Rattle.sw_message.specs.declared.request.Request.{Request}
 use Rattle.sw_message.specs.declared.response.Response.{Response}
 use Rattle.sw_session.specs.Passages.{Passage}
-use Rattle.sw_session.specs.Replies.{Serves, Replies, written_for}
-use Rattle.sw_session.specs.Session.{SoFar, Complete, Refused, Full, Stopped, Broken, BrokenAtReply, BrokenBetween, IsSession, most_requests}
-use Rattle.sw_session.specs.Turn.{CutsReply, Idles, IsCounted, IsTurn, Replied, StopsBetween, Turns}
+use Rattle.sw_session.specs.Replies.{Halts, Serves, Replies, written_for}
+use Rattle.sw_session.specs.Session.{SoFar, Full, Broken, HaltedAt, IsSession, most_requests}
+use Rattle.sw_session.specs.Turn.{CutsReply, HaltsTurn, Idles, IsCounted, IsTurn, Replied, StopsBetween}
+use Rattle.sw_session.specs.declared.server.ServerFault.{ServerFault}
+use Rattle.sw_session.specs.declared.server.ServerFault.TheVariants as servers
 use Rattle.sw_session.specs.declared.session.SessionFault.{SessionFault}
 use Rattle.sw_session.specs.declared.session.SessionFault.TheVariants as faults
 
@@ -92,10 +94,11 @@ one_more may start mid after input left rest taken then now moments moment so_fa
   written = Appends-trans taken then now so_far.text _ so_far.written one.written;
 }
 
-pub turn_made : {S : Type 0} (may : Serves S) (start mid after : S) (input left rest taken then now : Option (List ℕ)) (moments moments_now : List ℕ) (count : ℕ)
-    → Progress may start input left taken then moments mid count → IsTurn may mid after moments moments_now left rest then now (Ok true)
+pub turn_made : {S : Type 0} (may : Serves S) (halts : Halts S) (start mid after : S) (input left rest taken then now : Option (List ℕ))
+    (moments moments_now : List ℕ) (count : ℕ)
+    → Progress may start input left taken then moments mid count → IsTurn may halts mid after moments moments_now left rest then now (Ok true)
     → Progress may start input rest taken now moments_now after (count + 1)
-turn_made may start mid after input left rest taken then now moments moments_now count so_far turn =
+turn_made may halts start mid after input left rest taken then now moments moments_now count so_far turn =
     subst (λ (m : List ℕ). Progress may start input rest taken now m after (count + 1)) (sym turn.1) (record {
       done = one_more may start mid after input left rest taken then now moments turn.0 so_far.done turn.2;
       count_is = length-append so_far.done.requests (request_of turn.2.turn.parts ∷ []) ∙ ap (λ n. n + 1) so_far.count_is;
@@ -115,12 +118,13 @@ fewer : {S : Type 0} (may : Serves S) (start after : S) (input rest taken now : 
     → (p : Progress may start input rest taken now moments after count) → count < most_requests → length p.done.requests < most_requests
 fewer may start after input rest taken now moments count p few = subst (λ n. n < most_requests) (sym p.count_is) few
 
-pub ended : {S : Type 0} (may : Serves S) (start mid after : S) (source sink : Passage) (left rest then : Option (List ℕ)) (moments moments_now : List ℕ) (count reads writes : ℕ)
+pub ended : {S : Type 0} (may : Serves S) (halts : Halts S) (start mid after : S) (source sink : Passage) (left rest then : Option (List ℕ))
+    (moments moments_now : List ℕ) (count reads writes : ℕ)
     → Progress may start source.before left sink.before then moments mid count → count < most_requests
-    → IsTurn may mid after moments moments_now left rest then sink.now (Ok false) → IsAtEnd source.now
+    → IsTurn may halts mid after moments moments_now left rest then sink.now (Ok false) → IsAtEnd source.now
     → reads ≡ source.faults → writes ≡ sink.faults → (source.faults_now ≡ reads) × (sink.faults_now ≡ writes)
-    → IsSession may start source sink moments_now after (Ok tt)
-ended may start mid after source sink left rest then moments moments_now count reads writes so_far few turn at_end r w counted =
+    → IsSession may halts start source sink moments_now after (Ok tt)
+ended may halts start mid after source sink left rest then moments moments_now count reads writes so_far few turn at_end r w counted =
     let p = idle may start mid after source.before left sink.before then moments moments_now count so_far turn.0 in (
       record {
         rest = left;
@@ -170,13 +174,47 @@ broken may start mid after source sink left rest then moments moments_now count 
   cut = cuts.2;
 })
 
--- a turn that ended the session by a fault ended it so
-pub ended_by : {S : Type 0} (may : Serves S) (start mid after : S) (source sink : Passage) (left rest then : Option (List ℕ)) (moments moments_now : List ℕ) (count reads writes : ℕ) (fault : SessionFault)
+-- the server halted
+halted : {S : Type 0} (may : Serves S) (halts : Halts S) (start mid after : S) (source sink : Passage) (left rest then : Option (List ℕ))
+    (moments moments_now : List ℕ) (count : ℕ) (fault : ServerFault)
     → Progress may start source.before left sink.before then moments mid count → count < most_requests
-    → IsTurn may mid after moments moments_now left rest then sink.now (Err fault)
+    → HaltsTurn halts mid after moments moments_now left rest then sink.now fault
+    → HaltedAt may halts start source.before sink.before sink.now moments_now after fault
+halted may halts start mid after source sink left rest then moments moments_now count fault p few turn = record {
+  rest = left;
+  mid = then;
+  earlier = moments;
+  then = mid;
+  done = p.done;
+  few = fewer may start mid source.before left sink.before then moments count p few;
+  moment = turn.0;
+  moments_are = turn.1;
+  behind = rest;
+  halt = turn.2;
+}
+
+-- memory ran out, of a reply or of the server
+out_of_memory : {S : Type 0} (may : Serves S) (halts : Halts S) (start mid after : S) (source sink : Passage) (left rest then : Option (List ℕ))
+    (moments moments_now : List ℕ) (count : ℕ)
+    → Progress may start source.before left sink.before then moments mid count → count < most_requests
+    → IsTurn may halts mid after moments moments_now left rest then sink.now (Err faults.NoMemory)
+    → Broken may start source.before sink.before sink.now moments_now after
+    ⊎ HaltedAt may halts start source.before sink.before sink.now moments_now after servers.NoMemory
+out_of_memory may halts start mid after source sink left rest then moments moments_now count p few (inl idles) =
+    inl (broken may start mid after source sink left rest then moments moments_now count p few (inl idles))
+out_of_memory may halts start mid after source sink left rest then moments moments_now count p few (inr (inl cuts)) =
+    inl (broken may start mid after source sink left rest then moments moments_now count p few (inr cuts))
+out_of_memory may halts start mid after source sink left rest then moments moments_now count p few (inr (inr halt)) =
+    inr (halted may halts start mid after source sink left rest then moments moments_now count servers.NoMemory p few halt)
+
+-- a turn that ended the session by a fault ended it so
+pub ended_by : {S : Type 0} (may : Serves S) (halts : Halts S) (start mid after : S) (source sink : Passage) (left rest then : Option (List ℕ))
+    (moments moments_now : List ℕ) (count reads writes : ℕ) (fault : SessionFault)
+    → Progress may start source.before left sink.before then moments mid count → count < most_requests
+    → IsTurn may halts mid after moments moments_now left rest then sink.now (Err fault)
     → reads ≡ source.faults → writes ≡ sink.faults → IsCounted {A = Bool} reads source.faults_now writes sink.faults_now (Err fault)
-    → IsSession may start source sink moments_now after (Err fault)
-ended_by may start mid after source sink left rest then moments moments_now count reads writes faults.ReadFault p few turn r w counted =
+    → IsSession may halts start source sink moments_now after (Err fault)
+ended_by may halts start mid after source sink left rest then moments moments_now count reads writes faults.ReadFault p few turn r w counted =
     let still = idle may start mid after source.before left sink.before then moments moments_now count p turn.0 in (
       record {
         rest = left;
@@ -188,10 +226,10 @@ ended_by may start mid after source sink left rest then moments moments_now coun
       counted.0 ∙ ap raised r,
       counted.1 ∙ w,
     )
-ended_by may start mid after source sink left rest then moments moments_now count reads writes faults.WriteFault p few turn r w counted =
+ended_by may halts start mid after source sink left rest then moments moments_now count reads writes faults.WriteFault p few turn r w counted =
     (broken may start mid after source sink left rest then moments moments_now count p few turn, counted.0 ∙ r, counted.1 ∙ ap raised w)
-ended_by may start mid after source sink left rest then moments moments_now count reads writes faults.TooLong p few turn r w counted = absurd turn
-ended_by may start mid after source sink left rest then moments moments_now count reads writes faults.BadInput p few turn r w counted =
+ended_by may halts start mid after source sink left rest then moments moments_now count reads writes faults.TooLong p few turn r w counted = absurd turn
+ended_by may halts start mid after source sink left rest then moments moments_now count reads writes faults.BadInput p few turn r w counted =
     let still = idle may start mid after source.before left sink.before then moments moments_now count p turn.0 in (
       record {
         rest = left;
@@ -203,5 +241,7 @@ ended_by may start mid after source sink left rest then moments moments_now coun
       counted.0 ∙ r,
       counted.1 ∙ w,
     )
-ended_by may start mid after source sink left rest then moments moments_now count reads writes faults.NoMemory p few turn r w counted =
-    (broken may start mid after source sink left rest then moments moments_now count p few turn, counted.0 ∙ r, counted.1 ∙ w)
+ended_by may halts start mid after source sink left rest then moments moments_now count reads writes faults.ServerFault p few turn r w counted =
+    (halted may halts start mid after source sink left rest then moments moments_now count servers.Failed p few turn, counted.0 ∙ r, counted.1 ∙ w)
+ended_by may halts start mid after source sink left rest then moments moments_now count reads writes faults.NoMemory p few turn r w counted =
+    (out_of_memory may halts start mid after source sink left rest then moments moments_now count p few turn, counted.0 ∙ r, counted.1 ∙ w)

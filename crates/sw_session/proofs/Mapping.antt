@@ -1,14 +1,16 @@
--- What each answer keeps of the server, a session keeps; and a session by one relation is one by another that says less, of a part of
--- the server.
-use Rattle.std.proofs.Common.{◌≡◌, ℕ, List, [], ◌∷◌, Option, Result, Ok, Err, sym, ap, subst, inl, inr, lit<}
+-- What each answer keeps of the server, a session keeps, and what the server is where it halts, it is at the end; and a session by one pair
+-- of relations is one by another that says less, of a part of the server.
+use Rattle.std.proofs.Common.{ℕ, List, [], ◌∷◌, Option, Result, Ok, Err, sym, ap, subst, inl, inr, lit<, ◌⊎◌}
 use Rattle.std.specs.Bool.{⊤}
 use Rattle.std.proofs.KnownBytes.{Appends-nil}
 use Rattle.sw_message.specs.declared.request.Request.{Request}
 use Rattle.sw_message.specs.declared.response.Response.{Response}
 use Rattle.sw_session.proofs.Ends.{begun}
 use Rattle.sw_session.specs.Passages.{Passage}
-use Rattle.sw_session.specs.Replies.{Replies, Serves}
-use Rattle.sw_session.specs.Session.{Broken, IsSession, SoFar}
+use Rattle.sw_session.specs.Replies.{Halts, Replies, Serves}
+use Rattle.sw_session.specs.Session.{Broken, EndsAs, HaltedAt, IsSession, SoFar}
+use Rattle.sw_session.specs.declared.server.ServerFault.{ServerFault}
+use Rattle.sw_session.specs.declared.server.ServerFault.TheVariants as servers
 use Rattle.sw_session.specs.declared.session.SessionFault.{SessionFault}
 use Rattle.sw_session.specs.declared.session.SessionFault.TheVariants as faults
 
@@ -22,8 +24,9 @@ unbegun may start input taken = inl (record {
   between = inl (inl (Appends-nil taken));
 })
 
-module _ {S : Type 0} (may : Serves S) (P : S → Type 0)
-    (keeps : (before : S) (request : Request) (moment : ℕ) (response : Response) (after : S) → P before → may before request moment response after → P after) where
+module _ {S : Type 0} (may : Serves S) (halts : Halts S) (P : S → Type 0)
+    (keeps : (before : S) (request : Request) (moment : ℕ) (response : Response) (after : S)
+    → P before → may before request moment response after → P after) where
   replies-keep : (start : S) (requests : List Request) (moments text : List ℕ) (after : S) → P start → Replies may start requests moments text after → P after
   replies-keep start [] moments text after p r = subst P (sym r.1.1) p
   replies-keep start (request ∷ requests) moments text after p r =
@@ -39,17 +42,57 @@ module _ {S : Type 0} (may : Serves S) (P : S → Type 0)
   broken-keeps start input taken now moments after p (inr b) =
       keeps b.then _ b.moment b.cut.response after (so_far-keeps start input b.rest taken b.mid b.earlier b.then p b.done) b.cut.turn.answer
 
-  pub session-keeps : (start : S) (source sink : Passage) (moments : List ℕ) (after : S) (result : Result ⊤ SessionFault)
-      → P start → IsSession may start source sink moments after result → P after
-  session-keeps start source sink moments after (Ok done) p s = so_far-keeps start source.before s.0.rest sink.before sink.now moments after p s.0.done
-  session-keeps start source sink moments after (Err faults.ReadFault) p s = so_far-keeps start source.before s.0.rest sink.before s.0.mid moments after p s.0.done
-  session-keeps start source sink moments after (Err faults.WriteFault) p s = broken-keeps start source.before sink.before sink.now moments after p s.0
-  session-keeps start source sink moments after (Err faults.TooLong) p s = so_far-keeps start source.before s.0.rest sink.before sink.now moments after p s.0.done
-  session-keeps start source sink moments after (Err faults.BadInput) p s = so_far-keeps start source.before s.0.rest sink.before s.0.mid moments after p s.0.done
-  session-keeps start source sink moments after (Err faults.NoMemory) p s = broken-keeps start source.before sink.before sink.now moments after p s.0
+  module _ (Q : ServerFault → S → Type 0)
+      (ends : (before : S) (request : Request) (moment : ℕ) (fault : ServerFault) (after : S)
+      → P before → halts before request moment fault after → Q fault after) where
+    halted-ends : (start : S) (input taken now : Option (List ℕ)) (moments : List ℕ) (after : S) (fault : ServerFault)
+        → P start → HaltedAt may halts start input taken now moments after fault → Q fault after
+    halted-ends start input taken now moments after fault p h =
+        ends h.then _ h.moment fault after (so_far-keeps start input h.rest taken h.mid h.earlier h.then p h.done) h.halt.halted
 
-  module _ {T : Type 0} (says : Serves T) (part : S → T)
-      (less : (before : S) (request : Request) (moment : ℕ) (response : Response) (after : S) → P before → may before request moment response after → says (part before) request moment response (part after)) where
+    out_of_memory-ends : (start : S) (input taken now : Option (List ℕ)) (moments : List ℕ) (after : S)
+        → P start → Broken may start input taken now moments after ⊎ HaltedAt may halts start input taken now moments after servers.NoMemory
+        → P after ⊎ Q servers.NoMemory after
+    out_of_memory-ends start input taken now moments after p (inl b) = inl (broken-keeps start input taken now moments after p b)
+    out_of_memory-ends start input taken now moments after p (inr h) = inr (halted-ends start input taken now moments after servers.NoMemory p h)
+
+    pub session-ends : (start : S) (source sink : Passage) (moments : List ℕ) (after : S) (result : Result ⊤ SessionFault)
+        → P start → IsSession may halts start source sink moments after result → EndsAs P Q after result
+    session-ends start source sink moments after (Ok done) p s = so_far-keeps start source.before s.0.rest sink.before sink.now moments after p s.0.done
+    session-ends start source sink moments after (Err faults.ReadFault) p s =
+        so_far-keeps start source.before s.0.rest sink.before s.0.mid moments after p s.0.done
+    session-ends start source sink moments after (Err faults.WriteFault) p s = broken-keeps start source.before sink.before sink.now moments after p s.0
+    session-ends start source sink moments after (Err faults.TooLong) p s =
+        so_far-keeps start source.before s.0.rest sink.before sink.now moments after p s.0.done
+    session-ends start source sink moments after (Err faults.BadInput) p s =
+        so_far-keeps start source.before s.0.rest sink.before s.0.mid moments after p s.0.done
+    session-ends start source sink moments after (Err faults.ServerFault) p s =
+        halted-ends start source.before sink.before sink.now moments after servers.Failed p s.0
+    session-ends start source sink moments after (Err faults.NoMemory) p s = out_of_memory-ends start source.before sink.before sink.now moments after p s.0
+
+  -- where it is the same however the session ends
+  ends-same : (after : S) (result : Result ⊤ SessionFault) → EndsAs P (λ fault. P) after result → P after
+  ends-same after (Ok done) p = p
+  ends-same after (Err faults.ReadFault) p = p
+  ends-same after (Err faults.WriteFault) p = p
+  ends-same after (Err faults.TooLong) p = p
+  ends-same after (Err faults.BadInput) p = p
+  ends-same after (Err faults.ServerFault) p = p
+  ends-same after (Err faults.NoMemory) (inl p) = p
+  ends-same after (Err faults.NoMemory) (inr p) = p
+
+  pub session-keeps : ((before : S) (request : Request) (moment : ℕ) (fault : ServerFault) (after : S)
+      → P before → halts before request moment fault after → P after)
+      → (start : S) (source sink : Passage) (moments : List ℕ) (after : S) (result : Result ⊤ SessionFault)
+      → P start → IsSession may halts start source sink moments after result → P after
+  session-keeps keeps_halted start source sink moments after result p s =
+      ends-same after result (session-ends (λ fault. P) keeps_halted start source sink moments after result p s)
+
+  module _ {T : Type 0} (says : Serves T) (says_halts : Halts T) (part : S → T)
+      (less : (before : S) (request : Request) (moment : ℕ) (response : Response) (after : S)
+      → P before → may before request moment response after → says (part before) request moment response (part after))
+      (less_halted : (before : S) (request : Request) (moment : ℕ) (fault : ServerFault) (after : S)
+      → P before → halts before request moment fault after → says_halts (part before) request moment fault (part after)) where
     replies-mapped : (start : S) (requests : List Request) (moments text : List ℕ) (after : S)
         → P start → Replies may start requests moments text after → Replies says (part start) requests moments text (part after)
     replies-mapped start [] moments text after p r = (r.0, (r.1.0, ap part r.1.1))
@@ -106,8 +149,37 @@ module _ {S : Type 0} (may : Serves S) (P : S → Type 0)
       };
     })
 
+    halted-mapped : (start : S) (input taken now : Option (List ℕ)) (moments : List ℕ) (after : S) (fault : ServerFault)
+        → P start → HaltedAt may halts start input taken now moments after fault
+        → HaltedAt says says_halts (part start) input taken now moments (part after) fault
+    halted-mapped start input taken now moments after fault p h = record {
+      rest = h.rest;
+      mid = h.mid;
+      earlier = h.earlier;
+      then = part h.then;
+      done = so_far-mapped start input h.rest taken h.mid h.earlier h.then p h.done;
+      few = h.few;
+      moment = h.moment;
+      moments_are = h.moments_are;
+      behind = h.behind;
+      halt = record {
+        parts = h.halt.parts;
+        are_parts = h.halt.are_parts;
+        consumed = h.halt.consumed;
+        halted = less_halted h.then _ h.moment fault after (so_far-keeps start input h.rest taken h.mid h.earlier h.then p h.done) h.halt.halted;
+        written = h.halt.written;
+      };
+    }
+
+    out_of_memory-mapped : (start : S) (input taken now : Option (List ℕ)) (moments : List ℕ) (after : S)
+        → P start → Broken may start input taken now moments after ⊎ HaltedAt may halts start input taken now moments after servers.NoMemory
+        → Broken says (part start) input taken now moments (part after)
+        ⊎ HaltedAt says says_halts (part start) input taken now moments (part after) servers.NoMemory
+    out_of_memory-mapped start input taken now moments after p (inl b) = inl (broken-mapped start input taken now moments after p b)
+    out_of_memory-mapped start input taken now moments after p (inr h) = inr (halted-mapped start input taken now moments after servers.NoMemory p h)
+
     pub session-mapped : (start : S) (source sink : Passage) (moments : List ℕ) (after : S) (result : Result ⊤ SessionFault)
-        → P start → IsSession may start source sink moments after result → IsSession says (part start) source sink moments (part after) result
+        → P start → IsSession may halts start source sink moments after result → IsSession says says_halts (part start) source sink moments (part after) result
     session-mapped start source sink moments after (Ok done) p s = (
       record {
         rest = s.0.rest;
@@ -151,4 +223,7 @@ module _ {S : Type 0} (may : Serves S) (P : S → Type 0)
       s.1,
       s.2,
     )
-    session-mapped start source sink moments after (Err faults.NoMemory) p s = (broken-mapped start source.before sink.before sink.now moments after p s.0, s.1, s.2)
+    session-mapped start source sink moments after (Err faults.ServerFault) p s =
+        (halted-mapped start source.before sink.before sink.now moments after servers.Failed p s.0, s.1, s.2)
+    session-mapped start source sink moments after (Err faults.NoMemory) p s =
+        (out_of_memory-mapped start source.before sink.before sink.now moments after p s.0, s.1, s.2)

@@ -11,9 +11,12 @@ use Rattle.sw_message.specs.declared.request.Request.{Request}
 use Rattle.sw_message.specs.declared.response.Response.{Response}
 use Rattle.sw_message.specs.declared.writer.WriteFault.{WriteFault}
 use Rattle.sw_message.specs.declared.writer.WriteFault.TheVariants as writes
-use Rattle.sw_session.specs.Fault.{fault_of}
-use Rattle.sw_session.specs.Replies.{Serves}
-use Rattle.sw_session.specs.Turn.{CutsReply, IsCounted, IsReadingFault, IsReceived, IsRefusal, IsTold, IsTurn, RefusesRestPart, TellsWhole, Turns, refusal}
+use Rattle.sw_session.specs.Fault.{fault_of, halt_of}
+use Rattle.sw_session.specs.Replies.{Halts, Serves}
+use Rattle.sw_session.specs.Turn.{CutsReply, HaltsTurn, IsCounted, IsReadingFault, IsReceived, IsRefusal, IsTold, IsTurn, RefusesRestPart}
+use Rattle.sw_session.specs.Turn.{TellsWhole, Turns, refusal}
+use Rattle.sw_session.specs.declared.server.ServerFault.{ServerFault}
+use Rattle.sw_session.specs.declared.server.ServerFault.TheVariants as servers
 use Rattle.sw_session.specs.declared.session.SessionFault.{SessionFault}
 use Rattle.sw_session.specs.declared.session.SessionFault.TheVariants as faults
 
@@ -82,16 +85,19 @@ refused input rest taken mid now result refuses refusal_is = by_result result re
     by_result (Err faults.NoMemory) written = inr (part written)
     by_result (Err faults.ReadFault) written = absurd written
     by_result (Err faults.TooLong) written = absurd written
+    by_result (Err faults.ServerFault) written = absurd written
     by_result (Ok request) written = absurd written
 
 -- the reading of a request ended the session
-pub reading_step : {S : Type 0} (may : Serves S) (before : S) (moments moments_now : List ℕ) (input rest taken now : Option (List ℕ)) (fault : SessionFault)
-    → moments_now ≡ moments → IsReadingFault input taken now fault → IsTurn may before before moments moments_now input rest taken now (Err fault)
-reading_step may before moments moments_now input rest taken now faults.BadInput same is = (record { same = refl; no_moment = same }, is)
-reading_step may before moments moments_now input rest taken now faults.ReadFault same is = (record { same = refl; no_moment = same }, is)
-reading_step may before moments moments_now input rest taken now faults.WriteFault same is = inl (record { same = refl; no_moment = same }, is)
-reading_step may before moments moments_now input rest taken now faults.NoMemory same is = inl (record { same = refl; no_moment = same }, is)
-reading_step may before moments moments_now input rest taken now faults.TooLong same is = absurd is
+pub reading_step : {S : Type 0} (may : Serves S) (halts : Halts S) (before : S) (moments moments_now : List ℕ)
+    (input rest taken now : Option (List ℕ)) (fault : SessionFault)
+    → moments_now ≡ moments → IsReadingFault input taken now fault → IsTurn may halts before before moments moments_now input rest taken now (Err fault)
+reading_step may halts before moments moments_now input rest taken now faults.BadInput same is = (record { same = refl; no_moment = same }, is)
+reading_step may halts before moments moments_now input rest taken now faults.ReadFault same is = (record { same = refl; no_moment = same }, is)
+reading_step may halts before moments moments_now input rest taken now faults.WriteFault same is = inl (record { same = refl; no_moment = same }, is)
+reading_step may halts before moments moments_now input rest taken now faults.NoMemory same is = inl (record { same = refl; no_moment = same }, is)
+reading_step may halts before moments moments_now input rest taken now faults.TooLong same is = absurd is
+reading_step may halts before moments moments_now input rest taken now faults.ServerFault same is = absurd is
 
 -- ---- turns that answered a request
 
@@ -106,10 +112,11 @@ turn_taken may before after input rest taken mid request moment response takes a
 }
 
 -- the reply was written whole
-pub answered_step : {S : Type 0} (may : Serves S) (before after : S) (moments moments_now : List ℕ) (input rest taken mid now : Option (List ℕ)) (request : Request) (moment : ℕ) (response : Response)
+pub answered_step : {S : Type 0} (may : Serves S) (halts : Halts S) (before after : S) (moments moments_now : List ℕ)
+    (input rest taken mid now : Option (List ℕ)) (request : Request) (moment : ℕ) (response : Response)
     → Takes input rest taken mid request → may before request moment response after → moments_now ≡ moments ++ moment ∷ []
-    → Appends mid now (reply_text response) → IsTurn may before after moments moments_now input rest taken now (Ok true)
-answered_step may before after moments moments_now input rest taken mid now request moment response takes answer one_more written = (
+    → Appends mid now (reply_text response) → IsTurn may halts before after moments moments_now input rest taken now (Ok true)
+answered_step may halts before after moments moments_now input rest taken mid now request moment response takes answer one_more written = (
   moment,
   one_more,
   record {
@@ -133,10 +140,37 @@ broken_turn may before after moments moments_now input rest taken mid now reques
   },
 )
 
-pub broken_step : {S : Type 0} (may : Serves S) (before after : S) (moments moments_now : List ℕ) (input rest taken mid now : Option (List ℕ)) (request : Request) (moment : ℕ) (response : Response) (fault : WriteFault)
+pub broken_step : {S : Type 0} (may : Serves S) (halts : Halts S) (before after : S) (moments moments_now : List ℕ)
+    (input rest taken mid now : Option (List ℕ)) (request : Request) (moment : ℕ) (response : Response) (fault : WriteFault)
     → Takes input rest taken mid request → may before request moment response after → moments_now ≡ moments ++ moment ∷ []
-    → AppendsPart mid now (reply_text response) → IsTurn may before after moments moments_now input rest taken now (Err (fault_of fault))
-broken_step may before after moments moments_now input rest taken mid now request moment response writes.Failed takes answer one_more written =
+    → AppendsPart mid now (reply_text response) → IsTurn may halts before after moments moments_now input rest taken now (Err (fault_of fault))
+broken_step may halts before after moments moments_now input rest taken mid now request moment response writes.Failed takes answer one_more written =
     inr (broken_turn may before after moments moments_now input rest taken mid now request moment response takes answer one_more written)
-broken_step may before after moments moments_now input rest taken mid now request moment response writes.NoMemory takes answer one_more written =
-    inr (broken_turn may before after moments moments_now input rest taken mid now request moment response takes answer one_more written)
+broken_step may halts before after moments moments_now input rest taken mid now request moment response writes.NoMemory takes answer one_more written =
+    inr (inl (broken_turn may before after moments moments_now input rest taken mid now request moment response takes answer one_more written))
+
+-- the server halted at a request that was taken off the input
+halted_turn : {S : Type 0} (halts : Halts S) (before after : S) (moments moments_now : List ℕ)
+    (input rest taken now : Option (List ℕ)) (request : Request) (moment : ℕ) (fault : ServerFault)
+    → Takes input rest taken now request → halts before request moment fault after → moments_now ≡ moments ++ moment ∷ []
+    → HaltsTurn halts before after moments moments_now input rest taken now fault
+halted_turn halts before after moments moments_now input rest taken now request moment fault takes halted one_more = (
+  moment,
+  one_more,
+  record {
+    parts = takes.parts;
+    are_parts = takes.are_parts;
+    consumed = takes.consumed;
+    halted = subst (λ (q : Request). halts before q moment fault after) takes.request_is halted;
+    written = takes.continued;
+  },
+)
+
+pub halted_step : {S : Type 0} (may : Serves S) (halts : Halts S) (before after : S) (moments moments_now : List ℕ)
+    (input rest taken now : Option (List ℕ)) (request : Request) (moment : ℕ) (fault : ServerFault)
+    → Takes input rest taken now request → halts before request moment fault after → moments_now ≡ moments ++ moment ∷ []
+    → IsTurn may halts before after moments moments_now input rest taken now (Err (halt_of fault))
+halted_step may halts before after moments moments_now input rest taken now request moment servers.Failed takes halted one_more =
+    halted_turn halts before after moments moments_now input rest taken now request moment servers.Failed takes halted one_more
+halted_step may halts before after moments moments_now input rest taken now request moment servers.NoMemory takes halted one_more =
+    inr (inr (halted_turn halts before after moments moments_now input rest taken now request moment servers.NoMemory takes halted one_more))

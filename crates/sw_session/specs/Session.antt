@@ -1,7 +1,7 @@
 -- What a session is: the replies to the requests that make up its input, one after the other. (This project's own.)
 --
--- How bytes become requests is the grammar's, in `BeginsWith`; who answers them is a relation. `SoFar` is the one statement that every
--- way to end a session begins with.
+-- How bytes become requests is the grammar's, in `BeginsWith`; who answers them is a relation, and how that one may halt is another.
+-- `SoFar` is the one statement that every way to end a session begins with.
 use Rattle.std.specs.Prelude.{◌≡◌, ℕ, ◌<◌, List, [], ◌∷◌, ◌++◌, length, ⊤, Option, IfSome, Result, Ok, Err, ◌⊎◌}
 use Rattle.std.specs.Io.KnownBytes.{Appends, IsAtEnd}
 use Rattle.sw_outside.specs.Counts.{raised}
@@ -9,8 +9,10 @@ use Rattle.sw_http.specs.Reading.{BeginsWith}
 use Rattle.sw_http.specs.Request.{IsSkipped}
 use Rattle.sw_message.specs.declared.request.Request.{Request}
 use Rattle.sw_session.specs.Passages.{Passage}
-use Rattle.sw_session.specs.Replies.{Replies, Serves}
-use Rattle.sw_session.specs.Turn.{RefusesRest, RepliedPart, StopsBetween, TellsWhole}
+use Rattle.sw_session.specs.Replies.{Halts, Replies, Serves}
+use Rattle.sw_session.specs.Turn.{Halted, RefusesRest, RepliedPart, StopsBetween, TellsWhole}
+use Rattle.sw_session.specs.declared.server.ServerFault.{ServerFault}
+use Rattle.sw_session.specs.declared.server.ServerFault.TheVariants as servers
 use Rattle.sw_session.specs.declared.session.SessionFault.{SessionFault}
 use Rattle.sw_session.specs.declared.session.SessionFault.TheVariants as faults
 
@@ -77,6 +79,20 @@ pub record BrokenAtReply {S : Type 0} (may : Serves S) (start : S) (input taken 
   pub behind : Option (List ℕ)
   pub cut : RepliedPart may then after rest behind mid now moment
 
+-- some first requests were answered, and at one request more the server halted: none of its reply was written
+pub record HaltedAt {S : Type 0} (may : Serves S) (halts : Halts S) (start : S) (input taken now : Option (List ℕ)) (moments : List ℕ) (after : S)
+    (fault : ServerFault) : Type 0 where
+  pub rest : Option (List ℕ)
+  pub mid : Option (List ℕ)
+  pub earlier : List ℕ
+  pub then : S
+  pub done : SoFar may start input rest taken mid earlier then
+  pub few : length done.requests < most_requests
+  pub moment : ℕ
+  pub moments_are : moments ≡ earlier ++ moment ∷ []
+  pub behind : Option (List ℕ)
+  pub halt : Halted halts then after rest behind mid now moment fault
+
 -- all replies but the last are whole
 abbrev pub Broken : {S : Type 0} → Serves S → S → Option (List ℕ) → Option (List ℕ) → Option (List ℕ) → List ℕ → S → Type 0
 Broken may start input taken now moments after =
@@ -91,17 +107,30 @@ abbrev pub HasFailed : Passage → Type 0
 HasFailed end = end.faults_now ≡ raised end.faults
 
 -- How a session ended, by what its loop answered. A call that fails ends it, and after that none is made: so one call failed where the
--- session ended by it, and else none.
-abbrev pub IsSession : {S : Type 0} → Serves S → S → Passage → Passage → List ℕ → S → Result ⊤ SessionFault → Type 0
-IsSession may start source sink moments after (Ok _) =
+-- session ended by it, and else none. A server's fault ends it too, and fails no call of either end.
+abbrev pub IsSession : {S : Type 0} → Serves S → Halts S → S → Passage → Passage → List ℕ → S → Result ⊤ SessionFault → Type 0
+IsSession may halts start source sink moments after (Ok _) =
     Complete may start source.before sink.before sink.now moments after × IsAtEnd source.now × IsSound source × IsSound sink
-IsSession may start source sink moments after (Err faults.ReadFault) =
+IsSession may halts start source sink moments after (Err faults.ReadFault) =
     Stopped may start source.before sink.before sink.now moments after × HasFailed source × IsSound sink
-IsSession may start source sink moments after (Err faults.WriteFault) =
+IsSession may halts start source sink moments after (Err faults.WriteFault) =
     Broken may start source.before sink.before sink.now moments after × IsSound source × HasFailed sink
-IsSession may start source sink moments after (Err faults.TooLong) =
+IsSession may halts start source sink moments after (Err faults.TooLong) =
     Full may start source.before sink.before sink.now moments after × IsSound source × IsSound sink
-IsSession may start source sink moments after (Err faults.BadInput) =
+IsSession may halts start source sink moments after (Err faults.BadInput) =
     Refused may start source.before sink.before sink.now moments after × IsSound source × IsSound sink
-IsSession may start source sink moments after (Err faults.NoMemory) =
-    Broken may start source.before sink.before sink.now moments after × IsSound source × IsSound sink
+IsSession may halts start source sink moments after (Err faults.ServerFault) =
+    HaltedAt may halts start source.before sink.before sink.now moments after servers.Failed × IsSound source × IsSound sink
+IsSession may halts start source sink moments after (Err faults.NoMemory) =
+    (Broken may start source.before sink.before sink.now moments after
+    ⊎ HaltedAt may halts start source.before sink.before sink.now moments after servers.NoMemory) × IsSound source × IsSound sink
+
+-- what the server is at the end: P where it never halted, and Q where it halted by this fault
+abbrev pub EndsAs : {S : Type 0} → (S → Type 0) → (ServerFault → S → Type 0) → S → Result ⊤ SessionFault → Type 0
+EndsAs P Q after (Ok _) = P after
+EndsAs P Q after (Err faults.ReadFault) = P after
+EndsAs P Q after (Err faults.WriteFault) = P after
+EndsAs P Q after (Err faults.TooLong) = P after
+EndsAs P Q after (Err faults.BadInput) = P after
+EndsAs P Q after (Err faults.ServerFault) = Q servers.Failed after
+EndsAs P Q after (Err faults.NoMemory) = P after ⊎ Q servers.NoMemory after

@@ -4,13 +4,15 @@ use Rattle.std.specs.Io.KnownBytes.{Appends, Consumes}
 use Rattle.httparse.specs.Grammar.{RequestHead}
 use Rattle.sw_outside.specs.Counts.{raised}
 use Rattle.sw_outside.specs.Taken.{AppendsPart}
-use Rattle.sw_http.specs.Continue.{BeginsNone, HasHead, MayContinue, Takes, continue_of}
+use Rattle.sw_http.specs.Continue.{BeginsNone, HasHead, MayContinue, Takes, continue_of, continue_text}
 use Rattle.sw_message.specs.Reply.{reply_text}
 use Rattle.sw_http.specs.Request.{Parts, AreParts, request_of, text_of, IsSkipped, IsNoRequest}
 use Rattle.sw_message.specs.declared.request.Request.{Request}
 use Rattle.sw_message.specs.declared.response.ReplyBody.TheVariants.{Whole}
 use Rattle.sw_message.specs.declared.response.Response.{Response}
-use Rattle.sw_session.specs.Replies.{Serves, written_for}
+use Rattle.sw_session.specs.Replies.{Halts, Serves, written_for}
+use Rattle.sw_session.specs.declared.server.ServerFault.{ServerFault}
+use Rattle.sw_session.specs.declared.server.ServerFault.TheVariants as servers
 use Rattle.sw_session.specs.declared.session.SessionFault.{SessionFault}
 use Rattle.sw_session.specs.declared.session.SessionFault.TheVariants as faults
 
@@ -34,6 +36,16 @@ pub record RepliedPart {S : Type 0} (may : Serves S) (before after : S) (input r
   pub response : Response
   pub turn : Turns may before after input rest moment response
   pub written : AppendsPart taken now (written_for (request_of turn.parts) response)
+
+-- ---- the server halted
+
+-- a request was taken off the input, at it and this moment the server halted, and what its client asks to be told was written, and no reply
+pub record Halted {S : Type 0} (halts : Halts S) (before after : S) (input rest taken now : Option (List ℕ)) (moment : ℕ) (fault : ServerFault) : Type 0 where
+  pub parts : Parts
+  pub are_parts : AreParts parts
+  pub consumed : Consumes input rest (text_of parts)
+  pub halted : halts before (request_of parts) moment fault after
+  pub written : Appends taken now (continue_text (request_of parts).fields)
 
 -- ---- the rest of the input is no request
 
@@ -77,6 +89,7 @@ IsReadingFault input taken now faults.ReadFault = TellsWhole input taken now
 IsReadingFault input taken now faults.WriteFault = StopsBetween input taken now
 IsReadingFault input taken now faults.NoMemory = StopsBetween input taken now
 IsReadingFault input taken now faults.TooLong = ⊥
+IsReadingFault input taken now faults.ServerFault = ⊥
 
 -- what a refused rest's reply leaves on the sink, by how the session ends
 abbrev pub IsRefusal : Option (List ℕ) → Option (List ℕ) → Result (Option Request) SessionFault → Type 0
@@ -85,6 +98,7 @@ IsRefusal taken now (Err faults.WriteFault) = AppendsPart taken now refusal
 IsRefusal taken now (Err faults.NoMemory) = AppendsPart taken now refusal
 IsRefusal taken now (Err faults.ReadFault) = ⊥
 IsRefusal taken now (Err faults.TooLong) = ⊥
+IsRefusal taken now (Err faults.ServerFault) = ⊥
 IsRefusal taken now (Ok request) = ⊥
 
 -- what the reading of one request left, by what it answered
@@ -105,22 +119,31 @@ abbrev pub CutsReply : {S : Type 0} → Serves S → S → S → List ℕ → Li
 CutsReply may before after moments moments_now input rest taken now =
     (moment : ℕ) × (moments_now ≡ moments ++ moment ∷ []) × RepliedPart may before after input rest taken now moment
 
+-- the server halted at one request more
+abbrev pub HaltsTurn : {S : Type 0} → Halts S → S → S → List ℕ → List ℕ → Option (List ℕ) → Option (List ℕ) → Option (List ℕ) → Option (List ℕ)
+    → ServerFault → Type 0
+HaltsTurn halts before after moments moments_now input rest taken now fault =
+    (moment : ℕ) × (moments_now ≡ moments ++ moment ∷ []) × Halted halts before after input rest taken now moment fault
+
 -- what one turn did, by what it answered
-abbrev pub IsTurn : {S : Type 0} → Serves S → S → S → List ℕ → List ℕ → Option (List ℕ) → Option (List ℕ) → Option (List ℕ) → Option (List ℕ)
+abbrev pub IsTurn : {S : Type 0} → Serves S → Halts S → S → S → List ℕ → List ℕ → Option (List ℕ) → Option (List ℕ) → Option (List ℕ) → Option (List ℕ)
     → Result Bool SessionFault → Type 0
-IsTurn may before after moments moments_now input rest taken now (Ok true) =
+IsTurn may halts before after moments moments_now input rest taken now (Ok true) =
     (moment : ℕ) × (moments_now ≡ moments ++ moment ∷ []) × Replied may before after input rest taken now moment
-IsTurn may before after moments moments_now input rest taken now (Ok false) =
+IsTurn may halts before after moments moments_now input rest taken now (Ok false) =
     Idles before after moments moments_now × IfSome input IsSkipped × Appends taken now []
-IsTurn may before after moments moments_now input rest taken now (Err faults.BadInput) =
+IsTurn may halts before after moments moments_now input rest taken now (Err faults.BadInput) =
     Idles before after moments moments_now × RefusesRest input taken now
-IsTurn may before after moments moments_now input rest taken now (Err faults.ReadFault) =
+IsTurn may halts before after moments moments_now input rest taken now (Err faults.ReadFault) =
     Idles before after moments moments_now × TellsWhole input taken now
-IsTurn may before after moments moments_now input rest taken now (Err faults.WriteFault) =
+IsTurn may halts before after moments moments_now input rest taken now (Err faults.WriteFault) =
     (Idles before after moments moments_now × StopsBetween input taken now) ⊎ CutsReply may before after moments moments_now input rest taken now
-IsTurn may before after moments moments_now input rest taken now (Err faults.NoMemory) =
+IsTurn may halts before after moments moments_now input rest taken now (Err faults.NoMemory) =
     (Idles before after moments moments_now × StopsBetween input taken now) ⊎ CutsReply may before after moments moments_now input rest taken now
-IsTurn may before after moments moments_now input rest taken now (Err faults.TooLong) = ⊥
+    ⊎ HaltsTurn halts before after moments moments_now input rest taken now servers.NoMemory
+IsTurn may halts before after moments moments_now input rest taken now (Err faults.TooLong) = ⊥
+IsTurn may halts before after moments moments_now input rest taken now (Err faults.ServerFault) =
+    HaltsTurn halts before after moments moments_now input rest taken now servers.Failed
 
 -- ---- counts of faults
 
@@ -131,4 +154,5 @@ IsCounted reads reads_now writes writes_now (Err faults.ReadFault) = (reads_now 
 IsCounted reads reads_now writes writes_now (Err faults.WriteFault) = (reads_now ≡ reads) × (writes_now ≡ raised writes)
 IsCounted reads reads_now writes writes_now (Err faults.TooLong) = (reads_now ≡ reads) × (writes_now ≡ writes)
 IsCounted reads reads_now writes writes_now (Err faults.BadInput) = (reads_now ≡ reads) × (writes_now ≡ writes)
+IsCounted reads reads_now writes writes_now (Err faults.ServerFault) = (reads_now ≡ reads) × (writes_now ≡ writes)
 IsCounted reads reads_now writes writes_now (Err faults.NoMemory) = (reads_now ≡ reads) × (writes_now ≡ writes)

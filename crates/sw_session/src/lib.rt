@@ -2,8 +2,9 @@
 //!
 //! [`serve`] is the one call. What it promises is a statement over bytes: for each way to end, what was written is exactly what is written
 //! for the requests that make up the input, as the grammar of `sw_http` cuts them, each answered at the clock's next moment by what the
-//! server is after those before it. `specs/Session.antt` has the words. It holds over any server, known by a relation alone, and over
-//! sources, sinks and clocks that tell nothing.
+//! server is after those before it. `specs/Session.antt` has the words. It holds over any server, known by two relations alone, of its
+//! replies and of how it may halt, and over sources, sinks and clocks that tell nothing. A server that can't go on ends its session, and
+//! nothing is written for the request at which it halted but what its client asked to be told.
 //!
 //! The next layer up is `sw_cluster`, whose server is the nodes of a ring.
 #![tactic(auto)]
@@ -11,5 +12,5 @@
 mod server;
 mod session;
 
-pub use server::Server;
+pub use server::{Server, ServerFault};
 pub use session::{MOST_REQUESTS, SessionFault, serve};

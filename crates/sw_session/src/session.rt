@@ -1,11 +1,11 @@
-ghost use Rattle.std.specs.Prelude.{◌≡◌, ℕ, List, Option, None, Ok, Err, false, []};
+ghost use Rattle.std.specs.Prelude.{◌≡◌, ℕ, List, OnOk, Option, None, Ok, Err, false, []};
 ghost use Rattle.std.specs.Io.KnownBytes.{IsAtEnd, prepend_known};
 ghost use Rattle.sw_outside.specs.Readings.{TicksEach};
 ghost use Rattle.sw_session.specs.Passages.{passage};
 ghost use Rattle.sw_session.specs.Session.{IsSession};
 ghost use Rattle.sw_session.specs.Turn.{IsCounted, IsReceived, IsRefusal, IsTurn};
 
-use crate::server::Server;
+use crate::server::{Server, ServerFault};
 use std::alloc::Global;
 use sw_http::{Held, HttpFault, next_request};
 use sw_message::{FieldList, ReplyBody, Request, Response, WriteFault, write_response};
@@ -23,6 +23,8 @@ pub enum SessionFault {
     TooLong,
     /// The rest of the input is no request. It was refused with a 400.
     BadInput,
+    /// The server can't go on.
+    ServerFault,
     NoMemory,
 }
 
@@ -36,6 +38,20 @@ impl From<WriteFault> for SessionFault {
         match error {
             WriteFault::Failed => SessionFault::WriteFault,
             WriteFault::NoMemory => SessionFault::NoMemory,
+        }
+    }
+}
+
+impl From<ServerFault> for SessionFault {
+    ghost use Rattle.std.specs.Prelude.{◌≡◌};
+    ghost use Rattle.sw_session.specs.Fault.{halt_of};
+
+    ghost from_gives = { λ error fault. fault ≡ halt_of error };
+
+    fn from(error: ServerFault) -> SessionFault {
+        match error {
+            ServerFault::Failed => SessionFault::ServerFault,
+            ServerFault::NoMemory => SessionFault::NoMemory,
         }
     }
 }
@@ -74,7 +90,7 @@ fn receive<R: Source, W: Sink>(
 }
 
 /// Reads one request, has it answered at the moment that the clock then shows, and writes the reply. Answers false where the input
-/// ended in place of a request.
+/// ended in place of a request. Nothing is written in place of a reply where the server halts.
 ///
 /// The room for the moment is made first, so that no request is read whose moment couldn't be kept.
 fn turn<V: Server, R: Source, W: Sink, C: Clock>(
@@ -86,7 +102,10 @@ fn turn<V: Server, R: Source, W: Sink, C: Clock>(
     out: &mut W,
     clock: &mut C,
 ) -> Result<bool, SessionFault>
-    ensures turn { IsTurn V.serves server.old server.new moments.old.items moments.new.items (prepend_known held.old (R.left source.old)) (prepend_known held.new (R.left source.new)) (W.taken out.old) (W.taken out.new) result }
+    requires ready { V.ready server.old }
+    ensures ready { OnOk result (V.ready server.new) }
+    ensures turn { IsTurn V.serves V.halts server.old server.new moments.old.items moments.new.items (prepend_known held.old (R.left source.old))
+        (prepend_known held.new (R.left source.new)) (W.taken out.old) (W.taken out.new) result }
     ensures ticks { (start : Option (List ℕ)) → TicksEach start (C.readings clock.old) moments.old.items → TicksEach start (C.readings clock.new) moments.new.items }
     ensures at_end { result ≡ Ok false → IsAtEnd (R.left source.new) }
     ensures counted { IsCounted (R.faults source.old) (R.faults source.new) (W.faults out.old) (W.faults out.new) result }
@@ -99,13 +118,13 @@ fn turn<V: Server, R: Source, W: Sink, C: Clock>(
     };
     let now = clock.now();
     moments.push_reserved(now);
-    let response = server.answer(alloc, request, now);
+    let response = server.answer(alloc, request, now)?;
     write_response(alloc, out, &response)?;
     Ok(true)
 }
 
 /// Answers the requests that come from the source, one after the other, to the end of the input, each at the moment that the clock shows
-/// once it was read. `moments` is empty at the call, and holds these moments at the end.
+/// once it was read, or to the first request at which the server halts. `moments` is empty at the call, and holds these moments at the end.
 pub fn serve<V: Server, R: Source, W: Sink, C: Clock>(
     alloc: Global,
     server: &mut V,
@@ -115,7 +134,9 @@ pub fn serve<V: Server, R: Source, W: Sink, C: Clock>(
     clock: &mut C,
 ) -> Result<(), SessionFault>
     requires none_read { moments.old.items ≡ [] }
-    ensures session { IsSession V.serves server.old (passage R.left R.faults source.old source.new) (passage W.taken W.faults out.old out.new) moments.new.items server.new result }
+    requires ready { V.ready server.old }
+    ensures session { IsSession V.serves V.halts server.old (passage R.left R.faults source.old source.new) (passage W.taken W.faults out.old out.new)
+        moments.new.items server.new result }
     ensures ticks { TicksEach (C.readings clock.old) (C.readings clock.new) moments.new.items }
 {
     let mut held = Held::new(alloc);

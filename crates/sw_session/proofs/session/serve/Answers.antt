@@ -1,4 +1,4 @@
-use Rattle.std.proofs.Common.{ap, arith, refl, sym, ◌∙◌, Err, Ok}
+use Rattle.std.proofs.Common.{ap, arith, refl, ◌∙◌, Ok}
 use Rattle.std.specs.Io.KnownBytes.{prepend_known}
 use Rattle.std.proofs.lemmas.Result.{err_from_is_err_and}
 use Rattle.sw_session.specs.Passages.{Passage, passage}
@@ -7,11 +7,15 @@ use Rattle.sw_session.proofs.session.serve.Goals as goal
 
 pub loop-init : goal.loop-init
 loop-init g c = record {
+  ready = c.requires.ready;
   progress = rw c.requires.none_read (rw c.new-held.ensures (begun_with g.V.Server.serves _ _ _));
   ticks = rw c.requires.none_read refl;
   reads = refl;
   writes = refl;
 }
+
+pub turn-requires : goal.turn-requires
+turn-requires g c = record { ready = c.loop.invariant.ready }
 
 -- a fault ended it
 pub returns-in_err-turn-clause-session : goal.returns-in_err-turn-clause-session
@@ -20,7 +24,8 @@ returns-in_err-turn-clause-session g c =
     let source : Passage = passage g.R.Source.left g.R.Source.faults c.args.source.now c.turn.new.source in
     let sink : Passage = passage g.W.Sink.taken g.W.Sink.faults c.args.out.now c.turn.new.out in
     rw (exit.1, exit.2) (
-    ended_by g.V.Server.serves _ _ _ source sink _ (prepend_known c.turn.new.held (g.R.Source.left c.turn.new.source)) _ _ _ _ _ _ _ c.loop.invariant.progress c.loop-test.true c.in_err-turn.ensures.turn
+    ended_by g.V.Server.serves g.V.Server.halts _ _ _ source sink _ (prepend_known c.turn.new.held (g.R.Source.left c.turn.new.source))
+    _ _ _ _ _ _ _ c.loop.invariant.progress c.loop-test.true c.in_err-turn.ensures.turn
     c.loop.invariant.reads c.loop.invariant.writes c.in_err-turn.ensures.counted
     )
 
@@ -29,13 +34,17 @@ pub returns-then-not-branch-clause-session : goal.returns-then-not-branch-clause
 returns-then-not-branch-clause-session g c =
     let source : Passage = passage g.R.Source.left g.R.Source.faults c.args.source.now c.turn.new.source in
     let sink : Passage = passage g.W.Sink.taken g.W.Sink.faults c.args.out.now c.turn.new.out in
-    ended g.V.Server.serves _ _ _ source sink _ (prepend_known c.turn.new.held (g.R.Source.left c.turn.new.source)) _ _ _ _ _ _ c.loop.invariant.progress c.loop-test.true (rw c.if-not-branch.true at c.in_ok-turn.ensures.turn) (c.in_ok-turn.ensures.at_end (ap Ok c.if-not-branch.true))
+    ended g.V.Server.serves g.V.Server.halts _ _ _ source sink _ (prepend_known c.turn.new.held (g.R.Source.left c.turn.new.source))
+    _ _ _ _ _ _ c.loop.invariant.progress c.loop-test.true (rw c.if-not-branch.true at c.in_ok-turn.ensures.turn)
+    (c.in_ok-turn.ensures.at_end (ap Ok c.if-not-branch.true))
     c.loop.invariant.reads c.loop.invariant.writes c.in_ok-turn.ensures.counted
 
 -- one request more
 pub loop-preserved : goal.loop-preserved
 loop-preserved g c = record {
-  progress = turn_made g.V.Server.serves _ _ _ _ _ _ _ _ _ _ _ _ c.loop.invariant.progress (rw c.if-not-branch.false at c.in_ok-turn.ensures.turn);
+  ready = c.in_ok-turn.ensures.ready;
+  progress = turn_made g.V.Server.serves g.V.Server.halts _ _ _ _ _ _ _ _ _ _ _ _ c.loop.invariant.progress
+      (rw c.if-not-branch.false at c.in_ok-turn.ensures.turn);
   ticks = c.turn.ensures.ticks _ c.loop.invariant.ticks;
   reads = c.in_ok-turn.ensures.counted.0 ∙ c.loop.invariant.reads;
   writes = c.in_ok-turn.ensures.counted.1 ∙ c.loop.invariant.writes;

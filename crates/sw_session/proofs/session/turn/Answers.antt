@@ -1,15 +1,29 @@
 use Rattle.std.proofs.lemmas.Result.{err_from_is_err_and}
-use Rattle.sw_session.proofs.Turns.{answered_step, broken_step, kept_moment, one_more_tick}
+use Rattle.sw_session.proofs.Turns.{answered_step, broken_step, halted_step, kept_moment, one_more_tick}
 use Rattle.sw_session.proofs.session.turn.Goals as goal
+
+-- the server halted
+pub returns-in_err-response-clause-turn : goal.returns-in_err-response-clause-turn
+returns-in_err-response-clause-turn g c =
+    let exit = err_from_is_err_and c.from_residual-in_err-response.result c.from_residual-in_err-response.ensures.1 in
+    rw (exit.1, exit.2) (
+    halted_step g.V.Server.serves g.V.Server.halts c.args.server.now c.answer.new.self _ _ _ _ _ _ _ c.now-now.result c.in_err-response.field-0.0
+    (rw c.in-Some.is at c.in_ok-request.ensures.received) c.in_err-response.ensures.halted
+    (kept_moment _ _ _ c.now-now.result c.reserve.ensures.items c.push_reserved.ensures.items)
+    )
+
+pub returns-in_err-response-clause-ticks : goal.returns-in_err-response-clause-ticks
+returns-in_err-response-clause-ticks g c = λ start each.
+    rw (c.push_reserved.ensures.items, c.reserve.ensures.items) (one_more_tick start _ _ _ c.now-now.result each c.now-now.ensures)
 
 -- the request was answered, and its reply not written whole
 pub returns-in_err-write_response-clause-turn : goal.returns-in_err-write_response-clause-turn
 returns-in_err-write_response-clause-turn g c =
     let exit = err_from_is_err_and c.from_residual-in_err-write_response.result c.from_residual-in_err-write_response.ensures.1 in
     rw (exit.1, exit.2) (
-    broken_step g.V.Server.serves c.args.server.now c.answer-response.new.self _ _ _ _ _ _ _ _ c.now-now.result
-    c.answer-response.result c.in_err-write_response.field-0.0 (rw c.in-Some.is at c.in_ok-request.ensures.received)
-    c.answer-response.ensures
+    broken_step g.V.Server.serves g.V.Server.halts c.args.server.now c.answer.new.self _ _ _ _ _ _ _ _ c.now-now.result
+    c.in_ok-response.response c.in_err-write_response.field-0.0 (rw c.in-Some.is at c.in_ok-request.ensures.received)
+    c.in_ok-response.ensures.served
     (kept_moment _ _ _ c.now-now.result c.reserve.ensures.items c.push_reserved.ensures.items)
     c.in_err-write_response.ensures.part
     )
@@ -21,8 +35,8 @@ returns-in_err-write_response-clause-ticks g c = λ start each.
 -- or written whole
 pub returns-clause-turn : goal.returns-clause-turn
 returns-clause-turn g c =
-    answered_step g.V.Server.serves c.args.server.now c.answer-response.new.self _ _ _ _ _ _ _ _ c.now-now.result
-    c.answer-response.result (rw c.in-Some.is at c.in_ok-request.ensures.received) c.answer-response.ensures
+    answered_step g.V.Server.serves g.V.Server.halts c.args.server.now c.answer.new.self _ _ _ _ _ _ _ _ c.now-now.result
+    c.in_ok-response.response (rw c.in-Some.is at c.in_ok-request.ensures.received) c.in_ok-response.ensures.served
     (kept_moment _ _ _ c.now-now.result c.reserve.ensures.items c.push_reserved.ensures.items)
     c.in_ok-write_response.ensures.whole
 
