@@ -3,8 +3,9 @@ use std::alloc::Global;
 use std::test::Fail;
 use sw_cleanup::{cleanup, laws, names_of_writes, obsolete, unlink_each};
 use sw_diskfile::{FileName, Picked, read_name};
+use sw_outside::FailingCall;
 use sw_timestamp::Tag;
-use sw_volume::{FailingCall, MemVolume, SoundVolume, Volume, VolumeError};
+use sw_volume::{MemVolume, SoundVolume, Volume, VolumeError};
 
 const HASH: &[u8] = b"objects/0/a83/06fbf0b514e5199dfc4e00f42eb5ea83";
 

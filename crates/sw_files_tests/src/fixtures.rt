@@ -21,3 +21,12 @@ pub(crate) fn names_of(alloc: Global, pairs: &[Named]) -> Result<Vec<FileName>, 
 pub(crate) fn are_these(found: &[Bytes], wanted: &[&[u8]]) -> bool {
     found.len() == wanted.len() && found.iter().zip(wanted).all(|(f, w)| f.as_slice() == *w)
 }
+
+/// Whether these bytes were found, or none.
+pub(crate) fn is_some_of(found: &Option<Bytes>, wanted: Option<&[u8]>) -> bool {
+    match (found, wanted) {
+        (Some(bytes), Some(wanted)) => bytes.as_slice() == wanted,
+        (None, None) => true,
+        _ => false,
+    }
+}

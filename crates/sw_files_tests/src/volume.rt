@@ -1,8 +1,8 @@
-use crate::fixtures::are_these;
+use crate::fixtures::{are_these, is_some_of};
 use std::alloc::Global;
 use std::test::Fail;
-use sw_outside::Bytes;
-use sw_volume::{FailingCall, Listing, MemVolume, SoundVolume, Volume, VolumeError};
+use sw_outside::FailingCall;
+use sw_volume::{Listing, MemVolume, SoundVolume, Volume, VolumeError};
 
 /// A call of a volume, with what a listing or a reading tells.
 #[derive(Clone, Copy)]
@@ -57,14 +57,6 @@ fn is_as_told<V: Volume>(alloc: Global, volume: &mut V, call: Call) -> Result<bo
         }
         Read(dir, file, wanted) => Ok(is_some_of(&volume.read(alloc, dir, file)?, wanted)),
         List(dir, files, folders) => Ok(has_names(&volume.list(alloc, dir)?, files, folders)),
-    }
-}
-
-fn is_some_of(found: &Option<Bytes>, wanted: Option<&[u8]>) -> bool {
-    match (found, wanted) {
-        (Some(bytes), Some(wanted)) => bytes.as_slice() == wanted,
-        (None, None) => true,
-        _ => false,
     }
 }
 

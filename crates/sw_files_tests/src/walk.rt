@@ -2,7 +2,8 @@ use crate::fixtures::are_these;
 use std::alloc::Global;
 use std::test::Fail;
 use sw_hashdir::paths_below;
-use sw_volume::{FailingCall, MemVolume, SoundVolume, Volume, VolumeError};
+use sw_outside::FailingCall;
+use sw_volume::{MemVolume, SoundVolume, Volume, VolumeError};
 
 /// Files by directory and name: one at each level, two of one path, and two that aren't below `objects` or are too far below it.
 const FILES: [(&[u8], &[u8]); 8] = [

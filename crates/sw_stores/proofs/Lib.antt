@@ -1,0 +1,4 @@
+pub mod AtPlaces
+mod Places
+mod Ranges
+mod Slots

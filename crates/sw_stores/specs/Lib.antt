@@ -1,0 +1,5 @@
+pub mod Places
+pub mod Rings
+pub mod Shelf
+pub mod Telling
+pub mod Volumes
