@@ -1,0 +1,71 @@
+-- The text of a trail: a text line for each entry that a step added to its journal, and for each restart. (This project's own.)
+use Rattle.std.specs.Prelude.{ℕ, ◌+◌, List, [], ◌∷◌, ◌++◌, codes, decimal, map, slice_index_or, if◌then◌else◌}
+use Rattle.std.specs.List.{flat_map}
+use Rattle.sw_hashpath.specs.declared.name.Name.{Name}
+use Rattle.sw_metafile.specs.Escapes.{escape}
+use Rattle.sw_peer.specs.Briefs.{brief_of}
+use Rattle.sw_peer.specs.Lines.{settled_in}
+use Rattle.sw_peer.specs.Steps.{is_entered, step_kind, time_in}
+use Rattle.sw_peer.specs.declared.change.StepKind.{StepKind}
+use Rattle.sw_peer.specs.declared.change.StepKind.TheVariants as step_kinds
+use Rattle.sw_peer.specs.declared.entry.Brief.{Brief}
+use Rattle.sw_peer.specs.declared.line.Event.{Event}
+use Rattle.sw_peer.specs.declared.line.Event.TheVariants as events
+use Rattle.sw_peer.specs.declared.line.Line.{Line}
+use Rattle.sw_timestamp.specs.TimeText.{normal_text}
+use Rattle.sw_timestamp.specs.declared.tag.Tag.{Tag}
+use Rattle.sw_timestamp.specs.declared.tag.Tag.TheVariants as tags
+
+-- what a text line says behind its number: a kind, a device, a path in escaped form, and a time
+abbrev pub told : List ℕ → List ℕ → List ℕ → List ℕ → List ℕ
+told kind device path time = codes " " ++ (kind ++ (codes " " ++ (device ++ (codes " " ++ (escape path ++ (codes " " ++ (time ++ codes "\n")))))))
+
+-- the path of a name
+abbrev pub path_of : Name → List ℕ
+path_of name = codes "/" ++ (name.account ++ (codes "/" ++ (name.container ++ (codes "/" ++ name.object))))
+
+-- what is said of a write of this kind, name and time, at this device
+abbrev pub write_told : List ℕ → List ℕ → Name → ℕ → List ℕ
+write_told kind device name time = told kind device (path_of name) (normal_text time)
+
+-- the word of what a step asks for
+abbrev pub step_word : StepKind → List ℕ
+step_word step_kinds.Put = codes "put"
+step_word step_kinds.Post = codes "post"
+step_word step_kinds.Delete = codes "delete"
+step_word step_kinds.Receive = codes "receive"
+
+-- the word of a write alone: a settled doubt doesn't tell which step asked for it
+abbrev pub write_word : Tag → List ℕ
+write_word tags.Put = codes "put"
+write_word tags.Meta = codes "post"
+write_word tags.Del = codes "delete"
+
+-- what is said of the doubt that a step settled
+abbrev pub settled_told : List ℕ → Brief → List ℕ
+settled_told device brief = write_told (write_word brief.tag) device brief.name brief.time
+
+-- what is said of the write that a step entered, and of a restart. Nothing is said of what was refused, read or listed
+abbrev pub own_told : List ℕ → Event → List (List ℕ)
+own_told device (events.Changed name change answer) =
+    if is_entered answer then write_told (step_word (step_kind change)) device name (time_in change) ∷ [] else []
+own_told device (events.Read name got) = []
+own_told device (events.Listed failed) = []
+own_told device events.Restarted = told (codes "restart") device (codes "/") (codes "-") ∷ []
+
+-- what is said of a step at this device: of the doubt that it settled, where it settled one, and then of its own write
+abbrev pub step_told : List ℕ → Line → List (List ℕ)
+step_told device line = map (settled_told device) (map brief_of (settled_in line)) ++ own_told device line.event
+
+-- what is said of a step where these are the devices
+abbrev pub line_told : List (List ℕ) → Line → List (List ℕ)
+line_told devices line = step_told (slice_index_or devices line.device []) line
+
+-- text lines with their numbers, where so many stand before them
+abbrev pub numbered : ℕ → List (List ℕ) → List ℕ
+numbered before [] = []
+numbered before (text ∷ texts) = decimal (before + 1) ++ (text ++ numbered (before + 1) texts)
+
+-- the text of a trail: what is said of each step in order, numbered from 1
+abbrev pub trail_text : List (List ℕ) → List Line → List ℕ
+trail_text devices lines = numbered 0 (flat_map (line_told devices) lines)

@@ -1,0 +1,101 @@
+ghost use Rattle.std.specs.Prelude.{◌≡◌, ◌∷◌, [], drop, map, IfOk};
+ghost use Rattle.std.specs.List.{slice_split};
+ghost use Rattle.sw_object_server.specs.Targets.{is_slash};
+ghost use Rattle.sw_control.specs.Asking.{IsAsked, IsControl, IsPlaced, is_control as is_control_path, segments_of};
+
+use std::alloc::{AllocError, Global};
+use sw_message::Request;
+use sw_object_server::{at_slash, decoded};
+use sw_outside::{Bytes, NoMemory};
+use sw_ring::Ring;
+
+/// What a control request asks for. A device is its place in the ring's list of devices.
+#[derive(Debug, Drop)]
+pub enum Control {
+    /// The trail of the session so far.
+    Trail,
+    /// The files of a device.
+    Files(u8),
+    /// A restart of a device.
+    Restart(u8),
+    /// Nothing that is known: a 400.
+    Refused,
+}
+
+/// Whether a path is that of a control request: its first segment says so.
+pub fn is_control(alloc: Global, path: &Bytes) -> Result<bool, NoMemory>
+    ensures { IfOk result (λ is. is ≡ is_control_path path.now) }
+{
+    let path = path.as_slice();
+    if !path.starts_with(b"/") {
+        return Ok(false);
+    }
+    let (first, _) = at_slash(behind_first(path));
+    let word = decoded(alloc, first)?;
+    Ok(word.as_slice() == b".swc".as_slice())
+}
+
+/// What a control request asks for. A query is passed over.
+pub fn read_control(alloc: Global, ring: &Ring, request: &Request) -> Result<Control, NoMemory>
+    ensures exact { IfOk result (IsControl ring.now request.now) }
+    ensures placed { IfOk result (IsPlaced ring.now) }
+{
+    let words = words_of(alloc, request.path.as_slice())?;
+    Ok(asked(ring, request.method.as_str(), &words))
+}
+
+/// What a method and the words behind it ask for.
+fn asked(ring: &Ring, method: &str, words: &[Bytes]) -> Control
+    ensures asked { IsAsked ring.now (method.now ∷ words.now) result }
+    ensures placed { IsPlaced ring.now result }
+{
+    match words {
+        [word] if method == "GET" && word.as_slice() == b"trail".as_slice() => Control::Trail,
+        [word, device] => of_device(ring, method, word.as_slice(), device.as_slice()),
+        _ => Control::Refused,
+    }
+}
+
+/// What a word and the name of a device ask for.
+fn of_device(ring: &Ring, method: &str, word: &[u8], device: &[u8]) -> Control
+    ensures asked { IsAsked ring.now (method.now ∷ word.now ∷ device.now ∷ []) result }
+    ensures placed { IsPlaced ring.now result }
+{
+    let Some(device) = ring.device(device) else {
+        return Control::Refused;
+    };
+    if method == "GET" && word == b"files".as_slice() {
+        Control::Files(device)
+    } else if method == "POST" && word == b"restart".as_slice() {
+        Control::Restart(device)
+    } else {
+        Control::Refused
+    }
+}
+
+/// What the segments of a path behind its first one say.
+fn words_of(alloc: Global, path: &[u8]) -> Result<Vec<Bytes>, NoMemory>
+    ensures { IfOk result (λ words. words.items ≡ segments_of path.now) }
+{
+    let (_, behind) = at_slash(behind_first(path));
+    let segments = segments(alloc, behind)?;
+    let mut words = Vec::with_capacity(alloc, segments.len())?;
+    for segment in &segments {
+        words.push(decoded(alloc, segment)?)?;
+    }
+    Ok(words)
+}
+
+/// The segments of a text, as they stand.
+fn segments(alloc: Global, text: &[u8]) -> Result<Vec<&[u8]>, AllocError>
+    ensures { IfOk result (λ segments. map (λ segment. segment.now) segments.items ≡ slice_split is_slash text.now) }
+{
+    text.split(|byte| *byte == b'/').collect(alloc)
+}
+
+/// The text behind its first byte, where there is one.
+fn behind_first(text: &[u8]) -> &[u8]
+    ensures { result.now ≡ drop 1 text.now }
+{
+    &text[text.len().min(1)..]
+}

@@ -1,0 +1,17 @@
+//! Control requests: what those whose path begins with `/.swc/` ask for, and the texts of their replies.
+//!
+//! [`is_control`] tells them from the requests of the nodes, and [`read_control`] says what one asks for: a method and words in a table,
+//! which is `specs/Asking.antt`, and nothing else but a refusal. The texts are functions of what the cluster tells: [`trail_text`] of the
+//! lines of its steps (`specs/TrailText.antt`), [`files_text`] of the files of a device; [`text_reply`] makes the reply of a text.
+//!
+//! Nothing here knows the cluster: the next layer up is `sw_cluster`, which does what is asked for.
+#![tactic(auto)]
+
+mod asking;
+pub mod laws;
+mod texts;
+mod trail_lines;
+
+pub use asking::{Control, is_control, read_control};
+pub use texts::{files_text, text_reply};
+pub use trail_lines::trail_text;

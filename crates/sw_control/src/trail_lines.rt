@@ -1,0 +1,199 @@
+ghost use Rattle.std.specs.Prelude.{◌≡◌, ◌+◌, ◌^◌, ◌≤◌, ◌<◌, ◌∷◌, ◌++◌, [], codes, map, option_to_list, IfOk, OnOk, slice_index_or};
+ghost use Rattle.std.specs.Option.{option_copied};
+ghost use Rattle.sw_peer.specs.Steps.{is_entered as is_entered_by};
+ghost use Rattle.sw_control.specs.Growth.{Adds};
+ghost use Rattle.sw_control.specs.TrailText.{line_told, own_told, path_of, settled_told, step_word, told, trail_text as trail_text_of, write_told, write_word};
+
+use itoa::Buffer;
+use std::alloc::Global;
+use sw_hashpath::Name;
+use sw_metafile::push_escaped;
+use sw_outside::{Bytes, BytesList, NoMemory};
+use sw_peer::{Answer, Brief, Event, KeptLine, StepKind};
+use sw_timestamp::{Tag, Timestamp};
+
+/// The text of a trail, for these devices: a text line for each doubt that was settled as made, each write that was entered and each
+/// restart. It has its number from 1, its kind, the device, the path in escaped form, and the time of the write, or `-`.
+pub fn trail_text(alloc: Global, devices: &BytesList, lines: &[KeptLine]) -> Result<Bytes, NoMemory>
+    ensures { IfOk result (λ text. text ≡ trail_text_of devices.now lines.now) }
+{
+    let mut texts = TextLines {
+        text: Vec::new(alloc),
+        count: 0,
+    };
+    for kept in lines {
+        texts.add_kept(alloc, devices, kept)?;
+    }
+    Ok(Bytes::from(texts.text))
+}
+
+/// The text lines so far.
+#[derive(Drop)]
+struct TextLines {
+    text: Vec<u8>,
+    /// How many they are.
+    count: u64,
+}
+
+impl TextLines {
+    /// Adds those of a line.
+    fn add_kept(
+        &mut self,
+        alloc: Global,
+        devices: &BytesList,
+        kept: &KeptLine,
+    ) -> Result<(), NoMemory>
+        requires { self.old.count + 2 < 2 ^ 64 }
+        ensures added { OnOk result (Adds self.old (line_told devices.now kept.now) self.new) }
+        ensures few { OnOk result (self.new.count ≤ self.old.count + 2) }
+    {
+        let line = kept.line();
+        let device = device_name(devices, line.device);
+        let settled = kept.settled();
+        self.add_settled(alloc, device, settled)?;
+        self.add_own(alloc, device, &line.event)
+    }
+
+    /// Adds that of a settled doubt, where there is one.
+    fn add_settled(
+        &mut self,
+        alloc: Global,
+        device: &[u8],
+        settled: Option<&Brief>,
+    ) -> Result<(), NoMemory>
+        requires { self.old.count + 1 < 2 ^ 64 }
+        ensures added { OnOk result (Adds self.old (map (settled_told device.now) (option_to_list (option_copied settled.entry))) self.new) }
+        ensures few { OnOk result (self.new.count ≤ self.old.count + 1) }
+    {
+        match settled {
+            Some(brief) => self.add_write(
+                alloc,
+                write_kind(brief.tag),
+                device,
+                &brief.name,
+                brief.time,
+            ),
+            None => Ok(()),
+        }
+    }
+
+    /// Adds that of an event's own write, or of a restart.
+    fn add_own(&mut self, alloc: Global, device: &[u8], event: &Event) -> Result<(), NoMemory>
+        requires { self.old.count + 1 < 2 ^ 64 }
+        ensures added { OnOk result (Adds self.old (own_told device.now event.now) self.new) }
+        ensures few { OnOk result (self.new.count ≤ self.old.count + 1) }
+    {
+        match event {
+            Event::Changed(name, change, answer) => {
+                if is_entered(answer) {
+                    self.add_write(alloc, step_kind(change.kind()), device, name, change.time())
+                } else {
+                    Ok(())
+                }
+            }
+            Event::Restarted => self.add(b"restart", device, b"/", b"-"),
+            Event::Read(..) | Event::Listed(_) => Ok(()),
+        }
+    }
+
+    /// Adds that of a write.
+    fn add_write(
+        &mut self,
+        alloc: Global,
+        kind: &[u8],
+        device: &[u8],
+        name: &Name,
+        time: Timestamp,
+    ) -> Result<(), NoMemory>
+        requires { self.old.count + 1 < 2 ^ 64 }
+        ensures { OnOk result (Adds self.old (write_told kind.now device.now name.now time ∷ []) self.new) }
+    {
+        let path = path_text(alloc, name)?;
+        let mut digits = [0u8; 16];
+        time.write_normal(&mut digits);
+        self.add(kind, device, &path, &digits)
+    }
+
+    /// Adds one, with the next number.
+    fn add(&mut self, kind: &[u8], device: &[u8], path: &[u8], time: &[u8]) -> Result<(), NoMemory>
+        requires { self.old.count + 1 < 2 ^ 64 }
+        ensures { OnOk result (Adds self.old (told kind.now device.now path.now time.now ∷ []) self.new) }
+    {
+        self.count += 1;
+        let text = &mut self.text;
+        text.extend_from_slice(Buffer::new().format(self.count).as_bytes())?;
+        add_word(text, kind)?;
+        add_word(text, device)?;
+        text.extend_from_slice(b" ")?;
+        push_escaped(text, path)?;
+        add_word(text, time)?;
+        text.extend_from_slice(b"\n")?;
+        Ok(())
+    }
+}
+
+/// Adds a word, with a space before it.
+fn add_word(text: &mut Vec<u8>, word: &[u8]) -> Result<(), NoMemory>
+    ensures { OnOk result (text.new.items ≡ text.old.items ++ (codes " " ++ word.now)) }
+{
+    text.extend_from_slice(b" ")?;
+    text.extend_from_slice(word)?;
+    Ok(())
+}
+
+/// Whether the answer says that the write was entered.
+fn is_entered(answer: &Answer) -> bool
+    ensures { result ≡ is_entered_by answer.now }
+{
+    match answer {
+        Answer::Done(_) | Answer::Buried(_) => true,
+        _ => false,
+    }
+}
+
+/// The word of what a step asks for.
+fn step_kind(kind: StepKind) -> &'static [u8]
+    ensures { result.now ≡ step_word kind }
+{
+    match kind {
+        StepKind::Put => b"put",
+        StepKind::Post => b"post",
+        StepKind::Delete => b"delete",
+        StepKind::Receive => b"receive",
+    }
+}
+
+/// The word of a write alone.
+fn write_kind(tag: Tag) -> &'static [u8]
+    ensures { result.now ≡ write_word tag }
+{
+    match tag {
+        Tag::Put => b"put",
+        Tag::Meta => b"post",
+        Tag::Del => b"delete",
+    }
+}
+
+/// The name of a device.
+fn device_name(devices: &BytesList, device: u8) -> &[u8]
+    ensures { result.now ≡ slice_index_or devices.now device [] }
+{
+    match devices.as_slice().get(usize::from(device)) {
+        Some(name) => name.as_slice(),
+        None => b"",
+    }
+}
+
+/// The path of a name, as it stands.
+fn path_text(alloc: Global, name: &Name) -> Result<Vec<u8>, NoMemory>
+    ensures { IfOk result (λ path. path.items ≡ path_of name.now) }
+{
+    let mut path = Vec::new(alloc);
+    path.extend_from_slice(b"/")?;
+    path.extend_from_slice(name.account.as_slice())?;
+    path.extend_from_slice(b"/")?;
+    path.extend_from_slice(name.container.as_slice())?;
+    path.extend_from_slice(b"/")?;
+    path.extend_from_slice(name.object.as_slice())?;
+    Ok(path)
+}
