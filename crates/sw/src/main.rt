@@ -7,9 +7,10 @@
 use std::io::ErrorKind;
 use std::process::ExitCode;
 use std::{env, io};
-use sw_cluster::{NO_MEMORY, RingStores, cluster, report};
+use sw_cluster::{NO_MEMORY, cluster, report};
 use sw_core::Trail;
 use sw_outside::{HostClock, ReaderSource, WriterSink};
+use sw_stores::RingStores;
 
 fn main(rt: HostRuntime) -> ExitCode {
     let mut source = ReaderSource::new(rt.stdin());

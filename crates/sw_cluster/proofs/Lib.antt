@@ -1,6 +1,10 @@
-mod NodesLemmas
+mod Controlling
 mod OpeningLemmas
+mod Resting
 mod ReportLemmas
+mod Restarting
 mod RunningLemmas
+mod Serving
 mod ServingLemmas
-mod TrailLemmas
+mod Trailing
+mod Undoing

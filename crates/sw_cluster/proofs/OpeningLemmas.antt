@@ -6,15 +6,16 @@ use Rattle.sw_hashpath.specs.BadNames.{bad_name}
 use Rattle.sw_ring.specs.declared.bad_ring.BadRing.{BadRing}
 use Rattle.sw_ring.specs.declared.ring.Ring.{Ring}
 use Rattle.sw_cluster.specs.Locating.{IsWritten, Locates}
-use Rattle.sw_cluster.specs.Opening.{EndsWith, IsOpening, IsRingRefused, Telling}
+use Rattle.sw_stores.specs.Telling.{Telling}
+use Rattle.sw_cluster.specs.Opening.{EndsWith, IsOpening, IsRingRefused}
 use Rattle.sw_cluster.specs.Whereabouts.{where_text}
 use Rattle.sw_cluster.specs.declared.opening.OpenFault.{OpenFault}
 use Rattle.sw_cluster.specs.declared.opening.OpenFault.TheVariants as faults
 
 -- the ring was opened, and the command went on
-pub opened : (told : Telling) (before now : ℕ) (kept : Type 0) (says : BadRing → Type 0) (goes_on : Ring → Type 0) (status : ℕ) (ring : Ring)
-    → IsOpening told before now (Ok ring) → goes_on ring → EndsWith told before now kept says goes_on status
-opened told before now kept says goes_on status ring opens on = inr (inr (inr (ring, opens.0, opens.1, on)))
+pub opened : (told : Telling) (before mid now : ℕ) (kept : Type 0) (says : BadRing → Type 0) (goes_on : Ring → Type 0) (status : ℕ) (ring : Ring)
+    → IsOpening told before mid (Ok ring) → goes_on ring → EndsWith told before now kept says goes_on status
+opened told before mid now kept says goes_on status ring opens on = inr (inr (inr (ring, opens.0, on)))
 
 -- it wasn't opened
 pub not_opened : (told : Telling) (before now : ℕ) (kept : Type 0) (says : BadRing → Type 0) (goes_on : Ring → Type 0) (status : ℕ) (fault : OpenFault)

@@ -1,10 +1,8 @@
 -- How the run that a trail tells goes on by a request.
-use Rattle.std.proofs.Common.{◌≡◌, ℕ, true, List, map, Option, Some, None, refl, sym, ap, ◌∙◌, subst, inl, inr, ◌⊎◌, Ok}
-use Rattle.std.specs.List.{slice_get}
+use Rattle.std.proofs.Common.{◌≡◌, ℕ, true, sym, ap, subst, inl, inr, Ok}
 use Rattle.sw_message.specs.declared.request.Request.{Request}
 use Rattle.sw_message.specs.declared.response.Response.{Response}
 use Rattle.sw_peer.proofs.Calls.{calls-moves, made-step, read-step}
-use Rattle.sw_peer.specs.Journals.{Hash}
 use Rattle.sw_peer.specs.Sights.{IsAt, IsMade, IsRead, Moves, Sight}
 use Rattle.sw_peer.specs.declared.link.Link.TheVariants.{Local}
 use Rattle.sw_ring.specs.declared.ring.Ring.{Ring}
@@ -12,25 +10,8 @@ use Rattle.sw_object_server.specs.Serving.{IsAnswered, IsGivenUp, IsLeft, IsServ
 use Rattle.sw_object_server.specs.declared.asked.Asked.{Asked}
 use Rattle.sw_object_server.specs.declared.asked.Asked.TheVariants as asks
 use Rattle.sw_core.proofs.Sessions.{run-changed-call, run-read-call}
-use Rattle.sw_core.proofs.Sound.{sound}
 use Rattle.sw_core.specs.Doors.{HasRun}
-use Rattle.sw_core.specs.Laws.{NoneFailed}
-use Rattle.sw_core.specs.Machine.{Came, Machine}
-use Rattle.sw_core.specs.Nodes.{Kept}
-use Rattle.sw_core.specs.Shelves.{SoundState, sound_faults, sound_holds, sound_tells}
-use Rattle.sw_core.specs.Worlds.{AllNodes, seen_of, sight_of}
-
--- ---- nodes in memory that never fail
-
-seen_sound : (k : Option (Kept SoundState)) → (seen_of sound_tells sound_holds sound_faults k).faults ≡ 0
-seen_sound None = refl
-seen_sound (Some k) = refl
-
--- so no step of their run has failed
-pub never_failed : (w : AllNodes SoundState) (start : Machine) → (r : HasRun start (sight_of sound_tells sound_holds sound_faults w)) → NoneFailed (map Came r.lines)
-never_failed w start r =
-    let s : Sight = sight_of sound_tells sound_holds sound_faults w in
-    sound s.nodes.lock start (map Came r.lines) r.after r.run (λ device hash. ap (λ h. h.faults) (sym (r.stands.seen (s.nodes.lock device hash))) ∙ seen_sound (slice_get w.nodes (s.nodes.lock device hash)))
+use Rattle.sw_core.specs.Machine.{Machine}
 
 -- ---- requests
 

@@ -1,9 +1,9 @@
 -- What a request that was served at the world's door leaves in its trail.
-use Rattle.std.proofs.Common.{◌≡◌, ℕ, Bool, true, false, List, [], ◌∷◌, ◌++◌, Option, Some, None, option_map, refl, sym, ap, ◌∙◌, subst, inl, inr, ◌⊎◌, Result, Ok, Err, IfOk, OnErr}
+use Rattle.std.proofs.Common.{◌≡◌, ℕ, Bool, true, false, List, [], ◌∷◌, ◌++◌, Some, option_map, refl, sym, ap, ◌∙◌, subst, inl, inr, ◌⊎◌}
 use Rattle.sw_hashpath.specs.declared.name.Name.{Name}
 use Rattle.sw_message.specs.declared.request.Request.{Request}
 use Rattle.sw_message.specs.declared.response.Response.{Response}
-use Rattle.sw_peer.specs.Sights.{Comes, IsMade, IsRead, IsSame, Sight, Trails, is_wanting, is_wanting_read}
+use Rattle.sw_peer.specs.Sights.{Comes, IsMade, IsRead, Sight, Trails, is_wanting, is_wanting_read}
 use Rattle.sw_peer.specs.Steps.{is_entered, write_of}
 use Rattle.sw_peer.specs.declared.answer.Answer.{Answer}
 use Rattle.sw_peer.specs.declared.answer.Answer.TheVariants as answers
@@ -17,12 +17,12 @@ use Rattle.sw_peer.specs.declared.line.Line.{Line}
 use Rattle.sw_peer.specs.declared.link.Link.TheVariants.{Local}
 use Rattle.sw_ring.specs.declared.ring.Ring.{Ring}
 use Rattle.sw_object_server.specs.Asking.{IsAsked}
-use Rattle.sw_object_server.specs.Replies.{bare, made_reply, reply_to, shows_field}
-use Rattle.sw_object_server.specs.Serving.{IsAnswered, IsChangeLeft, IsGivenUp, IsLeft, IsReadLeft, IsServed, IsStepped}
+use Rattle.sw_object_server.specs.Replies.{made_reply, reply_to, shows_field}
+use Rattle.sw_object_server.specs.Serving.{IsAnswered, IsGivenUp, IsLeft, IsServed, IsStepped}
 use Rattle.sw_object_server.specs.Showing.{IsShown}
 use Rattle.sw_object_server.specs.declared.asked.Asked.{Asked}
 use Rattle.sw_object_server.specs.declared.asked.Asked.TheVariants as asks
-use Rattle.sw_cluster.specs.Server.{HasLine, IsDone, IsIdle, IsRight, IsWanting}
+use Rattle.sw_cluster.specs.Server.{HasLine, IsIdle, IsRight, IsWanting}
 
 -- ---- the line of one step
 

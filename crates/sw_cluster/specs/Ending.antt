@@ -1,16 +1,26 @@
 -- How a session ends, by its status, and what its trail tells. (This project's own.)
-use Rattle.std.specs.Prelude.{◌≡◌, ⊤, ℕ, List, map, Option, Result, Ok, Err}
+use Rattle.std.specs.Prelude.{◌≡◌, ⊤, ℕ, ◌*◌, ◌%◌, ◌^◌, ◌<◌, ◌≤◌, ◌==◌, Bool, true, List, [], length, map, Option, Some, Result, Ok, Err, ◌⊎◌, if◌then◌else◌}
 use Rattle.sw_outside.specs.Readings.{TicksEach}
 use Rattle.sw_session.specs.Passages.{Passage}
-use Rattle.sw_session.specs.Replies.{Serves}
+use Rattle.sw_session.specs.Replies.{Halts, Serves}
 use Rattle.sw_session.specs.Session.{IsSession}
 use Rattle.sw_session.specs.declared.session.SessionFault.{SessionFault}
 use Rattle.sw_session.specs.declared.session.SessionFault.TheVariants as faults
 use Rattle.sw_peer.specs.Journals.{Hash}
 use Rattle.sw_ring.specs.declared.ring.Ring.{Ring}
-use Rattle.sw_core.specs.Laws.{NoneFailed, told_by}
-use Rattle.sw_core.specs.Machine.{Came, Machine, Runs, empty_machine}
-use Rattle.sw_core.specs.Worlds.{lock_of}
+use Rattle.sw_core.specs.Machine.{Came, Machine, machine_of, state}
+use Rattle.sw_core.specs.Machine as machines
+use Rattle.sw_core.specs.Worlds.{AllNodes, lock_of, opened, sight_of}
+use Rattle.sw_hashdir.specs.Places.{holds}
+use Rattle.sw_hashpath.specs.HashParts.{stripe_of}
+use Rattle.sw_outside.specs.Counts.{raised}
+use Rattle.sw_peer.specs.declared.line.Line.{Line}
+use Rattle.sw_stores.specs.Places.{IsAsItWas}
+use Rattle.sw_stores.specs.Volumes.{AreStarted, RestsAgain}
+use Rattle.sw_volume.specs.Tree.{Folders}
+use Rattle.sw_volume.specs.Volume.{raised_by}
+use Rattle.sw_cluster.specs.Restarts.{AreCalled}
+use Rattle.sw_cluster.specs.Server.{MayAnswer, MayHalt}
 use Rattle.sw_core.specs.declared.trail.Trail.{Trail}
 use Rattle.sw_cluster.specs.Statuses as statuses
 
@@ -21,20 +31,76 @@ status_by (Err faults.ReadFault) = statuses.read_fault
 status_by (Err faults.WriteFault) = statuses.write_fault
 status_by (Err faults.TooLong) = statuses.too_long
 status_by (Err faults.BadInput) = statuses.bad_input
+status_by (Err faults.ServerFault) = statuses.store_fault
 status_by (Err faults.NoMemory) = statuses.no_memory
 
 -- a session ended with this status, which tells how: no two outcomes have one status
-pub record Ends {S : Type 0} (may : Serves S) (start : S) (source sink : Passage) (moments : List ℕ) (after : S) (status : ℕ) : Type 0 where
+pub record Ends {S : Type 0} (may : Serves S) (halts : Halts S) (start : S) (source sink : Passage) (moments : List ℕ) (after : S) (status : ℕ) : Type 0 where
   pub ended : Result ⊤ SessionFault
   pub status_is : status ≡ status_by ended
-  pub session : IsSession may start source sink moments after ended
+  pub session : IsSession may halts start source sink moments after ended
 
--- The trail tells what happened: its steps are a run of the machine from one in which nothing has happened, so each is answered by what
--- had reached its device and hash before; what has reached in the end is read from the entries of its lines; and its moments are the
--- clock's readings, one after the other.
-pub record IsTrail (ring : Ring) (clock clock_now : Option (List ℕ)) (trail : Trail) : Type 0 where
-  pub machine : Machine
-  pub run : Runs (lock_of ring.lock_bits) empty_machine (map Came trail.steps) machine
-  pub none_failed : NoneFailed (map Came trail.steps)  -- nodes in memory never fail
-  pub reached : (device : ℕ) (hash : Hash) → machine.reached device hash ≡ told_by (map Came trail.steps) device hash
-  pub moments : TicksEach clock clock_now trail.moments
+module _ {V : Type 0} (tells : V → Bool) (files : V → Folders) (faults : V → ℕ) where
+  -- each lock tells what it holds
+  abbrev pub AllTold : Ring → AllNodes V → Type 0
+  AllTold ring w = (device : ℕ) (hash : Hash) → device < length ring.devices
+      → ((sight_of tells files faults w).objects.seen (lock_of ring.lock_bits device hash)).told ≡ true
+
+  -- At the place of each lock rests a volume, whose files stand for the state of what reached there, and whose count of faults is the
+  -- machine's
+  pub record IsStored (ring : Ring) (machine : Machine) (rests : ℕ → ℕ → Option V) (device : ℕ) (hash : Hash) : Type 0 where
+    pub volume : V
+    pub resting : rests device (stripe_of hash ring.lock_bits % 2 ^ ring.lock_bits) ≡ Some volume
+    pub stands : holds ring.secrets ring.power (files volume) hash ≡ state machine device hash
+    pub counts : (machine.seen (lock_of ring.lock_bits device hash)).faults ≡ faults volume
+
+  -- The trail tells what happened: its steps are a run of the machine from what the nodes began with, so each is answered by what had
+  -- reached its device and hash before; and in the end the files stand for what reached.
+  pub record IsTrail (ring : Ring) (began : AllNodes V) (rests : ℕ → ℕ → Option V) (steps : List Line) : Type 0 where
+    pub machine : Machine
+    pub run : machines.Runs (lock_of ring.lock_bits) (machine_of (sight_of tells files faults began)) (map Came steps) machine
+    pub stored : (device : ℕ) (hash : Hash) → device < length ring.devices → IsStored ring machine rests device hash
+
+  -- a session was run over these nodes of a ring, and then their volumes were given back
+  pub record IsRunOver (ring : Ring) (began : AllNodes V) (rests_now : ℕ → ℕ → Option V) (store_faults store_faults_now : ℕ)
+      (store_calls store_calls_now : ℕ) (source sink : Passage) (clock clock_now : Option (List ℕ)) (trail : Trail) (status : ℕ) : Type 0 where
+    pub after : AllNodes V
+    pub ends : Ends (MayAnswer tells files faults ring) (λ w r moment fault. MayHalt tells files faults ring w r) began source sink trail.moments after status
+    pub steps : trail.steps ≡ after.lines
+    pub told : AllTold ring began → IsTrail ring began rests_now trail.steps
+    pub moments : TicksEach clock clock_now trail.moments
+    pub store_faults_are : store_faults_now ≡ (if status == statuses.store_fault then raised store_faults else store_faults)
+    pub store_calls_are : AreCalled ring after.lifted trail.steps store_calls store_calls_now
+
+  -- the volumes of a ring's nodes were started, by one call of the stores for each, and a session run over them
+  pub record IsRun (first : V → Type 0) (ring : Ring) (rests rests_now : ℕ → ℕ → Option V) (store_faults store_faults_now : ℕ)
+      (store_calls store_calls_now : ℕ) (source sink : Passage) (clock clock_now : Option (List ℕ)) (trail : Trail) (status : ℕ) : Type 0 where
+    pub volumes : List V
+    pub started : AreStarted first rests (2 ^ ring.lock_bits) 0 volumes
+    pub count : length volumes ≡ length ring.devices * 2 ^ ring.lock_bits
+    pub over : IsRunOver ring (opened ring volumes) rests_now store_faults store_faults_now
+        (raised_by (length ring.devices * 2 ^ ring.lock_bits) store_calls) store_calls_now source sink clock clock_now trail status
+
+-- no session was run: the volumes couldn't be started, or there was no memory for the nodes. Those that were started rest again
+pub record IsUnbegun {V : Type 0} (first : V → Type 0) (ring : Ring) (rests rests_now : ℕ → ℕ → Option V) (store_faults store_faults_now : ℕ)
+    (store_calls store_calls_now : ℕ) (source sink : Passage) (clock clock_now : Option (List ℕ)) (trail : Trail) (status : ℕ) : Type 0 where
+  pub why : ((status ≡ statuses.store_fault) × (store_faults_now ≡ raised store_faults)) ⊎ ((status ≡ statuses.no_memory) × (store_faults_now ≡ store_faults))
+  pub tried : ℕ
+  pub most : tried ≤ length ring.devices * 2 ^ ring.lock_bits
+  pub store_calls_are : store_calls_now ≡ raised_by tried store_calls
+  pub resting : (device stripe : ℕ) → RestsAgain first (rests device stripe) (rests_now device stripe)
+  pub nothing_read : (source.now ≡ source.before) × (source.faults_now ≡ source.faults)
+  pub nothing_written : (sink.now ≡ sink.before) × (sink.faults_now ≡ sink.faults)
+  pub no_tick : clock_now ≡ clock
+  pub no_steps : trail.steps ≡ []
+  pub no_moments : trail.moments ≡ []
+
+-- how `run` goes on with a ring, which it read by one call of the stores: from what rests in them then, which is what rested before
+pub record Runs {V : Type 0} (tells : V → Bool) (files : V → Folders) (faults : V → ℕ) (first : V → Type 0) (ring : Ring)
+    (rests rests_now : ℕ → ℕ → Option V) (store_faults store_faults_now store_calls store_calls_now : ℕ)
+    (source sink : Passage) (clock clock_now : Option (List ℕ)) (trail : Trail) (status : ℕ) : Type 0 where
+  pub began : ℕ → ℕ → Option V
+  pub same : IsAsItWas rests began
+  pub ends : IsRun tells files faults first ring began rests_now store_faults store_faults_now (raised store_calls) store_calls_now source sink
+      clock clock_now trail status
+      ⊎ IsUnbegun first ring began rests_now store_faults store_faults_now (raised store_calls) store_calls_now source sink clock clock_now trail status

@@ -1,12 +1,10 @@
-pub mod Control
 pub mod Ending
 pub mod Locating
 pub mod Nodes
 pub mod Opening
 pub mod Report
-pub mod Rings
+pub mod Restarts
 pub mod Server
 pub mod Statuses
-pub mod TrailText
 pub mod Whereabouts
 pub mod Words

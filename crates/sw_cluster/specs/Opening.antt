@@ -1,21 +1,14 @@
 -- What a command finds where it opens its ring. (This project's own.)
-use Rattle.std.specs.Prelude.{◌≡◌, ℕ, List, ⊤, Option, Some, IfSome, Result, Ok, Err, ◌⊎◌}
+use Rattle.std.specs.Prelude.{◌≡◌, ℕ, List, Result, Ok, Err, ◌⊎◌}
 use Rattle.sw_outside.specs.Counts.{raised}
 use Rattle.sw_ring.specs.Tables.{data_of}
 use Rattle.sw_ring.specs.Texts.{ring_text}
 use Rattle.sw_ring.specs.declared.bad_ring.BadRing.{BadRing}
 use Rattle.sw_ring.specs.declared.ring.Ring.{Ring}
+use Rattle.sw_stores.specs.Telling.{IsKept, Telling}
 use Rattle.sw_cluster.specs.Statuses as statuses
 use Rattle.sw_cluster.specs.declared.opening.OpenFault.{OpenFault}
 use Rattle.sw_cluster.specs.declared.opening.OpenFault.TheVariants as faults
-
--- What stores tell of a ring's name: nothing; or that they have no such ring; or its text.
-abbrev pub Telling : Type 0
-Telling = Option (Option (List ℕ))
-
--- the stores have this text, as far as they tell
-abbrev pub IsKept : Telling → List ℕ → Type 0
-IsKept told text = IfSome told (λ known. known ≡ Some text)
 
 -- the text that the stores have is that of this ring
 abbrev pub OpensTo : Telling → Ring → Type 0
@@ -39,7 +32,7 @@ EndsWith told before now kept says goes_on status =
     ((status ≡ statuses.store_fault) × (now ≡ raised before) × kept)
     ⊎ (((status ≡ statuses.no_memory) × (now ≡ before) × kept)
     ⊎ (((bad : BadRing) × OpensToBad told bad × (now ≡ before) × (status ≡ statuses.bad_ring) × says bad × kept)
-    ⊎ ((ring : Ring) × OpensTo told ring × (now ≡ before) × goes_on ring)))
+    ⊎ ((ring : Ring) × OpensTo told ring × goes_on ring)))
 
 -- how a command ends whose ring wasn't opened
 abbrev pub IsRingRefused : OpenFault → ℕ → (BadRing → Type 0) → Type 0

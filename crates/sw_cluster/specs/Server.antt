@@ -2,14 +2,12 @@
 --
 -- A reply is a relation, since want of memory may be answered in place of any reply. Then no step came, or the one that the request asks
 -- for, which changed nothing.
-use Rattle.std.specs.Prelude.{◌≡◌, ℕ, true, false, List, ◌∷◌, [], ◌++◌, MatchBool, ◌⊎◌}
-use Rattle.sw_hashpath.specs.declared.name.Name.{Name}
+use Rattle.std.specs.Prelude.{◌≡◌, ℕ, Bool, true, false, List, ◌∷◌, [], ◌++◌, MatchBool, ◌⊎◌, Result, Ok, Err, IfOk}
 use Rattle.sw_message.specs.declared.request.Request.{Request}
 use Rattle.sw_message.specs.declared.response.Response.{Response}
 use Rattle.sw_ring.specs.declared.ring.Ring.{Ring}
 use Rattle.sw_peer.specs.Steps.{is_entered, write_of}
 use Rattle.sw_peer.specs.declared.answer.Answer.{Answer}
-use Rattle.sw_peer.specs.declared.change.Change.{Change}
 use Rattle.sw_peer.specs.declared.entry.ObjEntry.{ObjEntry}
 use Rattle.sw_peer.specs.declared.got.Got.{Got}
 use Rattle.sw_peer.specs.declared.line.Event.{Event}
@@ -21,7 +19,19 @@ use Rattle.sw_object_server.specs.Replies.{bare, made_reply, reply_to}
 use Rattle.sw_object_server.specs.Showing.{IsShown}
 use Rattle.sw_object_server.specs.declared.asked.Asked.{Asked}
 use Rattle.sw_object_server.specs.declared.asked.Asked.TheVariants as asks
-use Rattle.sw_cluster.specs.Control.{IsControlled, is_control}
+use Rattle.sw_control.specs.Asking.{IsControl, is_control}
+use Rattle.sw_control.specs.Texts.{files_text, text_reply}
+use Rattle.sw_control.specs.TrailText.{trail_text}
+use Rattle.sw_control.specs.declared.asking.Control.{Control}
+use Rattle.sw_control.specs.declared.asking.Control.TheVariants as controls
+use Rattle.sw_core.specs.Doors.{HasRun}
+use Rattle.sw_core.specs.Listing.{AreCalm, ListsFiles, is_failed}
+use Rattle.sw_core.specs.Machine.{Machine}
+use Rattle.sw_core.specs.Worlds.{AllNodes, IsSameWorld, Lifts, SetsDown, sight_of}
+use Rattle.sw_peer.specs.Sights.{IsListed}
+use Rattle.sw_volume.specs.Tree.{Folders}
+use Rattle.sw_volume.specs.declared.errors.VolumeError.{VolumeError}
+use Rattle.sw_volume.specs.declared.errors.VolumeError.TheVariants as volume_errors
 
 -- one step more came to this device, said there itself: its line tells what it asked for, its answer, and the entries that it added
 abbrev pub HasLine : List Line → ℕ → Event → List Line → Type 0
@@ -43,7 +53,8 @@ IsRight ring before r moment response after = (asked : Asked) × IsAsked ring r 
 -- the step that was asked for came, and entered no write. A refused request has none
 abbrev pub IsIdle : List Line → Asked → List Line → Type 0
 IsIdle before (asks.Refused status) after = ⊥
-IsIdle before (asks.Change device name change) after = (answer : Answer) × HasLine before device (Changed name change answer) after × (is_entered answer ≡ false)
+IsIdle before (asks.Change device name change) after =
+    (answer : Answer) × HasLine before device (Changed name change answer) after × (is_entered answer ≡ false)
 IsIdle before (asks.Read device name head_only) after = (got : Got) × HasLine before device (Read name got) after
 
 -- want of memory: no step came, or the one that the request asks for, which entered no write
@@ -51,9 +62,57 @@ abbrev pub IsWanting : Ring → List Line → Request → Response → List Line
 IsWanting ring before r response after =
     (response ≡ bare 500) × ((after ≡ before) ⊎ ((asked : Asked) × IsAsked ring r asked × IsIdle before asked after))
 
--- a reply that may be given: the right one, or want of memory. A control request makes no step
-abbrev pub MayAnswer : Ring → List Line → Request → ℕ → Response → List Line → Type 0
-MayAnswer ring before r moment response after =
-    MatchBool (is_control r.path)
-    ((after ≡ before) × (IsControlled ring.devices before r response ⊎ (response ≡ bare 500)))
-    (IsRight ring before r moment response after ⊎ IsWanting ring before r response after)
+-- ---- control requests
+
+-- the reply to a listing of all files of a device: only for the text of what was listed memory may be wanting yet
+abbrev pub IsFilesReply : Result (List (List ℕ)) VolumeError → Response → Type 0
+IsFilesReply (Ok paths) response = (response ≡ text_reply (files_text paths)) ⊎ (response ≡ bare 500)
+IsFilesReply (Err volume_errors.Failed) response = response ≡ bare 507
+IsFilesReply (Err volume_errors.NoMemory) response = response ≡ bare 500
+
+module _ {V : Type 0} (tells : V → Bool) (files : V → Folders) (faults : V → ℕ) where
+  -- the files of a device were listed
+  pub record IsFiled (device : ℕ) (w : AllNodes V) (response : Response) (after : AllNodes V) : Type 0 where
+    pub listed : Result (List (List ℕ)) VolumeError
+    pub moves : IsListed device (is_failed listed) (sight_of tells files faults w) (sight_of tells files faults after)
+    pub calm : is_failed listed ≡ false → AreCalm tells files faults w.slots after.slots
+    pub same : IsSameWorld w after
+    pub paths : IfOk listed (ListsFiles tells files w device)
+    pub reply : IsFilesReply listed response
+
+  -- a device was lifted, and set down over the same volumes
+  pub record IsRestarted (device : ℕ) (w after : AllNodes V) : Type 0 where
+    pub given : List V
+    pub mid : AllNodes V
+    pub up : Lifts tells files faults w device given mid
+    pub down : SetsDown mid device given after
+
+  -- what a control request asks for was done
+  abbrev pub IsControlDone : Ring → AllNodes V → Control → Response → AllNodes V → Type 0
+  IsControlDone ring w controls.Trail response after = (after ≡ w) × (response ≡ text_reply (trail_text ring.devices w.lines))
+  IsControlDone ring w (controls.Files device) response after = IsFiled device w response after
+  IsControlDone ring w (controls.Restart device) response after = IsRestarted device w after × (response ≡ text_reply [])
+  IsControlDone ring w controls.Refused response after = (after ≡ w) × (response ≡ bare 400)
+
+  -- a control request was answered, or memory ran out before anything was done
+  abbrev pub IsControlled : Ring → AllNodes V → Request → Response → AllNodes V → Type 0
+  IsControlled ring w r response after =
+      ((asked : Control) × IsControl ring r asked × IsControlDone ring w asked response after) ⊎ ((after ≡ w) × (response ≡ bare 500))
+
+  -- ---- any request
+
+  -- A reply that may be given: the right one, or want of memory; and what the world is then. Whatever run of the machine it stood for goes on
+  -- by the lines that it kept of this request.
+  pub record MayAnswer (ring : Ring) (w : AllNodes V) (r : Request) (moment : ℕ) (response : Response) (after : AllNodes V) : Type 0 where
+    pub answers : MatchBool (is_control r.path) (IsControlled ring w r response after)
+        (IsRight ring w.lines r moment response after.lines ⊎ IsWanting ring w.lines r response after.lines)
+    pub nodes : (sight_of tells files faults after).nodes ≡ (sight_of tells files faults w).nodes
+    pub runs : (start : Machine) → HasRun start (sight_of tells files faults w) → HasRun start (sight_of tells files faults after)
+
+  -- A restart was asked for, and the device lifted, but its volumes couldn't be started again: it stays out, and no request comes after it
+  pub record MayHalt (ring : Ring) (w : AllNodes V) (r : Request) (after : AllNodes V) : Type 0 where
+    pub control : is_control r.path ≡ true
+    pub device : ℕ
+    pub asked : IsControl ring r (controls.Restart device)
+    pub given : List V
+    pub up : Lifts tells files faults w device given after

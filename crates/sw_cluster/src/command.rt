@@ -1,14 +1,13 @@
-ghost use Rattle.std.specs.Prelude.{◌≡◌, ◌≢◌, ◌⊎◌, true, false, [], map};
+ghost use Rattle.std.specs.Prelude.{◌≡◌, ◌≢◌, ℕ, true, false, [], map};
 ghost use Rattle.std.specs.String.{string_bytes};
 ghost use Rattle.sw_ring.specs.declared.bad_ring.BadRing.{BadRing};
 ghost use Rattle.sw_ring.specs.declared.ring.Ring.{Ring};
 ghost use Rattle.sw_outside.specs.Counts.{raised};
 ghost use Rattle.sw_session.specs.Passages.{passage};
-ghost use Rattle.sw_cluster.specs.Ending.{Ends, IsTrail};
+ghost use Rattle.sw_cluster.specs.Ending.{Runs};
 ghost use Rattle.sw_cluster.specs.Locating.{Locates};
 ghost use Rattle.sw_cluster.specs.Opening.{EndsWith, IsRingRefused};
 ghost use Rattle.sw_cluster.specs.Report.{Reports, line_of as line_of_status, ring_line as line_of_ring};
-ghost use Rattle.sw_cluster.specs.Server.{MayAnswer};
 ghost use Rattle.sw_cluster.specs.Statuses as statuses;
 ghost use Rattle.sw_cluster.specs.Words.{account_word, are_run_words, are_where_words, container_word, object_word, ring_word};
 
@@ -16,18 +15,18 @@ use crate::locate::locate;
 use crate::opening::{OpenFault, open_ring};
 use crate::running::run_session;
 use crate::status::{BAD_RING, NO_MEMORY, STORE_FAULT, USAGE, line_of, ring_line};
-use crate::stores::Stores;
 use crate::words::{is_run, is_where, ring_of};
 use std::alloc::Global;
 use sw_core::Trail;
 use sw_outside::{Clock, Sink, Source};
+use sw_stores::Stores;
 
 /// Runs the command that the words of the command line name, without the program's own name, and answers its status.
 ///
 /// `run RING` answers the requests that come from `source` and writes the replies to `out`. `where RING ACCOUNT [CONTAINER [OBJECT]]` writes
-/// where a name is. The ring is read from `stores`, and the moments of requests from `clock`. `trail` is empty at the call; `run` leaves in it
-/// the steps that were made and the moments of the requests. The line that tells a status other than 0 goes to `errors`; a fault there changes
-/// nothing.
+/// where a name is. The ring is read from `stores`, from which `run` also has its volumes and to which it gives them back, and the moments of
+/// requests from `clock`. `trail` is empty at the call; `run` leaves in it what came to the devices and the moments of the requests. The line
+/// that tells a status other than 0 goes to `errors`; a fault there changes nothing.
 pub fn cluster<R: Source, W: Sink, E: Sink, S: Stores, C: Clock>(
     alloc: Global,
     words: &[String],
@@ -40,28 +39,33 @@ pub fn cluster<R: Source, W: Sink, E: Sink, S: Stores, C: Clock>(
 ) -> u8
     requires no_steps { trail.old.steps ≡ [] }
     requires no_moments { trail.old.moments ≡ [] }
+    requires home { (d s : ℕ) → S.out stores.old d s ≡ false }
 
     // The words are those of no command, and then nothing is read or written.
     ensures usage { are_run_words (map string_bytes words.now) ≡ false → are_where_words (map string_bytes words.now) ≡ false → (result ≡ statuses.usage) × (source.new ≡ source.old) × (out.new ≡ out.old) × (stores.new ≡ stores.old) × (clock.new ≡ clock.old) × (trail.new ≡ trail.old) }
 
-    // The replies to the requests of the input, for the ring that the stores have under the name, by the status.
+    // The replies to the requests of the input, for the ring that the stores have under the name, by the status. The stores are
+    // asked for the ring once, then once for each volume, and once more for each whenever its device is restarted.
     ensures run { are_run_words (map string_bytes words.now) ≡ true → EndsWith (S.text stores.old (ring_word (map string_bytes words.now))) (S.faults stores.old) (S.faults stores.new)
-        ((source.new ≡ source.old) × (out.new ≡ out.old) × (clock.new ≡ clock.old) × (trail.new ≡ trail.old))
+        ((source.new ≡ source.old) × (out.new ≡ out.old) × (clock.new ≡ clock.old) × (trail.new ≡ trail.old)
+        × (S.calls stores.new ≡ raised (S.calls stores.old)))
         (λ bad. Reports (E.taken errors.old) (E.taken errors.new) (E.faults errors.old) (E.faults errors.new) (line_of_ring bad))
-        (λ ring. Ends (MayAnswer ring) [] (passage R.left R.faults source.old source.new) (passage W.taken W.faults out.old out.new) trail.new.moments trail.new.steps result
-        × IsTrail ring (C.readings clock.old) (C.readings clock.new) trail.new)
+        (λ ring. Runs S.V.tells S.V.holds S.V.faults S.first ring (S.rests stores.old) (S.rests stores.new) (S.faults stores.old) (S.faults stores.new)
+        (S.calls stores.old) (S.calls stores.new) (passage R.left R.faults source.old source.new) (passage W.taken W.faults out.old out.new)
+        (C.readings clock.old) (C.readings clock.new) trail.new result)
         result }
 
     // Where the name is in that ring.
     ensures located { are_where_words (map string_bytes words.now) ≡ true → (source.new ≡ source.old) × (clock.new ≡ clock.old) × (trail.new ≡ trail.old) × EndsWith (S.text stores.old (ring_word (map string_bytes words.now))) (S.faults stores.old) (S.faults stores.new)
         (out.new ≡ out.old)
         (λ bad. Reports (E.taken errors.old) (E.taken errors.new) (E.faults errors.old) (E.faults errors.new) (line_of_ring bad))
-        (λ ring. Locates ring (account_word (map string_bytes words.now)) (container_word (map string_bytes words.now)) (object_word (map string_bytes words.now)) (W.taken out.old) (W.taken out.new) (W.faults out.old) (W.faults out.new) result)
+        (λ ring. (S.faults stores.new ≡ S.faults stores.old) × Locates ring (account_word (map string_bytes words.now)) (container_word (map string_bytes words.now)) (object_word (map string_bytes words.now)) (W.taken out.old) (W.taken out.new) (W.faults out.old) (W.faults out.new) result)
         result }
     ensures line { result ≢ statuses.bad_ring → Reports (E.taken errors.old) (E.taken errors.new) (E.faults errors.old) (E.faults errors.new) (line_of_status result) }
 
-    // The stores are asked for the ring once, and for nothing else.
-    ensures asked { (are_run_words (map string_bytes words.now) ≡ true) ⊎ (are_where_words (map string_bytes words.now) ≡ true) → S.calls stores.new ≡ raised (S.calls stores.old) }
+    // `where` asks the stores for the ring once, and for nothing else. At the end of every command they have all volumes.
+    ensures asked { are_where_words (map string_bytes words.now) ≡ true → S.calls stores.new ≡ raised (S.calls stores.old) }
+    ensures home { (d s : ℕ) → S.out stores.new d s ≡ false }
 {
     if is_run(words) {
         return run(
@@ -95,18 +99,21 @@ fn run<R: Source, W: Sink, E: Sink, S: Stores, C: Clock>(
 ) -> u8
     requires no_steps { trail.old.steps ≡ [] }
     requires no_moments { trail.old.moments ≡ [] }
+    requires home { (d s : ℕ) → S.out stores.old d s ≡ false }
+    ensures home { (d s : ℕ) → S.out stores.new d s ≡ false }
     ensures ends { EndsWith (S.text stores.old name.now) (S.faults stores.old) (S.faults stores.new)
-        ((source.new ≡ source.old) × (out.new ≡ out.old) × (clock.new ≡ clock.old) × (trail.new ≡ trail.old))
+        ((source.new ≡ source.old) × (out.new ≡ out.old) × (clock.new ≡ clock.old) × (trail.new ≡ trail.old)
+        × (S.calls stores.new ≡ raised (S.calls stores.old)))
         (λ bad. Reports (E.taken errors.old) (E.taken errors.new) (E.faults errors.old) (E.faults errors.new) (line_of_ring bad))
-        (λ ring. Ends (MayAnswer ring) [] (passage R.left R.faults source.old source.new) (passage W.taken W.faults out.old out.new) trail.new.moments trail.new.steps result
-        × IsTrail ring (C.readings clock.old) (C.readings clock.new) trail.new)
+        (λ ring. Runs S.V.tells S.V.holds S.V.faults S.first ring (S.rests stores.old) (S.rests stores.new) (S.faults stores.old) (S.faults stores.new)
+        (S.calls stores.old) (S.calls stores.new) (passage R.left R.faults source.old source.new) (passage W.taken W.faults out.old out.new)
+        (C.readings clock.old) (C.readings clock.new) trail.new result)
         result }
     ensures line { result ≢ statuses.bad_ring → Reports (E.taken errors.old) (E.taken errors.new) (E.faults errors.old) (E.faults errors.new) (line_of_status result) }
-    ensures asked { S.calls stores.new ≡ raised (S.calls stores.old) }
 {
     match open_ring(alloc, stores, name) {
         Ok(ring) => {
-            let status = run_session(alloc, &ring, source, out, clock, trail);
+            let status = run_session(alloc, &ring, source, out, stores, clock, trail);
             report(errors, status);
             status
         }

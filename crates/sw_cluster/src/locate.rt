@@ -5,18 +5,19 @@ ghost use Rattle.sw_cluster.specs.Opening.{EndsWith};
 ghost use Rattle.sw_cluster.specs.Report.{Reports, line_of as line_of_status, ring_line as line_of_ring};
 ghost use Rattle.sw_cluster.specs.Statuses as statuses;
 ghost use Rattle.sw_outside.specs.Counts.{raised};
+ghost use Rattle.sw_stores.specs.Places.{IsAsItWas};
 ghost use Rattle.sw_cluster.specs.Words.{account_word, container_word, object_word, ring_word};
 
 use crate::command::{refuse_ring, report};
 use crate::opening::open_ring;
 use crate::status::{COMPLETE, NO_MEMORY, USAGE, WRITE_FAULT};
-use crate::stores::Stores;
 use crate::whereabouts::where_text;
 use crate::words::{names_of, ring_of};
 use std::alloc::Global;
 use sw_hashpath::NameError;
 use sw_outside::{Failed, Sink};
 use sw_ring::Ring;
+use sw_stores::Stores;
 
 /// `where`: writes where the name of the words is in the ring of the words. Answers the status.
 pub fn locate<W: Sink, E: Sink, S: Stores>(
@@ -29,10 +30,12 @@ pub fn locate<W: Sink, E: Sink, S: Stores>(
     ensures ends { EndsWith (S.text stores.old (ring_word (map string_bytes words.now))) (S.faults stores.old) (S.faults stores.new)
         (out.new ≡ out.old)
         (λ bad. Reports (E.taken errors.old) (E.taken errors.new) (E.faults errors.old) (E.faults errors.new) (line_of_ring bad))
-        (λ ring. Locates ring (account_word (map string_bytes words.now)) (container_word (map string_bytes words.now)) (object_word (map string_bytes words.now)) (W.taken out.old) (W.taken out.new) (W.faults out.old) (W.faults out.new) result)
+        (λ ring. (S.faults stores.new ≡ S.faults stores.old) × Locates ring (account_word (map string_bytes words.now)) (container_word (map string_bytes words.now)) (object_word (map string_bytes words.now)) (W.taken out.old) (W.taken out.new) (W.faults out.old) (W.faults out.new) result)
         result }
     ensures line { result ≢ statuses.bad_ring → Reports (E.taken errors.old) (E.taken errors.new) (E.faults errors.old) (E.faults errors.new) (line_of_status result) }
     ensures asked { S.calls stores.new ≡ raised (S.calls stores.old) }
+    ensures out { IsAsItWas (S.out stores.old) (S.out stores.new) }
+    ensures rests { IsAsItWas (S.rests stores.old) (S.rests stores.new) }
 {
     match open_ring(alloc, stores, ring_of(words)) {
         Ok(ring) => {

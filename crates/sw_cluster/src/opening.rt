@@ -1,11 +1,12 @@
 ghost use Rattle.std.specs.Prelude.{◌≡◌};
 ghost use Rattle.sw_outside.specs.Counts.{raised};
+ghost use Rattle.sw_stores.specs.Places.{IsAsItWas};
 ghost use Rattle.sw_cluster.specs.Opening.{IsOpening};
 
-use crate::stores::Stores;
 use std::alloc::Global;
 use sw_outside::StoreError;
 use sw_ring::{BadRing, Ring, RingError, read};
+use sw_stores::Stores;
 
 /// Why a ring wasn't opened.
 #[derive(Clone, Copy, Debug, PartialEq, Eq)]
@@ -21,6 +22,8 @@ pub enum OpenFault {
 pub fn open_ring<S: Stores>(alloc: Global, stores: &mut S, name: &str) -> Result<Ring, OpenFault>
     ensures opening { IsOpening (S.text stores.old name.now) (S.faults stores.old) (S.faults stores.new) result }
     ensures once { S.calls stores.new ≡ raised (S.calls stores.old) }
+    ensures rests { IsAsItWas (S.rests stores.old) (S.rests stores.new) }
+    ensures out { IsAsItWas (S.out stores.old) (S.out stores.new) }
 {
     let text = match stores.ring(alloc, name) {
         Ok(text) => text,

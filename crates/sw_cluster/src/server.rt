@@ -1,52 +1,183 @@
-ghost use Rattle.std.specs.Prelude.{◌≤◌, length, IfOk, OnErr};
+ghost use Rattle.std.specs.Prelude.{◌≡◌, ◌<◌, ◌≤◌, ◌^◌, ◌⊎◌, true, false, length, None, IfOk, IfErr, OnOk, OnErr};
+ghost use Rattle.sw_control.specs.Texts.{files_text as files_text_of, text_reply as text_reply_of};
+ghost use Rattle.sw_object_server.specs.Replies.{bare as bare_of};
+ghost use Rattle.sw_volume.specs.Volume.{raised_by};
+ghost use Rattle.sw_cluster.specs.Nodes.{FailsToStart, IsReady, NodesAnswer, NodesHalt, faults_by};
+ghost use Rattle.sw_control.specs.Asking.{is_control as is_control_path};
+ghost use Rattle.sw_control.specs.declared.asking.Control.TheVariants as controls;
+ghost use Rattle.sw_cluster.specs.Server.{IsControlDone, IsFiled};
 
-use crate::control::{control, is_control};
 use std::alloc::Global;
-use sw_core::{SoundShelf, World};
+use sw_control::{Control, files_text, is_control, read_control, text_reply, trail_text};
+use sw_core::{Parts, World};
 use sw_message::{Request, Response};
 use sw_object_server::bare;
-use sw_outside::NoMemory;
+use sw_outside::{Bytes, BytesList, NoMemory, StoreError};
 use sw_ring::Ring;
-use sw_session::Server;
+use sw_session::{Server, ServerFault};
+use sw_stores::Stores;
+use sw_stores::volumes::restart_range;
+use sw_volume::VolumeError;
 
-/// The nodes of a ring, as the server of a session. A control request is answered by what the world tells, and all others by its nodes.
+/// The nodes of a ring, as the server of a session. A control request is answered by what the world tells, and all others by its nodes. The
+/// volumes of the nodes are those of the stores, which get them back where a device is restarted.
 #[derive(Drop)]
-pub struct Nodes<'r> {
-    pub ring: &'r Ring,
-    pub world: World<SoundShelf>,
-    ghost reached: { length ring.now.devices ≤ world.devices },
+pub struct Nodes<'a, S: Stores> {
+    pub ring: &'a Ring,
+    pub world: World<S::V>,
+    pub stores: &'a mut S,
 }
 
-impl Server for Nodes<'_> {
-    ghost use Rattle.sw_cluster.specs.Nodes.{NodesAnswer};
+impl<S: Stores> Server for Nodes<'_, S> {
+    ghost ready = { λ n. IsReady S.out n.ring.now n.world n.stores.now };
 
-    ghost serves = { λ old request moment response new. NodesAnswer old request moment response new };
+    ghost serves = { λ old request moment response new. NodesAnswer S.V.tells S.V.holds S.V.faults S.faults S.calls S.out
+        old.ring.now new.ring.now old.world new.world old.stores new.stores request moment response };
 
-    fn answer(&mut self, alloc: Global, request: Request, now: u64) -> Response {
-        match self.try_answer(alloc, request, now) {
-            Ok(response) => response,
-            Err(NoMemory) => bare(alloc, 500),
-        }
-    }
-}
+    ghost halts = { λ old request moment fault new. NodesHalt S.V.tells S.V.holds S.V.faults S.faults S.calls S.rests S.out
+        old.ring.now new.ring.now old.world new.world old.stores new.stores request fault };
 
-impl Nodes<'_> {
-    ghost use Rattle.sw_cluster.specs.Nodes.{NodesAnswer, WantsMemory};
-
-    /// The one right reply; or [`NoMemory`], with which nothing has changed but that the step which was asked for may have come.
-    fn try_answer(
+    fn answer(
         &mut self,
         alloc: Global,
         request: Request,
         now: u64,
-    ) -> Result<Response, NoMemory>
-        ensures ok { IfOk result (λ response. NodesAnswer self.old request now response self.new) }
-        ensures err { OnErr result (WantsMemory self.old request self.new) }
-    {
-        if is_control(alloc, &request.path)? {
-            control(alloc, &self.ring.devices, self.world.lines(), &request)
-        } else {
-            sw_object_server::answer(alloc, &mut self.world, self.ring, request, now)
+    ) -> Result<Response, ServerFault> {
+        match is_control(alloc, &request.path) {
+            Ok(true) => self.control(alloc, &request, now),
+            Ok(false) => Ok(self.serve(alloc, request, now)),
+            Err(NoMemory) => Ok(bare(alloc, 500)),
         }
+    }
+}
+
+impl<S: Stores> Nodes<'_, S> {
+    /// Answers a request of the nodes.
+    fn serve(&mut self, alloc: Global, request: Request, now: u64) -> Response
+        requires ready { IsReady S.out self.old.ring.now self.old.world self.old.stores.now }
+        requires nodes { is_control_path request.path ≡ false }
+        ensures ready { IsReady S.out self.new.ring.now self.new.world self.new.stores.now }
+        ensures served { NodesAnswer S.V.tells S.V.holds S.V.faults S.faults S.calls S.out
+            self.old.ring.now self.new.ring.now self.old.world self.new.world self.old.stores self.new.stores request now result }
+    {
+        match sw_object_server::answer(alloc, &mut self.world, self.ring, request, now) {
+            Ok(response) => response,
+            Err(NoMemory) => bare(alloc, 500),
+        }
+    }
+
+    /// Answers a control request.
+    fn control(
+        &mut self,
+        alloc: Global,
+        request: &Request,
+        _now: u64,
+    ) -> Result<Response, ServerFault>
+        requires ready { IsReady S.out self.old.ring.now self.old.world self.old.stores.now }
+        requires control { is_control_path request.now.path ≡ true }
+        ensures ready { OnOk result (IsReady S.out self.new.ring.now self.new.world self.new.stores.now) }
+        ensures served { IfOk result (λ response. NodesAnswer S.V.tells S.V.holds S.V.faults S.faults S.calls S.out
+            self.old.ring.now self.new.ring.now self.old.world self.new.world self.old.stores self.new.stores request.now _now response) }
+        ensures halted { IfErr result (λ fault. NodesHalt S.V.tells S.V.holds S.V.faults S.faults S.calls S.rests S.out
+            self.old.ring.now self.new.ring.now self.old.world self.new.world self.old.stores self.new.stores request.now fault) }
+    {
+        match read_control(alloc, self.ring, request) {
+            Ok(Control::Trail) => Ok(or_wanting(alloc, self.trail(alloc))),
+            Ok(Control::Files(device)) => Ok(self.files(alloc, device)),
+            Ok(Control::Restart(device)) => self.restart(alloc, device),
+            Ok(Control::Refused) => Ok(bare(alloc, 400)),
+            Err(NoMemory) => Ok(bare(alloc, 500)),
+        }
+    }
+
+    /// The reply that shows the trail.
+    fn trail(&self, alloc: Global) -> Result<Response, NoMemory>
+        ensures { IfOk result (λ response. IsControlDone S.V.tells S.V.holds S.V.faults
+            self.now.ring.now self.now.world controls.Trail response self.now.world) }
+    {
+        let text = trail_text(alloc, &self.ring.devices, self.world.lines())?;
+        text_reply(alloc, text)
+    }
+
+    /// Lists the files of a device, and replies to that.
+    fn files(&mut self, alloc: Global, device: u8) -> Response
+        requires device { device < self.old.world.devices }
+        requires whole { self.old.world.lifted ≡ None }
+        ensures filed { IsFiled S.V.tells S.V.holds S.V.faults device self.old.world result self.new.world
+            ⊎ ((self.new.world ≡ self.old.world) × (result ≡ bare_of 500)) }
+        ensures same { (self.new.ring ≡ self.old.ring) × (self.new.stores ≡ self.old.stores) }
+    {
+        match self.world.files(alloc, device) {
+            Ok(paths) => listed(alloc, &paths),
+            Err(VolumeError::Failed) => bare(alloc, 507),
+            Err(VolumeError::NoMemory) => bare(alloc, 500),
+        }
+    }
+
+    /// Restarts a device: its volumes go back to the stores, and are started anew. The reply is made first, so that a device that was
+    /// restarted is told so.
+    fn restart(&mut self, alloc: Global, device: u8) -> Result<Response, ServerFault>
+        requires device { device < length self.old.ring.now.devices }
+        requires ready { IsReady S.out self.old.ring.now self.old.world self.old.stores.now }
+        ensures ready { OnOk result (IsReady S.out self.new.ring.now self.new.world self.new.stores.now) }
+        ensures restarted { IfOk result (λ response.
+            (IsControlDone S.V.tells S.V.holds S.V.faults self.old.ring.now self.old.world (controls.Restart device) response self.new.world
+            × (S.calls self.new.stores.now ≡ raised_by (2 ^ self.old.ring.now.lock_bits) (S.calls self.old.stores.now)))
+            ⊎ ((self.new.world ≡ self.old.world) × (response ≡ bare_of 500) × (S.calls self.new.stores.now ≡ S.calls self.old.stores.now))) }
+        ensures lifted { IfErr result (λ fault. FailsToStart S.V.tells S.V.holds S.V.faults S.calls S.rests S.out
+            self.old.ring.now device self.old.world self.new.world self.old.stores.now self.new.stores.now) }
+        ensures same { (self.new.ring ≡ self.old.ring) × (self.new.stores.ghost_name ≡ self.old.stores.ghost_name) }
+        ensures kept { OnOk result (S.faults self.new.stores.now ≡ S.faults self.old.stores.now) }
+        ensures faults { IfErr result (λ fault. S.faults self.new.stores.now ≡ faults_by (S.faults self.old.stores.now) fault) }
+    {
+        let Ok(response) = text_reply(alloc, Bytes::from(Vec::new(alloc))) else {
+            return Ok(bare(alloc, 500));
+        };
+        let Ok(parts) = self.world.lift(alloc, device) else {
+            return Ok(bare(alloc, 500));
+        };
+        let stripes = stripes(self.ring);
+        let first = usize::from(device) * usize::from(stripes);
+        match restart_range(alloc, self.stores, stripes, first, parts.volumes) {
+            Ok(volumes) => {
+                self.world.set_down(alloc, device, Parts { volumes });
+                Ok(response)
+            }
+            Err(StoreError::Failed) => Err(ServerFault::Failed),
+            Err(StoreError::NoMemory) => Err(ServerFault::NoMemory),
+        }
+    }
+}
+
+/// The reply that shows a list of files.
+fn listed(alloc: Global, paths: &BytesList) -> Response
+    ensures { (result ≡ text_reply_of (files_text_of paths.now)) ⊎ (result ≡ bare_of 500) }
+{
+    let Ok(text) = files_text(alloc, paths) else {
+        return bare(alloc, 500);
+    };
+    match text_reply(alloc, text) {
+        Ok(response) => response,
+        Err(NoMemory) => bare(alloc, 500),
+    }
+}
+
+/// How many object locks a device of the ring has.
+pub(crate) fn stripes(ring: &Ring) -> u8
+    ensures value { result ≡ 2 ^ ring.now.lock_bits }
+    ensures least { 1 ≤ result }
+    ensures most { result ≤ 16 }
+{
+    1 << ring.lock_bits
+}
+
+/// The reply, or that of want of memory.
+fn or_wanting(alloc: Global, reply: Result<Response, NoMemory>) -> Response
+    ensures ok { IfOk reply (λ response. result ≡ response) }
+    ensures err { OnErr reply (result ≡ bare_of 500) }
+{
+    match reply {
+        Ok(response) => response,
+        Err(NoMemory) => bare(alloc, 500),
     }
 }

@@ -15,7 +15,7 @@ pub const USAGE: u8 = 2;
 pub const BAD_RING: u8 = 3;
 /// A write of the output failed.
 pub const WRITE_FAULT: u8 = 4;
-/// The ring couldn't be read from the host.
+/// The ring couldn't be read from the host, or the volume of an object lock not started.
 pub const STORE_FAULT: u8 = 5;
 /// As many requests were answered as one session has at most.
 pub const TOO_LONG: u8 = 7;
@@ -34,6 +34,7 @@ pub fn status_of(ended: Result<(), SessionFault>) -> u8
         Err(SessionFault::WriteFault) => WRITE_FAULT,
         Err(SessionFault::TooLong) => TOO_LONG,
         Err(SessionFault::BadInput) => BAD_INPUT,
+        Err(SessionFault::ServerFault) => STORE_FAULT,
         Err(SessionFault::NoMemory) => NO_MEMORY,
     }
 }

@@ -1,24 +1,60 @@
-use Rattle.std.proofs.Common.{refl}
+use Rattle.std.proofs.Common.{◌≡◌, ◌∙◌, ℕ, Option, refl, sym, ap, subst, rules, false}
+use Rattle.sw_core.specs.Worlds.{AllNodes}
 use Rattle.sw_session.specs.Passages.{passage}
-use Rattle.sw_cluster.proofs.NodesLemmas.{nothing_told, session_told, trail_told, unbegun_session}
+use Rattle.sw_cluster.specs.Ending.{IsRunOver}
+use Rattle.sw_cluster.specs.Nodes.{out_but}
+use Rattle.sw_cluster.proofs.Trailing.{nodes-ended, nodes-run}
 use Rattle.sw_cluster.proofs.running.session.Goals as goal
 
--- there was no memory for the nodes
-pub returns-in_default-clause-session : goal.returns-in_default-clause-session
-returns-in_default-clause-session g c =
-    unbegun_session c.args.ring.now (passage g.R.Source.left g.R.Source.faults c.args.source.now c.args.source.now) (passage g.W.Sink.taken g.W.Sink.faults c.args.out.now c.args.out.now)
-    c.args.trail.now.moments c.args.trail.now.steps refl refl refl refl c.requires.no_steps c.requires.no_moments
+pub give_back-requires-clause-devices : goal.give_back-requires-clause-devices
+give_back-requires-clause-devices g c =
+    let ended = nodes-ended g.S.V.Volume.tells g.S.V.Volume.holds g.S.V.Volume.faults c.args.ring.now g.S.Stores.faults g.S.Stores.calls g.S.Stores.rests
+    g.S.Stores.out _ _ _ _ _ _ c.serve-ended.ensures.session refl c.requires.begun c.requires.out in
+    ap (λ (w : AllNodes _). w.devices) c.take_trail.ensures.after ∙ ended.devices
 
-pub returns-in_default-clause-trail : goal.returns-in_default-clause-trail
-returns-in_default-clause-trail g c = nothing_told c.args.ring.now (g.C.Clock.readings c.args.clock.now) c.args.trail.now.steps c.args.trail.now.moments c.requires.no_steps c.requires.no_moments
+pub give_back-requires-clause-lock_bits : goal.give_back-requires-clause-lock_bits
+give_back-requires-clause-lock_bits g c =
+    let ended = nodes-ended g.S.V.Volume.tells g.S.V.Volume.holds g.S.V.Volume.faults c.args.ring.now g.S.Stores.faults g.S.Stores.calls g.S.Stores.rests
+    g.S.Stores.out _ _ _ _ _ _ c.serve-ended.ensures.session refl c.requires.begun c.requires.out in
+    ap (λ (w : AllNodes _). w.lock_bits) c.take_trail.ensures.after ∙ ended.lock_bits
 
--- what was served over the nodes is told by their lines
-pub returns-clause-session : goal.returns-clause-session
-returns-clause-session g c =
-    session_told c.args.ring.now _ c.serve-ended.new.server _ _ c.from.result c.serve-ended.new.moments.items c.take_trail.result c.serve-ended.result
-    c.serve-ended.ensures.session refl (rw c.as_slice.ensures at c.in-Ok.ensures.begins) c.take_trail.ensures.lines c.from.ensures
+pub give_back-requires-clause-lifted : goal.give_back-requires-clause-lifted
+give_back-requires-clause-lifted g c device is =
+    let ended = nodes-ended g.S.V.Volume.tells g.S.V.Volume.holds g.S.V.Volume.faults c.args.ring.now g.S.Stores.faults g.S.Stores.calls g.S.Stores.rests
+    g.S.Stores.out _ _ _ _ _ _ c.serve-ended.ensures.session refl c.requires.begun c.requires.out in
+    ended.lifted device (sym (ap (λ (w : AllNodes _). w.lifted) c.take_trail.ensures.after) ∙ is)
 
-pub returns-clause-trail : goal.returns-clause-trail
-returns-clause-trail g c =
-    trail_told c.args.ring.now _ c.serve-ended.new.server _ _ (g.C.Clock.readings c.args.clock.now) (g.C.Clock.readings c.serve-ended.new.clock) c.from.result c.serve-ended.new.moments.items c.take_trail.result c.serve-ended.result
-    c.serve-ended.ensures.session refl (rw c.as_slice.ensures at c.in-Ok.ensures.begins) c.take_trail.ensures.lines c.from.ensures c.serve-ended.ensures.ticks
+pub give_back-requires-clause-out : goal.give_back-requires-clause-out
+give_back-requires-clause-out g c d s =
+    let ended = nodes-ended g.S.V.Volume.tells g.S.V.Volume.holds g.S.V.Volume.faults c.args.ring.now g.S.Stores.faults g.S.Stores.calls g.S.Stores.rests
+    g.S.Stores.out _ _ _ _ _ _ c.serve-ended.ensures.session refl c.requires.begun c.requires.out in
+    ended.are_out d s ∙ ap (λ (o : Option ℕ). out_but c.args.ring.now o d s) (sym (ap (λ (w : AllNodes _). w.lifted) c.take_trail.ensures.after))
+
+-- what holds of the stores that come back holds of those that were handed to the server, where these are one by their name
+by-name : {A : Type 0} (P : A → Type 0) {x y : A} {n m : ℕ} → (n ≡ m → x ≡ y) → n ≡ m → P y → P x
+by-name P same is p = subst P (sym (same is)) p
+
+pub returns-clause-home : goal.returns-clause-home
+returns-clause-home g c =
+    let ended = nodes-ended g.S.V.Volume.tells g.S.V.Volume.holds g.S.V.Volume.faults c.args.ring.now g.S.Stores.faults g.S.Stores.calls g.S.Stores.rests
+    g.S.Stores.out _ _ _ _ _ _ c.serve-ended.ensures.session refl c.requires.begun c.requires.out in
+    by-name (λ (x : g.row.S.Denot). (d s : ℕ) → g.S.Stores.out x d s ≡ false) {m = c.serve-ended.new.server.stores.ghost_name} (search rules)
+    (sym {a = c.serve-ended.new.server.stores.ghost_name} ended.same_stores) c.give_back.ensures.home
+
+pub returns-clause-run : goal.returns-clause-run
+returns-clause-run g c =
+    let ended = nodes-ended g.S.V.Volume.tells g.S.V.Volume.holds g.S.V.Volume.faults c.args.ring.now g.S.Stores.faults g.S.Stores.calls g.S.Stores.rests
+    g.S.Stores.out _ _ _ _ _ _ c.serve-ended.ensures.session refl c.requires.begun c.requires.out in
+    by-name (λ (x : g.row.S.Denot). IsRunOver g.S.V.Volume.tells g.S.V.Volume.holds g.S.V.Volume.faults c.args.ring.now c.args.world (g.S.Stores.rests x)
+    (g.S.Stores.faults c.args.stores.now) (g.S.Stores.faults x) (g.S.Stores.calls c.args.stores.now) (g.S.Stores.calls x)
+    (passage g.R.Source.left g.R.Source.faults c.args.source.now c.serve-ended.new.source)
+    (passage g.W.Sink.taken g.W.Sink.faults c.args.out.now c.serve-ended.new.out) (g.C.Clock.readings c.args.clock.now)
+    (g.C.Clock.readings c.serve-ended.new.clock)
+    (record { steps = c.take_trail.result; moments = c.from.result }) c.status_of.result) {m = c.serve-ended.new.server.stores.ghost_name} (search rules)
+    (sym {a = c.serve-ended.new.server.stores.ghost_name} ended.same_stores)
+    (nodes-run g.S.V.Volume.tells g.S.V.Volume.holds g.S.V.Volume.faults c.args.ring.now g.S.Stores.faults g.S.Stores.calls g.S.Stores.rests g.S.Stores.out
+    _ _ _ _ _ _ c.serve-ended.ensures.session refl c.requires.begun c.requires.out
+    c.take_trail.new.self (g.S.Stores.rests c.give_back.new.stores) (g.S.Stores.faults c.give_back.new.stores) (g.S.Stores.calls c.give_back.new.stores) _ _
+    c.take_trail.result c.from.result c.status_of.result
+    c.status_of.ensures c.take_trail.ensures.lines c.take_trail.ensures.after c.from.ensures c.serve-ended.ensures.ticks c.give_back.ensures.world
+    c.give_back.ensures.rests c.give_back.ensures.others c.give_back.ensures.faults c.give_back.ensures.calls)

@@ -1,0 +1,462 @@
+-- What a session over the nodes of a ring knows of them, request by request, and what its trail tells at the end.
+use Rattle.std.proofs.Common.{◌≡◌, ℕ, ◌+◌, ◌-◌, ◌*◌, ◌/◌, ◌%◌, ◌^◌, ◌<◌, ◌≤◌, ◌==◌, Bool, true, false, ◌&&◌, not, List, length, map, arith, Option, Some, None}
+use Rattle.std.proofs.Common.{refl, sym, ◌∙◌, ap, subst, Result, Ok, Err, ◌⊎◌, inl, inr, if◌then◌else◌, MutBor}
+use Rattle.std.specs.Bool.{⊤}
+use Rattle.std.proofs.lemmas.List.{length-map}
+use Rattle.std.specs.List.{slice_get}
+use Rattle.std.proofs.lemmas.Bool.{cases_lt}
+use Rattle.std.proofs.lemmas.Nat.{div-mul-add, mod-mul-add, pow_pos, rows}
+use Rattle.std.proofs.lemmas.Option.{slice_get_past}
+use Rattle.sw_hashpath.specs.HashParts.{stripe_of}
+use Rattle.sw_hashdir.specs.Places.{holds}
+use Rattle.sw_objdir.proofs.Looking.{held-told}
+use Rattle.sw_objdir.specs.Directories.{Kept}
+use Rattle.sw_message.specs.declared.request.Request.{Request}
+use Rattle.sw_message.specs.declared.response.Response.{Response}
+use Rattle.sw_outside.specs.Counts.{raised}
+use Rattle.sw_outside.specs.Readings.{TicksEach}
+use Rattle.sw_peer.specs.Journals.{Hash}
+use Rattle.sw_peer.specs.Sights.{Nodes as SightNodes, Sight}
+use Rattle.sw_peer.specs.declared.line.Line.{Line}
+use Rattle.sw_ring.specs.declared.ring.Ring.{Ring}
+use Rattle.sw_session.proofs.Mapping.{session-ends, session-mapped}
+use Rattle.sw_session.specs.Passages.{Passage}
+use Rattle.sw_session.specs.Session.{EndsAs, IsSession}
+use Rattle.sw_session.specs.declared.server.ServerFault.{ServerFault}
+use Rattle.sw_session.specs.declared.server.ServerFault.TheVariants as servers
+use Rattle.sw_session.specs.declared.session.SessionFault.{SessionFault}
+use Rattle.sw_session.specs.declared.session.SessionFault.TheVariants as session_faults
+use Rattle.sw_state.proofs.StateLaws.{state_of-writes_of}
+use Rattle.sw_stores.proofs.AtPlaces.{resting-at}
+use Rattle.sw_stores.specs.Places.{ComeHome, at_place}
+use Rattle.sw_stores.specs.Volumes.{AreResting}
+use Rattle.sw_volume.specs.Tree.{Folders}
+use Rattle.sw_volume.specs.Volume.{raised_by}
+use Rattle.sw_cluster.specs.Restarts.{AreCalled, restarts_in}
+use Rattle.sw_cluster.proofs.Restarting.{called-on, none-called, out-called, whole-called}
+use Rattle.sw_core.proofs.Placed.{stripe-below}
+use Rattle.sw_core.proofs.Sessions.{run-begins}
+use Rattle.sw_core.proofs.Wholes.{open-at}
+use Rattle.sw_core.specs.Doors.{HasRun, StandsFor}
+use Rattle.sw_core.specs.Machine.{Came, Runs, machine_of, state}
+use Rattle.sw_core.specs.Worlds.{AllNodes, AreLifted, HasLimits, IsWorld, Lifts, first_of, held_of, lock_of, nodes_of}
+use Rattle.sw_core.specs.Worlds.{opened, past_of, seen_of, shown, sight_of, without_lines}
+use Rattle.sw_core.specs.declared.slot.Slot.{Slot}
+use Rattle.sw_core.specs.declared.slot.Slot.TheVariants as slots
+use Rattle.sw_cluster.specs.Ending.{AllTold, IsRunOver, IsStored, IsTrail, status_by}
+use Rattle.sw_cluster.specs.Nodes.{IsReady, NodesAnswer, NodesHalt, faults_by, out_but, places_at, places_of}
+use Rattle.sw_cluster.specs.Server.{MayAnswer, MayHalt}
+use Rattle.sw_cluster.specs.Statuses as statuses
+use Rattle.sw_cluster.specs.declared.server.Nodes.{Nodes}
+use Rattle.sw_cluster.proofs.Resting.{among-place}
+
+some-is : {A : Type 0} {x y : A} → Some x ≡ Some y → x ≡ y
+some-is is = cc
+
+swap-and : (a b : Bool) → (not a && b) ≡ (b && not a)
+swap-and true true = refl
+swap-and true false = refl
+swap-and false true = refl
+swap-and false false = refl
+
+-- a world none of whose devices is out has as many as are shown
+same-devices : (lifted : Option ℕ) (devices n : ℕ) → lifted ≡ None → shown lifted devices ≡ n → devices ≡ n
+same-devices lifted devices n whole is = sym (ap (λ (o : Option ℕ). shown o devices) whole) ∙ is
+
+abbrev ring_in : {S V : Type 0} → Nodes S V → Ring
+ring_in n = n.ring.now
+
+abbrev world_in : {S V : Type 0} → Nodes S V → AllNodes V
+world_in n = n.world
+
+abbrev stores_in : {S V : Type 0} → Nodes S V → MutBor S
+stores_in n = n.stores
+
+module _ {V : Type 0} (tells : V → Bool) (files : V → Folders) (faults : V → ℕ) (ring : Ring) where
+  abbrev see : AllNodes V → Sight
+  see w = sight_of tells files faults w
+
+  -- ---- how a run begins
+
+  -- where all locks tell what they hold, the nodes stand for the machine that holds it
+  pub stands-begun : (w : AllNodes V) → w.lock_bits ≡ ring.lock_bits → length w.slots ≡ length ring.devices * 2 ^ ring.lock_bits
+      → AllTold tells files faults ring w
+      → StandsFor (sight_of tells files faults w) (machine_of (sight_of tells files faults w))
+  stands-begun w bits count told = record {
+    states = λ device hash. sym (state_of-writes_of (held_of tells files faults (slice_get w.slots (lock_of w.lock_bits device hash)) hash));
+    seen = λ l. refl;
+    told = λ device hash.
+        subst (λ (b : ℕ). (seen_of tells files faults (slice_get w.slots (lock_of b device hash))).told ≡ true) (sym bits)
+        (each device hash (cases_lt device (length ring.devices)));
+  }
+    where
+      each : (device : ℕ) (hash : Hash) → (device < length ring.devices) ⊎ (length ring.devices ≤ device)
+          → (seen_of tells files faults (slice_get w.slots (lock_of ring.lock_bits device hash))).told ≡ true
+      each device hash (inl here) = told device hash here
+      each device hash (inr past) =
+          let beyond : length w.slots ≤ lock_of ring.lock_bits device hash = rw count (further device (length ring.devices) past) in
+          ap (λ (o : Option (Slot V)). (seen_of tells files faults o).told) (slice_get_past w.slots (lock_of ring.lock_bits device hash) beyond)
+        where
+          further : (d n : ℕ) → n ≤ d → n * 2 ^ ring.lock_bits ≤ d * 2 ^ ring.lock_bits + stripe_of hash ring.lock_bits % 2 ^ ring.lock_bits
+          further d n h = grind (arith, rows)
+
+  -- ---- what its trail tells
+
+  -- the run of a world none of whose devices is out, whose volumes came to rest at the places of their locks
+  module _ (began w : AllNodes V) (is : IsWorld w) (whole : w.lifted ≡ None)
+      (nodes : nodes_of (shown w.lifted w.devices) w.lock_bits w.power w.secrets ≡ nodes_of (length ring.devices) ring.lock_bits ring.power ring.secrets)
+      (run : HasRun (machine_of (sight_of tells files faults began)) (sight_of tells files faults w)) (rests : ℕ → ℕ → Option V)
+      (resting : (l : ℕ) (k : Kept V) → slice_get w.slots l ≡ Some (slots.Open k) → at_place rests (2 ^ ring.lock_bits) l ≡ Some k.volume) where
+    devices-are : w.devices ≡ length ring.devices
+    devices-are = same-devices w.lifted w.devices (length ring.devices) whole (ap (λ (n : SightNodes). n.devices) nodes)
+
+    bits-are : w.lock_bits ≡ ring.lock_bits
+    bits-are = ap (λ (n : SightNodes). n.lock_bits) nodes
+
+    stored : (device : ℕ) (hash : Hash) → device < length ring.devices → IsStored tells files faults ring run.after rests device hash
+    stored device hash here = by (open-at w is whole (lock_of ring.lock_bits device hash) within)
+      where
+        low : stripe_of hash ring.lock_bits % 2 ^ ring.lock_bits < 2 ^ ring.lock_bits
+        low = stripe-below ring.lock_bits hash
+
+        within : lock_of ring.lock_bits device hash < length w.slots
+        within = rw (is.count, devices-are, bits-are) (under device (length ring.devices) (stripe_of hash ring.lock_bits % 2 ^ ring.lock_bits)
+            (2 ^ ring.lock_bits) here low)
+          where
+            under : (d n s b : ℕ) → d < n → s < b → d * b + s < n * b
+            under d n s b h g = grind (arith, rows)
+
+        by : (k : Kept V) × (slice_get w.slots (lock_of ring.lock_bits device hash) ≡ Some (slots.Open k)) × (k.secrets ≡ w.secrets) × (k.power ≡ w.power)
+            × HasLimits k
+            → IsStored tells files faults ring run.after rests device hash
+        by there =
+            let told : (seen_of tells files faults (Some (slots.Open there.0))).told ≡ true =
+            subst (λ (o : Option (Slot V)). (seen_of tells files faults o).told ≡ true) there.1
+            (subst (λ (b : ℕ). (seen_of tells files faults (slice_get w.slots (lock_of b device hash))).told ≡ true) bits-are (run.stands.told device hash)) in
+            let held : held_of tells files faults (Some (slots.Open there.0)) hash ≡ state run.after device hash =
+            subst (λ (o : Option (Slot V)). held_of tells files faults o hash ≡ state run.after device hash) there.1
+            (subst (λ (b : ℕ). held_of tells files faults (slice_get w.slots (lock_of b device hash)) hash ≡ state run.after device hash) bits-are
+            (run.stands.states device hash)) in
+            let secrets : there.0.secrets ≡ ring.secrets = there.2 ∙ ap (λ (n : SightNodes). n.secrets) nodes in
+            let power : there.0.power ≡ ring.power = there.3 ∙ ap (λ (n : SightNodes). n.power) nodes in
+            record {
+              volume = there.0.volume;
+              resting = subst (λ (s : ℕ). rests device s ≡ Some there.0.volume)
+                  (mod-mul-add device (2 ^ ring.lock_bits) (stripe_of hash ring.lock_bits % 2 ^ ring.lock_bits) low)
+                  (subst (λ (d : ℕ). rests d (lock_of ring.lock_bits device hash % 2 ^ ring.lock_bits) ≡ Some there.0.volume)
+                  (div-mul-add device (2 ^ ring.lock_bits) (stripe_of hash ring.lock_bits % 2 ^ ring.lock_bits) low)
+                  (resting (lock_of ring.lock_bits device hash) there.0 there.1));
+              stands = subst (λ (s : _). holds s ring.power (files there.0.volume) hash ≡ state run.after device hash) secrets
+                  (subst (λ (p : ℕ). holds there.0.secrets p (files there.0.volume) hash ≡ state run.after device hash) power
+                  (sym (held-told tells files faults there.0 hash told) ∙ held));
+              counts = sym (ap (λ h. h.faults) (run.stands.seen (lock_of ring.lock_bits device hash)))
+                  ∙ ap (λ (o : Option (Slot V)). (seen_of tells files faults o).faults) there.1;
+            }
+
+    -- the lines of the run are those of the world
+    lines-are : w.lines ≡ run.lines
+    lines-are = some-is run.kept
+
+    pub trail-of : (steps : List Line) → steps ≡ w.lines → IsTrail tells files faults ring began rests steps
+    trail-of steps are = record {
+      machine = run.after;
+      run = subst (λ (ls : List Line). Runs (lock_of ring.lock_bits) (machine_of (sight_of tells files faults began)) (map Came ls) run.after)
+          (sym (are ∙ lines-are))
+          (subst (λ (b : ℕ). Runs (lock_of b) (machine_of (sight_of tells files faults began)) (map Came run.lines) run.after) bits-are run.run);
+      stored = stored;
+    }
+
+  -- ---- request by request
+
+  relined : (w : AllNodes V) → IsWorld (without_lines w) → IsWorld w
+  relined w is = record {
+    devices = is.devices;
+    lock_bits = is.lock_bits;
+    least = is.least;
+    greatest = is.greatest;
+    count = is.count;
+    out = is.out;
+    slots = is.slots;
+  }
+
+  -- a session of a server that has nodes and stores
+  abbrev pub SessionOver : {S N : Type 0} → (S → ℕ) → (S → ℕ) → (S → ℕ → ℕ → Option V) → (S → ℕ → ℕ → Bool) → (N → Ring) → (N → AllNodes V) → (N → MutBor S) → N
+      → Passage → Passage → List ℕ → N
+      → Result ⊤ SessionFault → Type 0
+  SessionOver {S} {N} store_faults store_calls rests out ring_of world_of stores_of = IsSession
+      (λ (old : N) (request : Request) (moment : ℕ) (response : Response) (new : N).
+      NodesAnswer tells files faults store_faults store_calls out (ring_of old) (ring_of new) (world_of old) (world_of new) (stores_of old)
+      (stores_of new) request moment response)
+      (λ (old : N) (request : Request) (moment : ℕ) (fault : ServerFault) (new : N).
+      NodesHalt tells files faults store_faults store_calls rests out (ring_of old) (ring_of new) (world_of old) (world_of new) (stores_of old)
+      (stores_of new) request fault)
+
+  module _ {S : Type 0} (store_faults store_calls : S → ℕ) (rests : S → ℕ → ℕ → Option V) (out : S → ℕ → ℕ → Bool)
+      (began : AllNodes V) (stores : MutBor S) where
+    -- so far each request was answered
+    pub record IsUnderWay (ring_now : Ring) (w : AllNodes V) (stores_now : MutBor S) : Type 0 where
+      pub ring_is : ring_now ≡ ring
+      pub ready : IsReady out ring w stores_now.now
+      pub faults_are : store_faults stores_now.now ≡ store_faults stores.now
+      pub calls_are : store_calls stores_now.now ≡ raised_by (restarts_in w.lines * 2 ^ ring.lock_bits) (store_calls stores.now)
+      pub same_stores : stores_now.ghost_name ≡ stores.ghost_name
+      pub runs : AllTold tells files faults ring began → HasRun (machine_of (sight_of tells files faults began)) (sight_of tells files faults w)
+
+    -- then a device couldn't be restarted
+    pub record IsHalted (fault : ServerFault) (after : AllNodes V) (stores_now : MutBor S) : Type 0 where
+      pub ring_then : Ring
+      pub w : AllNodes V
+      pub stores_then : MutBor S
+      pub way : IsUnderWay ring_then w stores_then
+      pub device : ℕ
+      pub given : List V
+      pub up : Lifts tells files faults w device given after
+      pub resting : AreResting (rests stores_now.now) (2 ^ ring.lock_bits) (first_of ring.lock_bits device) given
+      pub home : ComeHome (places_at ring device) (out stores_then.now) (out stores_now.now)
+      pub faults_are : store_faults stores_now.now ≡ faults_by (store_faults stores.now) fault
+      pub tried : ℕ
+      pub most : tried ≤ 2 ^ ring.lock_bits
+      pub calls_are : store_calls stores_now.now ≡ raised_by tried (store_calls stores_then.now)
+      pub same_stores : stores_now.ghost_name ≡ stores.ghost_name
+
+    -- what is known however it ends: what giving the volumes back asks for, and what the trail tells after that
+    pub record IsEnded (faults_now : ℕ) (w : AllNodes V) (stores_now : MutBor S) : Type 0 where
+      pub devices : w.devices ≡ length ring.devices
+      pub lock_bits : w.lock_bits ≡ ring.lock_bits
+      pub lifted : (device : ℕ) → w.lifted ≡ Some device → device < length ring.devices
+      pub are_out : (d s : ℕ) → out stores_now.now d s ≡ out_but ring w.lifted d s
+      pub faults_are : store_faults stores_now.now ≡ faults_now
+      pub calls_are : AreCalled ring w.lifted w.lines (store_calls stores.now) (store_calls stores_now.now)
+      pub same_stores : stores_now.ghost_name ≡ stores.ghost_name
+      pub tells_trail : (now : ℕ → ℕ → Option V) → IsWorld (without_lines w)
+          → ((l : ℕ) (k : Kept V) → slice_get w.slots l ≡ Some (slots.Open k) → at_place now (2 ^ ring.lock_bits) l ≡ Some k.volume)
+          → ((device : ℕ) → w.lifted ≡ Some device → (d s : ℕ) → places_at ring device d s ≡ true → now d s ≡ rests stores_now.now d s)
+          → AllTold tells files faults ring began → IsTrail tells files faults ring began now w.lines
+
+    pub way-begun : (volumes : List V) → length volumes ≡ length ring.devices * 2 ^ ring.lock_bits → began ≡ opened ring volumes
+        → ((d s : ℕ) → out stores.now d s ≡ places_of ring d s) → IsUnderWay ring began stores
+    way-begun volumes count is are_out = record {
+      ring_is = refl;
+      ready = record {
+        whole = ap (λ (w : AllNodes V). w.lifted) is;
+        nodes = ap (λ (w : AllNodes V). nodes_of (shown w.lifted w.devices) w.lock_bits w.power w.secrets) is;
+        are_out = are_out;
+      };
+      faults_are = refl;
+      calls_are = none-called (2 ^ ring.lock_bits) (store_calls stores.now) (store_calls stores.now) refl
+          ∙ ap (λ (w : AllNodes V). raised_by (restarts_in w.lines * 2 ^ ring.lock_bits) (store_calls stores.now)) (sym is);
+      same_stores = refl;
+      runs = λ told. run-begins (machine_of (sight_of tells files faults began)) (sight_of tells files faults began)
+          (stands-begun began (ap (λ (w : AllNodes V). w.lock_bits) is) (ap (λ (w : AllNodes V). length w.slots) is ∙ (simp length-map count)) told)
+          (ap (λ (w : AllNodes V). Some w.lines) is);
+    }
+
+    module _ (ring_now ring_after : Ring) (w after : AllNodes V) (stores_now stores_after : MutBor S) (request : Request)
+        (way : IsUnderWay ring_now w stores_now) where
+      goes-on : (moment : ℕ) (response : Response)
+          → NodesAnswer tells files faults store_faults store_calls out ring_now ring_after w after stores_now stores_after request moment response
+          → IsUnderWay ring_after after stores_after
+      goes-on moment response answer = record {
+        ring_is = answer.ring_is ∙ way.ring_is;
+        ready = subst (λ (r : Ring). IsReady out r after stores_after.now) (answer.ring_is ∙ way.ring_is) answer.ready;
+        faults_are = answer.faults_are ∙ way.faults_are;
+        calls_are = called-on (2 ^ ring.lock_bits) (restarts_in w.lines) answer.gained (restarts_in after.lines) (store_calls stores.now)
+            (store_calls stores_now.now) (store_calls stores_after.now) answer.gains way.calls_are
+            (subst (λ (r : Ring). store_calls stores_after.now ≡ raised_by (answer.gained * 2 ^ r.lock_bits) (store_calls stores_now.now))
+            way.ring_is answer.calls_are);
+        same_stores = answer.same_stores ∙ way.same_stores;
+        runs = λ told. answer.may.runs (machine_of (sight_of tells files faults began)) (way.runs told);
+      }
+
+      halts : (fault : ServerFault)
+          → NodesHalt tells files faults store_faults store_calls rests out ring_now ring_after w after stores_now stores_after request fault
+          → IsHalted fault after stores_after
+      halts fault halt = record {
+        ring_then = ring_now;
+        w = w;
+        stores_then = stores_now;
+        way = way;
+        device = halt.may.device;
+        given = halt.may.given;
+        up = halt.may.up;
+        resting = subst (λ (r : Ring). AreResting (rests stores_after.now) (2 ^ r.lock_bits) (first_of r.lock_bits halt.may.device) halt.may.given)
+            way.ring_is halt.given;
+        home = subst (λ (r : Ring). ComeHome (places_at r halt.may.device) (out stores_now.now) (out stores_after.now)) way.ring_is halt.home;
+        faults_are = halt.faults_are ∙ ap (λ (n : ℕ). faults_by n fault) way.faults_are;
+        tried = halt.tried;
+        most = subst (λ (r : Ring). halt.tried ≤ 2 ^ r.lock_bits) way.ring_is halt.most;
+        calls_are = halt.calls_are;
+        same_stores = halt.same_stores ∙ way.same_stores;
+      }
+
+      says : (moment : ℕ) (response : Response)
+          → NodesAnswer tells files faults store_faults store_calls out ring_now ring_after w after stores_now stores_after request moment response
+          → MayAnswer tells files faults ring w request moment response after
+      says moment response answer = subst (λ (r : Ring). MayAnswer tells files faults r w request moment response after) way.ring_is answer.may
+
+      says-halt : (fault : ServerFault)
+          → NodesHalt tells files faults store_faults store_calls rests out ring_now ring_after w after stores_now stores_after request fault
+          → MayHalt tells files faults ring w request after
+      says-halt fault halt = subst (λ (r : Ring). MayHalt tells files faults r w request after) way.ring_is halt.may
+
+    -- ---- the end
+
+    none-lifted : (device : ℕ) → None ≡ Some device → ⊥
+    none-lifted device is = cc
+
+    ended : (ring_now : Ring) (w : AllNodes V) (stores_now : MutBor S) → IsUnderWay ring_now w stores_now → IsEnded (store_faults stores.now) w stores_now
+    ended ring_now w stores_now way = record {
+      devices = same-devices w.lifted w.devices (length ring.devices) way.ready.whole (ap (λ (n : SightNodes). n.devices) way.ready.nodes);
+      lock_bits = ap (λ (n : SightNodes). n.lock_bits) way.ready.nodes;
+      lifted = λ device is. absurd (none-lifted device (sym way.ready.whole ∙ is));
+      are_out = λ d s. way.ready.are_out d s ∙ sym (ap (λ (o : Option ℕ). out_but ring o d s) way.ready.whole);
+      faults_are = way.faults_are;
+      calls_are = whole-called ring w.lifted w.lines (store_calls stores.now) (store_calls stores_now.now) way.calls_are;
+      same_stores = way.same_stores;
+      tells_trail = λ now is resting same told. trail-of began w (relined w is) way.ready.whole way.ready.nodes (way.runs told) now resting w.lines refl;
+    }
+
+    module _ (fault : ServerFault) (after : AllNodes V) (stores_now : MutBor S) (h : IsHalted fault after stores_now) where
+      old-devices : h.w.devices ≡ length ring.devices
+      old-devices = same-devices h.w.lifted h.w.devices (length ring.devices) h.way.ready.whole (ap (λ (n : SightNodes). n.devices) h.way.ready.nodes)
+
+      old-bits : h.w.lock_bits ≡ ring.lock_bits
+      old-bits = ap (λ (n : SightNodes). n.lock_bits) h.way.ready.nodes
+
+      out-is : after.lifted ≡ Some h.device
+      out-is = ap (λ (x : AllNodes V). x.lifted) h.up.rest
+
+      lifted-in : AreLifted (first_of ring.lock_bits h.device) (past_of ring.lock_bits h.device) h.w.slots after.slots h.given
+      lifted-in = subst (λ (b : ℕ). AreLifted (first_of b h.device) (past_of b h.device) h.w.slots after.slots h.given) old-bits h.up.lifted
+
+      -- where the volumes came to rest that were there before the device was lifted
+      rests-old : (now : ℕ → ℕ → Option V)
+          → ((l : ℕ) (k : Kept V) → slice_get after.slots l ≡ Some (slots.Open k) → at_place now (2 ^ ring.lock_bits) l ≡ Some k.volume)
+          → ((device : ℕ) → after.lifted ≡ Some device → (d s : ℕ) → places_at ring device d s ≡ true → now d s ≡ rests stores_now.now d s)
+          → (l : ℕ) (k : Kept V) → slice_get h.w.slots l ≡ Some (slots.Open k) → at_place now (2 ^ ring.lock_bits) l ≡ Some k.volume
+      rests-old now resting same l k at = by (cases_lt l (first_of ring.lock_bits h.device)) (cases_lt l (past_of ring.lock_bits h.device))
+        where
+          by : (l < first_of ring.lock_bits h.device) ⊎ (first_of ring.lock_bits h.device ≤ l) → (l < past_of ring.lock_bits h.device)
+              ⊎ (past_of ring.lock_bits h.device ≤ l)
+              → at_place now (2 ^ ring.lock_bits) l ≡ Some k.volume
+          by (inl low) any = resting l k (lifted-in.outside l (inl low) ∙ at)
+          by (inr from) (inr behind) = resting l k (lifted-in.outside l (inr behind) ∙ at)
+          by (inr from) (inl below) =
+              let there : first_of ring.lock_bits h.device + (l - first_of ring.lock_bits h.device) ≡ l = omega (arith, from) in
+              let gives : slice_get h.given (l - first_of ring.lock_bits h.device) ≡ Some k.volume =
+              lifted-in.gives (l - first_of ring.lock_bits h.device) k (omega (arith, from, below)) (ap (slice_get h.w.slots) there ∙ at) in
+              same h.device out-is (l / 2 ^ ring.lock_bits) (l % 2 ^ ring.lock_bits)
+              (among-place (2 ^ ring.lock_bits) (first_of ring.lock_bits h.device) (2 ^ ring.lock_bits) l (pow_pos ring.lock_bits) from below)
+              ∙ subst (λ (p : ℕ). at_place (rests stores_now.now) (2 ^ ring.lock_bits) p ≡ Some k.volume) there
+              (resting-at (rests stores_now.now) (2 ^ ring.lock_bits) (first_of ring.lock_bits h.device) h.given
+              (l - first_of ring.lock_bits h.device) k.volume h.resting gives)
+
+      halt-ended : IsEnded (faults_by (store_faults stores.now) fault) after stores_now
+      halt-ended = record {
+        devices = ap (λ (x : AllNodes V). x.devices) h.up.rest ∙ old-devices;
+        lock_bits = ap (λ (x : AllNodes V). x.lock_bits) h.up.rest ∙ old-bits;
+        lifted = λ device is. subst (λ (d : ℕ). d < length ring.devices) (some-is (sym out-is ∙ is))
+            (subst (λ (n : ℕ). h.device < n) old-devices h.up.is_device);
+        are_out = λ d s. h.home d s ∙ (ap (λ (b : Bool). not (places_at ring h.device d s) && b) (h.way.ready.are_out d s)
+            ∙ (swap-and (places_at ring h.device d s) (places_of ring d s) ∙ sym (ap (λ (o : Option ℕ). out_but ring o d s) out-is)));
+        faults_are = h.faults_are;
+        calls_are = out-called ring after.lifted h.device after.lines h.w.lines (store_calls stores.now) (store_calls h.stores_then.now)
+            (store_calls stores_now.now) h.tried out-is (ap (λ (x : AllNodes V). x.lines) h.up.rest) h.most h.way.calls_are h.calls_are;
+        same_stores = h.same_stores;
+        tells_trail = λ now is resting same told. trail-of began h.w h.up.world h.up.whole h.way.ready.nodes (h.way.runs told) now (rests-old now resting same)
+            after.lines (ap (λ (x : AllNodes V). x.lines) h.up.rest);
+      }
+
+    -- the count of faults of the stores at the end
+    abbrev pub faults_at : ℕ → ℕ
+    faults_at status = if status == statuses.store_fault then raised (store_faults stores.now) else store_faults stores.now
+
+    module _ {N : Type 0} (ring_of : N → Ring) (world_of : N → AllNodes V) (stores_of : N → MutBor S) where
+      over : (n : N) (result : Result ⊤ SessionFault)
+          → EndsAs (λ (n : N). IsUnderWay (ring_of n) (world_of n) (stores_of n))
+          (λ (fault : ServerFault) (n : N). IsHalted fault (world_of n) (stores_of n)) n result
+          → IsEnded (faults_at (status_by result)) (world_of n) (stores_of n)
+      over n (Ok done) way = ended (ring_of n) (world_of n) (stores_of n) way
+      over n (Err session_faults.ReadFault) way = ended (ring_of n) (world_of n) (stores_of n) way
+      over n (Err session_faults.WriteFault) way = ended (ring_of n) (world_of n) (stores_of n) way
+      over n (Err session_faults.TooLong) way = ended (ring_of n) (world_of n) (stores_of n) way
+      over n (Err session_faults.BadInput) way = ended (ring_of n) (world_of n) (stores_of n) way
+      over n (Err session_faults.ServerFault) h = halt-ended servers.Failed (world_of n) (stores_of n) h
+      over n (Err session_faults.NoMemory) (inl way) = ended (ring_of n) (world_of n) (stores_of n) way
+      over n (Err session_faults.NoMemory) (inr h) = halt-ended servers.NoMemory (world_of n) (stores_of n) h
+
+      module _ (start : N) (source sink : Passage) (moments : List ℕ) (after : N) (result : Result ⊤ SessionFault)
+          (way : IsUnderWay (ring_of start) (world_of start) (stores_of start))
+          (session : SessionOver store_faults store_calls rests out ring_of world_of stores_of start source sink moments after result) where
+        pub session-over : IsEnded (faults_at (status_by result)) (world_of after) (stores_of after)
+        session-over = over after result (session-ends _ _ (λ (n : N). IsUnderWay (ring_of n) (world_of n) (stores_of n))
+            (λ old request moment response new p answer.
+            goes-on (ring_of old) (ring_of new) (world_of old) (world_of new) (stores_of old) (stores_of new) request p moment response answer)
+            (λ (fault : ServerFault) (n : N). IsHalted fault (world_of n) (stores_of n))
+            (λ old request moment fault new p halt. halts (ring_of old) (ring_of new) (world_of old) (world_of new) (stores_of old)
+            (stores_of new) request p fault halt)
+            start source sink moments after result way session)
+
+        pub session-said : IsSession (MayAnswer tells files faults ring) (λ w r moment fault. MayHalt tells files faults ring w r)
+            (world_of start) source sink moments
+            (world_of after) result
+        session-said = session-mapped _ _ (λ (n : N). IsUnderWay (ring_of n) (world_of n) (stores_of n))
+            (λ old request moment response new p answer.
+            goes-on (ring_of old) (ring_of new) (world_of old) (world_of new) (stores_of old) (stores_of new) request p moment response answer)
+            (MayAnswer tells files faults ring) (λ w r moment fault. MayHalt tells files faults ring w r) world_of
+            (λ old request moment response new p answer.
+            says (ring_of old) (ring_of new) (world_of old) (world_of new) (stores_of old) (stores_of new) request p moment response answer)
+            (λ old request moment fault new p halt.
+            says-halt (ring_of old) (ring_of new) (world_of old) (world_of new) (stores_of old) (stores_of new) request p fault halt)
+            start source sink moments after result way session
+
+  -- ---- a session from nodes in which nothing has happened
+
+  module _ {S : Type 0} (store_faults store_calls : S → ℕ) (rests : S → ℕ → ℕ → Option V) (out : S → ℕ → ℕ → Bool)
+      (start : Nodes S V) (source sink : Passage) (moments : List ℕ) (after : Nodes S V) (result : Result ⊤ SessionFault)
+      (session : SessionOver store_faults store_calls rests out ring_in world_in stores_in start source sink moments after result)
+      (same : start.ring.now ≡ ring)
+      (begun : (volumes : List V) × (length volumes ≡ length ring.devices * 2 ^ ring.lock_bits) × (start.world ≡ opened ring volumes))
+      (are_out : (d s : ℕ) → out start.stores.now d s ≡ places_of ring d s) where
+    way : IsUnderWay store_faults store_calls rests out start.world start.stores start.ring.now start.world start.stores
+    way = subst (λ (r : Ring). IsUnderWay store_faults store_calls rests out start.world start.stores r start.world start.stores) (sym same)
+        (way-begun store_faults store_calls rests out start.world start.stores begun.0 begun.1 begun.2 are_out)
+
+    pub nodes-ended : IsEnded store_faults store_calls rests out start.world start.stores
+        (faults_at store_faults store_calls rests out start.world start.stores (status_by result)) after.world after.stores
+    nodes-ended = session-over store_faults store_calls rests out start.world start.stores ring_in world_in stores_in start source sink moments after
+        result way session
+
+    -- what was run, once the volumes were given back
+    pub nodes-run : (world : AllNodes V) (rests_now : ℕ → ℕ → Option V) (faults_now calls_now : ℕ) (clock clock_now : Option (List ℕ)) (steps : List Line)
+        (read : List ℕ) (status : ℕ)
+        → status ≡ status_by result → steps ≡ after.world.lines → world ≡ without_lines after.world → read ≡ moments → TicksEach clock clock_now moments
+        → IsWorld world → ((l : ℕ) (k : Kept V) → slice_get world.slots l ≡ Some (slots.Open k) → at_place rests_now (2 ^ ring.lock_bits) l ≡ Some k.volume)
+        → ((device : ℕ) → world.lifted ≡ Some device → (d s : ℕ) → places_at ring device d s ≡ true → rests_now d s ≡ rests after.stores.now d s)
+        → faults_now ≡ store_faults after.stores.now → calls_now ≡ store_calls after.stores.now
+        → IsRunOver tells files faults ring start.world rests_now (store_faults start.stores.now) faults_now
+        (store_calls start.stores.now) calls_now source sink clock clock_now (record { steps = steps; moments = read }) status
+    nodes-run world rests_now faults_now calls_now clock clock_now steps read status status_is steps_are taken read_is ticks is resting same_out faults_are
+        calls_are = record {
+          after = after.world;
+          ends = record {
+            ended = result;
+            status_is = status_is;
+            session = subst (λ (ms : List ℕ). IsSession (MayAnswer tells files faults ring)
+                (λ w r moment fault. MayHalt tells files faults ring w r) start.world source sink ms
+                after.world result) (sym read_is)
+                (session-said store_faults store_calls rests out start.world start.stores ring_in world_in stores_in start source sink moments
+                after result way session);
+          };
+          steps = steps_are;
+          told = λ told. subst (λ (ls : List Line). IsTrail tells files faults ring start.world rests_now ls) (sym steps_are)
+              (nodes-ended.tells_trail rests_now (subst (λ (w : AllNodes V). IsWorld w) taken is)
+              (λ l k at. resting l k (ap (λ (w : AllNodes V). slice_get w.slots l) taken ∙ at))
+              (λ device lifted. same_out device (ap (λ (w : AllNodes V). w.lifted) taken ∙ lifted))
+              told);
+          moments = subst (TicksEach clock clock_now) (sym read_is) ticks;
+          store_faults_are = faults_are ∙ (nodes-ended.faults_are ∙ ap (faults_at store_faults store_calls rests out start.world start.stores) (sym status_is));
+          store_calls_are = subst (AreCalled ring after.world.lifted steps (store_calls start.stores.now)) (sym calls_are)
+              (subst (λ (ls : List Line). AreCalled ring after.world.lifted ls (store_calls start.stores.now) (store_calls after.stores.now)) (sym steps_are)
+              nodes-ended.calls_are);
+        }

@@ -1,0 +1,46 @@
+use Rattle.std.proofs.Common.{◌≡◌, ℕ, ◌^◌, List, ◌++◌, length, refl, sym, ap, subst, ◌∙◌, Some}
+use Rattle.sw_core.specs.Stopping.{gap_first, gap_past}
+use Rattle.sw_stores.specs.Places.{ComeHome, IsSameBut, at_place, is_around}
+use Rattle.sw_stores.specs.Volumes.{AreResting}
+use Rattle.sw_cluster.proofs.Resting.{all-home, gap-same, rests-each}
+use Rattle.sw_cluster.proofs.running.give_back.Goals as goal
+
+abbrev of_four : (P : ℕ → ℕ → ℕ → ℕ → Type 0) (a b c d e f g h : ℕ) → a ≡ e → b ≡ f → c ≡ g → d ≡ h → P a b c d → P e f g h
+of_four P a b c d e f g h p q r s x =
+    subst (λ (y : ℕ). P y f g h) p (subst (λ (y : ℕ). P a y g h) q (subst (λ (y : ℕ). P a b y h) r (subst (λ (y : ℕ). P a b c y) s x)))
+
+pub returns-clause-home : goal.returns-clause-home
+returns-clause-home g c =
+    all-home c.args.ring.now c.args.world.lifted (g.S.Stores.out c.args.stores.now) (g.S.Stores.out c.give_around.new.stores)
+    (of_four (λ (s f p n : ℕ). ComeHome (is_around s f p n) (g.S.Stores.out c.args.stores.now) (g.S.Stores.out c.give_around.new.stores)) _ _ _ _ _ _ _ _
+    c.stripes-stripes.ensures.value
+    ((c.gap_of-first.ensures c.args.ring.now.lock_bits c.stripes-stripes.ensures.value).0 ∙ ap (gap_first c.args.ring.now.lock_bits) c.lifted.ensures)
+    ((c.gap_of-first.ensures c.args.ring.now.lock_bits c.stripes-stripes.ensures.value).1 ∙ ap (gap_past c.args.ring.now.lock_bits) c.lifted.ensures)
+    (cc (c.as_slice.ensures, c.from.ensures, c.stripes-stripes.ensures.value))
+    c.give_around.ensures.home)
+    c.requires.out
+
+pub returns-clause-rests : goal.returns-clause-rests
+returns-clause-rests g c l k at =
+    let stripes_are : c.stripes-stripes.result ≡ 2 ^ c.args.world.lock_bits = c.stripes-stripes.ensures.value
+    ∙ ap (λ (b : ℕ). 2 ^ b) (sym c.requires.lock_bits) in
+    subst (λ (b : ℕ). at_place (g.S.Stores.rests c.give_around.new.stores) (2 ^ b) l ≡ Some k.volume) c.requires.lock_bits
+    (rests-each c.args.world c.stop.ensures.world (g.S.Stores.rests c.give_around.new.stores) c.stop.result.volumes.items c.stop.ensures.gives
+    (of_four (λ (s f p n : ℕ). (before behind : List _) → c.stop.result.volumes.items ≡ before ++ behind → length before ≡ f
+    → AreResting (g.S.Stores.rests c.give_around.new.stores) s 0 before × AreResting (g.S.Stores.rests c.give_around.new.stores) s p behind) _ _ _ 0 _ _ _ 0
+    stripes_are
+    ((c.gap_of-first.ensures c.args.world.lock_bits stripes_are).0 ∙ ap (gap_first c.args.world.lock_bits) c.lifted.ensures)
+    ((c.gap_of-first.ensures c.args.world.lock_bits stripes_are).1 ∙ ap (gap_past c.args.world.lock_bits) c.lifted.ensures)
+    refl
+    c.give_around.ensures.rests)
+    l k at)
+
+pub returns-clause-others : goal.returns-clause-others
+returns-clause-others g c device out =
+    gap-same c.args.ring.now device (g.S.Stores.rests c.args.stores.now) (g.S.Stores.rests c.give_around.new.stores)
+    (of_four (λ (s f p n : ℕ). IsSameBut (is_around s f p n) (g.S.Stores.rests c.args.stores.now) (g.S.Stores.rests c.give_around.new.stores)) _ _ _ _ _ _ _ _
+    c.stripes-stripes.ensures.value
+    ((c.gap_of-first.ensures c.args.ring.now.lock_bits c.stripes-stripes.ensures.value).0 ∙ ap (gap_first c.args.ring.now.lock_bits) (c.lifted.ensures ∙ out))
+    ((c.gap_of-first.ensures c.args.ring.now.lock_bits c.stripes-stripes.ensures.value).1 ∙ ap (gap_past c.args.ring.now.lock_bits) (c.lifted.ensures ∙ out))
+    (cc (c.as_slice.ensures, c.from.ensures, c.stripes-stripes.ensures.value))
+    c.give_around.ensures.others)
