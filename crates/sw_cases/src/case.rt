@@ -1,5 +1,5 @@
 use std::alloc::Global;
-use sw_outside::FailingPut;
+use sw_outside::{Bytes, FailingCall, FailingPut};
 
 /// What the file `case` of a case says.
 #[derive(Drop)]
@@ -12,6 +12,11 @@ pub struct Script {
     pub failing_puts: Vec<FailingPut>,
     pub failing_error_puts: Vec<FailingPut>,
     pub failing_stores: Vec<u64>,
+    pub failing_calls: Vec<LockCall>,
+    /// The files that stand in volumes before the run.
+    pub standing: Vec<LockFile>,
+    /// The locks of these calls and files, each once.
+    pub locks: Vec<Lock>,
     /// The clock's readings, in seconds since 1970.
     pub clock: Vec<u64>,
     /// The ways in which the case is run again.
@@ -24,6 +29,8 @@ pub struct Script {
     /// The moments of the requests that are wanted in the trail, and how many steps, where the case says them.
     pub moments: Option<Vec<u64>>,
     pub steps: Option<u64>,
+    /// The files that are wanted at the end, of the devices of which the case says them.
+    pub files: Vec<FilesOf>,
 }
 
 impl Script {
@@ -36,6 +43,9 @@ impl Script {
             failing_puts: Vec::new(alloc),
             failing_error_puts: Vec::new(alloc),
             failing_stores: Vec::new(alloc),
+            failing_calls: Vec::new(alloc),
+            standing: Vec::new(alloc),
+            locks: Vec::new(alloc),
             clock: Vec::new(alloc),
             again: Vec::new(alloc),
             filling: None,
@@ -43,8 +53,41 @@ impl Script {
             error: String::new(alloc),
             moments: None,
             steps: None,
+            files: Vec::new(alloc),
         }
     }
+}
+
+/// An object lock: the place of a device in the ring's list, and a stripe. Each has a volume.
+#[derive(Clone, Copy, Debug, PartialEq, Eq)]
+pub struct Lock {
+    pub device: u8,
+    pub stripe: u8,
+}
+
+/// A call of a lock's volume that fails. Its number counts from 0 over the calls of the run alone.
+#[derive(Clone, Copy, Debug, PartialEq, Eq)]
+pub struct LockCall {
+    pub lock: Lock,
+    pub failing: FailingCall,
+}
+
+/// A file of a lock's volume.
+#[derive(Drop)]
+pub struct LockFile {
+    pub lock: Lock,
+    pub directory: String,
+    pub name: String,
+    pub bytes: Bytes,
+}
+
+/// The files of a device: the text of their paths.
+#[derive(Drop)]
+pub struct FilesOf {
+    /// The place of the device in the ring's list.
+    pub device: u8,
+    /// Each path and a line feed, in the order of the bytes of paths.
+    pub text: Bytes,
 }
 
 /// One byte, many times over: an input that is long and says little.

@@ -3,14 +3,14 @@ use crate::difference::{Difference, Part};
 use crate::run::{Ended, text_of};
 use crate::way::Ending;
 use std::alloc::Global;
-use sw_cluster::RingText;
 use sw_core::Trail;
 use sw_outside::NoMemory;
+use sw_stores::RingText;
 
 /// The refusal of a rest that is no request.
 const REFUSAL: &[u8] = b"HTTP/1.1 400 Bad Request\r\nContent-Length: 0\r\n\r\n";
 
-/// The first difference between what a run left and what is wanted of it: of the output, then of the error line, the status and the trail.
+/// The first difference between what a run left and what is wanted of it: of the output, then of the error line, the status, the trail and the files.
 pub fn compare(
     alloc: Global,
     case: &Case,
@@ -34,10 +34,31 @@ pub fn compare(
         }));
     }
     if ending == Ending::AsWanted {
-        compare_trails(alloc, case, rings, &ended.trail)
+        compare_rest(alloc, case, rings, ended)
     } else {
         Ok(None)
     }
+}
+
+/// Compares what a run that is to end as the case wants leaves besides: the trail, and then the files.
+fn compare_rest(
+    alloc: Global,
+    case: &Case,
+    rings: &[RingText],
+    ended: &Ended,
+) -> Result<Option<Difference>, NoMemory> {
+    let found = compare_trails(alloc, case, rings, &ended.trail)?;
+    if found.is_some() {
+        return Ok(found);
+    }
+    for (wanted, came) in case.script.files.iter().zip(&ended.files) {
+        let part = Part::Files(wanted.device);
+        let found = Difference::between(alloc, part, wanted.text.as_slice(), came.as_slice())?;
+        if found.is_some() {
+            return Ok(found);
+        }
+    }
+    Ok(None)
 }
 
 /// Compares what the case says of the trail: its text, then the moments of requests and the number of steps.

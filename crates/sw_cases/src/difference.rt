@@ -10,6 +10,8 @@ pub enum Part {
     Trail,
     Moments,
     Steps,
+    /// The files of the device of this place.
+    Files(u8),
 }
 
 /// The first place where a run isn't as wanted.
@@ -39,6 +41,7 @@ impl fmt::Display for Part {
             Part::Trail => write!(f, "trail"),
             Part::Moments => write!(f, "moments"),
             Part::Steps => write!(f, "number of steps"),
+            Part::Files(device) => write!(f, "files of device {device}"),
         }
     }
 }

@@ -5,8 +5,8 @@ use std::alloc::Global;
 use std::io::ErrorKind;
 use std::rt::Files;
 use std::{fs, io};
-use sw_cluster::RingText;
 use sw_outside::Bytes;
+use sw_stores::RingText;
 
 /// The names of what stands in a folder, in byte order.
 pub fn names_in<R: Files + AllocGlobal + Clone + Drop>(

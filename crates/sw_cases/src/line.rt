@@ -1,6 +1,7 @@
 use crate::case::{Again, Filling, Mark, Script};
+use crate::volume_line::{add_failing_calls, add_file, add_files};
 use std::alloc::{AllocError, AllocFailed, Global};
-use sw_outside::FailingPut;
+use sw_outside::{FailingPut, NoMemory};
 use thiserror::Error;
 
 /// What is wrong with a line of a file `case`.
@@ -16,6 +17,10 @@ pub enum LineFault {
     NotTwo,
     #[error("a number from 0 to 255 is wanted here")]
     NotByte,
+    #[error("a device, a stripe and calls are wanted here, as 0 0 1:1")]
+    NotCalls,
+    #[error("a device, a stripe, a path with a slash and a text are wanted here")]
+    NotFile,
     #[error("this key stands twice")]
     Twice,
     #[error("out of memory")]
@@ -30,6 +35,12 @@ impl From<AllocError> for LineFault {
 
 impl<T: Drop> From<AllocFailed<T>> for LineFault {
     fn from(_error: AllocFailed<T>) -> LineFault {
+        LineFault::NoMemory
+    }
+}
+
+impl From<NoMemory> for LineFault {
+    fn from(_error: NoMemory) -> LineFault {
         LineFault::NoMemory
     }
 }
@@ -53,6 +64,9 @@ pub fn add_line(
         "failing-stores" => add_numbers(&mut script.failing_stores, value),
         "failing-puts" => add_puts(&mut script.failing_puts, value),
         "failing-error-puts" => add_puts(&mut script.failing_error_puts, value),
+        "failing-calls" => add_failing_calls(script, value),
+        "file" => add_file(alloc, script, value),
+        "files" => add_files(alloc, script, value),
         _ => Ok(script.again.push(again(alloc, key, value)?)?),
     }
 }
@@ -108,8 +122,8 @@ fn set_filling(script: &mut Script, value: &str) -> Result<(), LineFault> {
     Ok(())
 }
 
-/// A status: a number that a byte holds.
-pub fn status(value: &str) -> Result<u8, LineFault> {
+/// A number that a byte holds.
+pub fn byte(value: &str) -> Result<u8, LineFault> {
     let number = number(value).ok_or(LineFault::NotByte)?;
     u8::try_from(number).map_err(|_| LineFault::NotByte)
 }
@@ -156,7 +170,7 @@ fn add_puts(puts: &mut Vec<FailingPut>, value: &str) -> Result<(), LineFault> {
 }
 
 /// Two numbers with this sign between them.
-fn pair(text: &str, sign: char) -> Option<(u64, u64)> {
+pub fn pair(text: &str, sign: char) -> Option<(u64, u64)> {
     let (first, second) = text.split_once(sign)?;
     Some((number(first)?, number(second)?))
 }

@@ -1,9 +1,15 @@
+ghost use Rattle.std.specs.Prelude.{◌≡◌, ℕ, false, IfOk};
+ghost use Rattle.sw_stores.specs.Shelf.{is_out};
+
 use crate::case::Case;
+use crate::volumes::{files_left, volumes};
 use crate::way::Change;
 use std::alloc::Global;
-use sw_cluster::{MemStores, RingText, cluster, trail_text};
+use sw_cluster::cluster;
+use sw_control::trail_text;
 use sw_core::Trail;
 use sw_outside::{Bytes, BytesList, FailingPut, MemClock, MemSink, MemSource, NoMemory};
+use sw_stores::{MemStores, RingText};
 
 /// What a run left.
 #[derive(Drop)]
@@ -12,6 +18,8 @@ pub struct Ended {
     pub output: MemSink,
     pub errors: MemSink,
     pub trail: Trail,
+    /// The texts of the files of the devices whose files are wanted.
+    pub files: Vec<Bytes>,
 }
 
 /// Runs a case over memory, with this change.
@@ -25,7 +33,7 @@ pub fn run(
     let mut source = source(alloc, case, change)?;
     let mut output = MemSink::new(alloc, puts(alloc, &script.failing_puts, change)?);
     let mut errors = MemSink::new(alloc, Vec::from_slice(alloc, &script.failing_error_puts)?);
-    let mut stores = stores(alloc, rings, &script.failing_stores)?;
+    let mut stores = stores(alloc, case, rings)?;
     let mut clock = MemClock::new(Vec::from_slice(alloc, &script.clock)?);
     let mut trail = Trail::new(alloc);
     let status = cluster(
@@ -38,11 +46,14 @@ pub fn run(
         &mut clock,
         &mut trail,
     );
+    let mut slots = stores.into_volumes().into_slots();
+    let files = files_left(alloc, &script.files, &mut slots)?;
     Ok(Ended {
         status,
         output,
         errors,
         trail,
+        files,
     })
 }
 
@@ -79,8 +90,10 @@ fn puts(
     Ok(puts)
 }
 
-/// Stores with these rings.
-fn stores(alloc: Global, rings: &[RingText], failing: &[u64]) -> Result<MemStores, NoMemory> {
+/// Stores with these rings and the volumes of a case.
+fn stores(alloc: Global, case: &Case, rings: &[RingText]) -> Result<MemStores, NoMemory>
+    ensures { IfOk result (λ stores. (d s : ℕ) → is_out stores.volumes d s ≡ false) }
+{
     let mut copies = Vec::new(alloc);
     for ring in rings {
         copies.push(RingText {
@@ -88,7 +101,11 @@ fn stores(alloc: Global, rings: &[RingText], failing: &[u64]) -> Result<MemStore
             text: Bytes::copy(alloc, ring.text.as_slice())?,
         })?;
     }
-    Ok(MemStores::new(copies, Vec::from_slice(alloc, failing)?))
+    Ok(MemStores::new(
+        copies,
+        Vec::from_slice(alloc, &case.script.failing_stores)?,
+        volumes(alloc, &case.script)?,
+    ))
 }
 
 /// The text of a trail, with the names of the devices of the ring that the words of a case name.

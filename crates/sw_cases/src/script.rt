@@ -1,6 +1,6 @@
 use crate::case::Script;
 use crate::case_error::CaseError;
-use crate::line::{LineFault, add_line, status};
+use crate::line::{LineFault, add_line, byte};
 use std::alloc::Global;
 
 /// Reads the text of a file `case`, which lies at this path: a line for each thing that it says, a key, a space and its value. An empty line
@@ -32,7 +32,7 @@ fn read_line(alloc: Global, script: &mut Script, line: &str) -> Result<bool, Lin
     }
     let (key, value) = line.split_once(' ').unwrap_or((line, ""));
     if key == "status" {
-        script.status = status(value)?;
+        script.status = byte(value)?;
         return Ok(true);
     }
     add_line(alloc, script, key, value)?;

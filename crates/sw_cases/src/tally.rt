@@ -7,8 +7,8 @@ use crate::run::run;
 use crate::way::{Change, ways};
 use std::alloc::Global;
 use std::rt::Files;
-use sw_cluster::RingText;
 use sw_outside::NoMemory;
+use sw_stores::RingText;
 
 /// How many cases were run, and how many of them were as wanted in every way.
 #[derive(Clone, Copy, Debug, PartialEq, Eq)]
