@@ -11,3 +11,5 @@ mod obj_dirs;
 mod peer;
 #[cfg(test)]
 mod runs;
+#[cfg(test)]
+mod worlds;
