@@ -1,3 +1,4 @@
 pub mod FileNames
 pub mod Laws
 pub mod Picking
+pub mod StateFiles

@@ -1,5 +1,5 @@
 -- A door over nodes of which nothing is known. (This project's own.)
-use Rattle.std.specs.Prelude.{Bool, true, false, [], None}
+use Rattle.std.specs.Prelude.{Bool, true, false, [], None, refl}
 use Rattle.sw_peer.specs.Halves.{HistoryOf}
 use Rattle.sw_peer.specs.Sights.{Nodes, Sight}
 use Rattle.sw_peer.specs.declared.answer.Answer.{Answer}
@@ -29,7 +29,16 @@ untold nothing = record {
 }
 
 abbrev pub silent_nodes : Nodes
-silent_nodes = record { devices = 256; lock_bits = 0; power = 0; secrets = record { prefix = []; suffix = [] }; fits = λ name. true; lock = λ device hash. 0 }
+silent_nodes = record {
+  devices = 256;
+  lock_bits = 0;
+  power = 0;
+  secrets = record { prefix = []; suffix = [] };
+  fits = λ name. true;
+  lock = λ device hash. 0;
+  part_lock = λ device part. 0;
+  one_lock = λ device hash digest. refl;
+}
 
 abbrev pub silent : Sight
 silent = record {

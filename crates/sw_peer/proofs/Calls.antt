@@ -1,19 +1,27 @@
 -- Calls of a door, one after another, with messages that come several times or never.
 use Rattle.std.proofs.Common.{◌≡◌, ℕ, ◌+◌, ◌≤◌, Bool, true, false, List, [], ◌∷◌, ◌++◌, refl, sym, ◌∙◌, ap, subst, arith, append_assoc, inl, inr, Result, Ok, Err}
 use Rattle.std.proofs.lemmas.List.{append-nil}
+use Rattle.std.specs.Bool.{⊤}
+use Rattle.sw_diskfile.specs.declared.file_name.FileName.{FileName}
+use Rattle.sw_hashpath.specs.HashParts.{suffix_of}
 use Rattle.sw_hashpath.specs.declared.name.Name.{Name}
 use Rattle.sw_outside.specs.Faults.{HasRisen}
 use Rattle.sw_peer.specs.Halves.{GrowsOf, Half, HalfMoves, HistoryOf}
 use Rattle.sw_peer.specs.Histories.{History}
 use Rattle.sw_peer.specs.Journals.{Hash, Journal, Settles}
-use Rattle.sw_peer.specs.Sights.{Calls, Comes, IsAt, IsMade, IsRead, IsSame, Moves, Sight, Trails, is_wanting, is_wanting_read}
+use Rattle.sw_peer.specs.Parts.{AreHashes, AreLines, IsFile, is_wanting_part}
+use Rattle.sw_peer.specs.Sights.{Calls, Comes, IsAt, IsFilesRead, IsHashesRead, IsInPart, IsMade, IsPartRead, IsRead, IsSame, IsWriteRead, Moves, Nodes, PartMoves, Sight, Trails, is_wanting, is_wanting_read}
 use Rattle.sw_peer.specs.declared.answer.Answer.TheVariants as answers
 use Rattle.sw_peer.specs.declared.change.Change.{Change}
-use Rattle.sw_peer.specs.declared.line.Event.TheVariants.{Changed, Read}
+use Rattle.sw_peer.specs.declared.line.Event.TheVariants.{Changed, Read, ReadPart}
 use Rattle.sw_peer.specs.declared.line.Line.{Line}
 use Rattle.sw_peer.specs.declared.link.Link.{Link}
 use Rattle.sw_peer.specs.declared.link.Link.TheVariants.{Local, Sent}
 use Rattle.sw_peer.specs.declared.link.Lost.{Lost}
+use Rattle.sw_peer.specs.declared.dir_fault.DirFault.{DirFault}
+use Rattle.sw_peer.specs.declared.part_read.PartRead.{PartRead}
+use Rattle.sw_peer.specs.declared.part_read.PartRead.TheVariants.{Files, Hashes, Write}
+use Rattle.sw_state.specs.declared.state.State.{State}
 
 module _ {K V E : Type 0} where
   pub grows-refl : (h : HistoryOf K V E) → GrowsOf h h
@@ -157,6 +165,37 @@ read-step link device name = record {
   moves = λ s t x step. step.moves;
   recounts = λ s t x f f' k k' later step. record { moves = moves-counted (IsAt device name.hash) s t f f' k k' later step.moves; holds_all = step.holds_all; step = step.step; trail = trails-counted s t (record { device = device; link = link; event = Read name x; added = step.step.added }) (is_wanting_read x) f f' k k' later step.trail };
 }
+
+-- what a read of a partition keeps
+pub part-frame : (device part : ℕ) (at : Hash → Type 0) → IsFrame (PartMoves device part at)
+part-frame device part at = record {
+  same = λ s t p. (frame-of (IsInPart s.nodes.power device part at)).same s t p;
+  join = λ a b c p q. moves-trans (IsInPart a.nodes.power device part at) a b c p (subst (λ (n : Nodes). Moves (IsInPart n.power device part at) b c) p.nodes q);
+  recounts = λ s t f f' k k' later p. moves-counted (IsInPart s.nodes.power device part at) s t f f' k k' later p;
+  faults = λ s t p. p.faults;
+}
+
+pub part-step : {A : Type 0} (link : Link) (device part : ℕ) (at : Hash → Type 0) (damages : Bool) (reading : Nodes → Bool → (Hash → State) → A → Type 0) (read : Result A DirFault → PartRead)
+    → IsStep (PartMoves device part at) (IsPartRead link device part at damages reading read)
+part-step {A} link device part at damages reading read = record {
+  frames = part-frame device part at;
+  moves = λ s t x step. step.moves;
+  recounts = λ s t x f f' k k' later step. record {
+    moves = moves-counted (IsInPart s.nodes.power device part at) s t f f' k k' later step.moves;
+    holds_all = step.holds_all;
+    step = step.step;
+    trail = trails-counted s t (record { device = device; link = link; event = ReadPart (read x); added = step.step.added }) (is_wanting_part x) f f' k k' later step.trail;
+  };
+}
+
+pub hashes-step : (link : Link) (device part : ℕ) → IsStep (PartMoves device part (λ hash. ⊤)) (IsHashesRead link device part)
+hashes-step link device part = part-step link device part (λ hash. ⊤) false (λ nodes told s got. AreHashes nodes.power part told s got.items) (λ got. Hashes part got)
+
+pub files-step : (link : Link) (device part suffix : ℕ) → IsStep (PartMoves device part (λ hash. suffix_of hash ≡ suffix)) (IsFilesRead link device part suffix)
+files-step link device part suffix = part-step link device part (λ hash. suffix_of hash ≡ suffix) false (λ nodes told s got. AreLines nodes.power part suffix told s got.items) (λ got. Files part suffix got)
+
+pub write-step : (link : Link) (device part : ℕ) (hash : Hash) (file : FileName) → IsStep (PartMoves device part (λ other. other ≡ hash)) (IsWriteRead link device part hash file)
+write-step link device part hash file = part-step link device part (λ other. other ≡ hash) true (λ nodes told s got. IsFile nodes.fits hash file told s got) (λ got. Write part hash file got)
 
 module _ {A : Type 0} (frame : Sight → Sight → Type 0) (step : Sight → A → Sight → Type 0) (is : IsStep frame step) where
   -- a step that comes once

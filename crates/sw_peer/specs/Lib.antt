@@ -5,5 +5,6 @@ pub mod Journals
 pub mod Laws
 pub mod Lines
 pub mod Outlines
+pub mod Parts
 pub mod Sights
 pub mod Steps

@@ -15,6 +15,7 @@ own_by answer = if is_entered answer then 1 else 0
 abbrev pub own_count : Event → ℕ
 own_count (events.Changed name change answer) = own_by answer
 own_count (events.Read name got) = 0
+own_count (events.ReadPart read) = 0
 own_count (events.Listed failed) = 0
 own_count events.Restarted = 0
 

@@ -1,7 +1,10 @@
 -- What the names of a state's files tell of it. (OpenStack Swift's object server names each file by its time, and by an ending for data,
 -- tombstone or metadata.)
-use Rattle.std.specs.Prelude.{ℕ, Bool, true, false, ◌&&◌, ◌||◌, ◌==◌, max, nat_lt, Option, None, Some}
+use Rattle.std.specs.Prelude.{ℕ, Bool, true, false, ◌&&◌, ◌||◌, ◌==◌, max, nat_lt, if◌then◌else◌, Option, None, Some}
 use Rattle.std.specs.Option.{option_and_then, option_map}
+use Rattle.sw_diskfile.specs.Picking.{is_del}
+use Rattle.sw_diskfile.specs.declared.file_name.FileName.{FileName}
+use Rattle.sw_diskfile.specs.declared.picking.Picked.{Picked}
 use Rattle.sw_state.specs.States.{effective_heads}
 use Rattle.sw_state.specs.declared.base.Base.{Base}
 use Rattle.sw_state.specs.declared.base.Base.TheVariants as bases
@@ -18,6 +21,13 @@ mark_of (bases.Del time) = Tombstone time
 
 abbrev pub outline_of : State → Outline
 outline_of s = record { base = option_map mark_of s.base; meta = option_map (λ m. m.0) s.meta }
+
+abbrev pub file_mark : FileName → Mark
+file_mark file = if is_del file.tag then Tombstone file.time else Object file.time
+
+-- what the picked files of a directory tell of a state
+abbrev pub picked_outline : Picked → Outline
+picked_outline p = record { base = option_map file_mark p.base; meta = option_map (λ f. f.time) p.meta }
 
 abbrev pub mark_time : Mark → ℕ
 mark_time (Object time) = time

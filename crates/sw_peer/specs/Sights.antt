@@ -4,25 +4,37 @@
 -- that shares the nodes with others. What the devices hold is known only where the door is alone.
 use Rattle.std.specs.Prelude.{◌≡◌, ◌≢◌, ⊤, ℕ, ◌≤◌, Bool, true, false, List, [], ◌∷◌, ◌++◌, Option, ◌⊎◌, Result, Ok, Err}
 use Rattle.std.specs.Option.{option_map}
+use Rattle.std.specs.declared.alloc.Global.{Global}
+use Rattle.std.specs.declared.vec.Vec.{Vec}
+use Rattle.sw_diskfile.specs.declared.file_name.FileName.{FileName}
+use Rattle.sw_hashpath.specs.HashParts.{IsDigest, partition_of, suffix_of}
 use Rattle.sw_hashpath.specs.declared.name.Name.{Name}
 use Rattle.sw_hashpath.specs.declared.place.Place.{Place}
 use Rattle.sw_hashpath.specs.declared.secrets.Secrets.{Secrets}
+use Rattle.sw_outside.specs.Counts.{raised}
 use Rattle.sw_outside.specs.Faults.{HasRisen}
 use Rattle.sw_state.specs.declared.state.State.{State}
+use Rattle.sw_suffix.specs.declared.dir_line.DirLine.{DirLine}
+use Rattle.sw_suffix.specs.declared.told.SuffixHash.{SuffixHash}
 use Rattle.sw_peer.specs.Halves.{Half, HalfMoves}
 use Rattle.sw_peer.specs.Histories.{StepChanges, StepReads}
 use Rattle.sw_peer.specs.Journals.{Hash}
+use Rattle.sw_peer.specs.Parts.{AreHashes, AreLines, IsFile, IsOfPart, StepReadsPart, is_wanting_part}
 use Rattle.sw_peer.specs.declared.answer.Answer.{Answer}
 use Rattle.sw_peer.specs.declared.answer.Answer.TheVariants as answers
 use Rattle.sw_peer.specs.declared.change.Change.{Change}
+use Rattle.sw_peer.specs.declared.dir_fault.DirFault.{DirFault}
 use Rattle.sw_peer.specs.declared.entry.ObjEntry.{ObjEntry}
 use Rattle.sw_peer.specs.declared.got.Got.{Got}
 use Rattle.sw_peer.specs.declared.got.Got.TheVariants as gots
-use Rattle.sw_peer.specs.declared.line.Event.TheVariants.{Changed, Listed, Read, Restarted}
+use Rattle.sw_peer.specs.declared.line.Event.TheVariants.{Changed, Listed, Read, ReadPart, Restarted}
 use Rattle.sw_peer.specs.declared.line.Line.{Line}
 use Rattle.sw_peer.specs.declared.link.Link.{Link}
 use Rattle.sw_peer.specs.declared.link.Link.TheVariants.{Local, Sent}
 use Rattle.sw_peer.specs.declared.link.Lost.{Lost}
+use Rattle.sw_peer.specs.declared.part_read.PartRead.{PartRead}
+use Rattle.sw_peer.specs.declared.part_read.PartRead.TheVariants.{Files, Hashes, Write}
+use Rattle.sw_peer.specs.declared.part_read.Stored.{Stored}
 
 -- what never changes
 pub record Nodes : Type 0 where
@@ -32,6 +44,8 @@ pub record Nodes : Type 0 where
   pub secrets : Secrets
   pub fits : Name → Bool  -- whether the name's hash is that of its path under the nodes' secrets
   pub lock : ℕ → Hash → ℕ  -- which lock of a device the hash is under: a number for objects, and one for containers
+  pub part_lock : ℕ → ℕ → ℕ  -- which lock of a device the partition is under: each is under one
+  pub one_lock : (device : ℕ) (hash : Hash) → IsDigest hash → lock device hash ≡ part_lock device (partition_of hash power)
 
 pub record Sight : Type 0 where
   pub nodes : Nodes
@@ -104,6 +118,41 @@ pub record IsRead (link : Link) (device : ℕ) (name : Name) (old : Sight) (got 
   pub step : StepReads new.alone (old.objects.seen (old.nodes.lock device name.hash)) name.hash got
       (new.objects.seen (old.nodes.lock device name.hash)) (new.objects.holds device name.hash)
   pub trail : Trails old (record { device = device; link = link; event = Read name got; added = step.added }) (is_wanting_read got) new
+
+-- ---- one read of a partition, or of some hashes of it
+
+-- these hashes of a partition of one device
+abbrev pub IsInPart : ℕ → ℕ → ℕ → (Hash → Type 0) → ℕ → Hash → Type 0
+IsInPart power device part at d hash = (d ≡ device) × IsOfPart power part hash × at hash
+
+-- what it keeps. Where its places are is told by the nodes, which never change
+abbrev pub PartMoves : ℕ → ℕ → (Hash → Type 0) → Sight → Sight → Type 0
+PartMoves device part at old new = Moves (IsInPart old.nodes.power device part at) old new
+
+module _ {A : Type 0} where
+  pub record IsPartRead (link : Link) (device part : ℕ) (at : Hash → Type 0) (damages : Bool) (reading : Nodes → Bool → (Hash → State) → A → Type 0) (read : Result A DirFault → PartRead) (old : Sight) (got : Result A DirFault) (new : Sight) : Type 0 where
+    pub moves : PartMoves device part at old new
+    pub holds_all : HoldsAll old new
+    pub step : StepReadsPart new.alone (old.objects.seen (old.nodes.part_lock device part)) (λ hash. IsOfPart old.nodes.power part hash × at hash) damages (reading old.nodes) got
+        (new.objects.seen (old.nodes.part_lock device part)) (new.objects.holds device)
+    pub trail : Trails old (record { device = device; link = link; event = ReadPart (read got); added = step.added }) (is_wanting_part got) new
+
+-- of the hashes of all its suffixes
+abbrev pub IsHashesRead : Link → ℕ → ℕ → Sight → Result (Vec SuffixHash Global) DirFault → Sight → Type 0
+IsHashesRead link device part = IsPartRead link device part (λ hash. ⊤) false (λ nodes told s got. AreHashes nodes.power part told s got.items) (λ got. Hashes part got)
+
+-- of the files of one suffix
+abbrev pub IsFilesRead : Link → ℕ → ℕ → ℕ → Sight → Result (Vec DirLine Global) DirFault → Sight → Type 0
+IsFilesRead link device part suffix = IsPartRead link device part (λ hash. suffix_of hash ≡ suffix) false (λ nodes told s got. AreLines nodes.power part suffix told s got.items) (λ got. Files part suffix got)
+
+-- of one file
+abbrev pub IsWriteRead : Link → ℕ → ℕ → Hash → FileName → Sight → Result (Option Stored) DirFault → Sight → Type 0
+IsWriteRead link device part hash file = IsPartRead link device part (λ other. other ≡ hash) true (λ nodes told s got. IsFile nodes.fits hash file told s got) (λ got. Write part hash file got)
+
+-- how many messages asked for hashes or files, after a call that does
+abbrev pub asked : ℕ → Link → ℕ
+asked asks Local = asks
+asked asks Sent = raised asks
 
 -- ---- a call of a door: its step comes once, several times or never
 

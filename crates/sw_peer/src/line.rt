@@ -2,6 +2,7 @@ use crate::answer::Answer;
 use crate::entry::Added;
 use crate::got::Got;
 use crate::link::Link;
+use crate::part_read::PartRead;
 use crate::seen::{ChangeSeen, Seen};
 use sw_hashpath::Name;
 
@@ -12,6 +13,8 @@ pub enum Event {
     Changed(Name, ChangeSeen, Answer),
     /// A read of this name.
     Read(Seen<Name>, Seen<Got>),
+    /// A read of a partition, as replicas are compared by.
+    ReadPart(PartRead),
     /// A listing of the files of all locks of the device, and whether a call of a volume failed in it.
     Listed(bool),
     /// A restart of the device: the journal of each of its locks began anew.

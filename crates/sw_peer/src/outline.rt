@@ -1,7 +1,8 @@
 ghost use Rattle.std.specs.Prelude.{◌≡◌, Some};
-ghost use Rattle.sw_peer.specs.Outlines.{has_object, is_new_to, outline_of, shown_time, standing_expiry, standing_time, time_with, tombstone_time};
+ghost use Rattle.sw_peer.specs.Outlines.{file_mark, has_object, is_new_to, outline_of, picked_outline, shown_time, standing_expiry, standing_time, time_with, tombstone_time};
 ghost use Rattle.sw_peer.specs.declared.outline.Mark.TheVariants.{Object};
 
+use sw_diskfile::{FileName, Picked};
 use sw_state::{Base, State};
 use sw_timestamp::{Tag, Timestamp};
 
@@ -19,6 +20,19 @@ pub struct Outline {
     pub meta: Option<Timestamp>,
 }
 
+impl Mark {
+    /// What a file of data or a tombstone tells.
+    fn of(file: &FileName) -> Mark
+        ensures { result ≡ file_mark file.now }
+    {
+        if file.tag == Tag::Del {
+            Mark::Tombstone(file.time)
+        } else {
+            Mark::Object(file.time)
+        }
+    }
+}
+
 impl Outline {
     /// The outline of a whole state.
     pub fn of(state: &State) -> Outline
@@ -32,6 +46,22 @@ impl Outline {
             },
             meta: match &state.meta {
                 Some((time, _)) => Some(*time),
+                None => None,
+            },
+        }
+    }
+
+    /// The outline that the picked files of a directory tell.
+    pub fn of_files(picked: &Picked) -> Outline
+        ensures { result ≡ picked_outline picked.now }
+    {
+        Outline {
+            base: match &picked.base {
+                Some(file) => Some(Mark::of(file)),
+                None => None,
+            },
+            meta: match &picked.meta {
+                Some(file) => Some(file.time),
                 None => None,
             },
         }

@@ -1,2 +1,2 @@
 mod Entries
-mod Lines
+pub mod Lines

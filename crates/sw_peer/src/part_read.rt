@@ -1,0 +1,24 @@
+use crate::dir_fault::DirFault;
+use crate::seen::Seen;
+use sw_diskfile::FileName;
+use sw_hashpath::Name;
+use sw_state::Write;
+use sw_suffix::{DirLine, SuffixHash};
+
+/// A write as a device keeps it: with the name that it is of.
+#[derive(Debug, Drop)]
+pub struct Stored {
+    pub name: Name,
+    pub write: Write,
+}
+
+/// A read of a partition, and what it was answered. Contracts alone see the answers.
+#[derive(Drop)]
+pub enum PartRead {
+    /// Of this partition, what is compared of each suffix that has a file.
+    Hashes(u32, Seen<Result<Vec<SuffixHash>, DirFault>>),
+    /// Of this partition and suffix, the files that count of each hash.
+    Files(u32, u16, Seen<Result<Vec<DirLine>, DirFault>>),
+    /// Of this partition, a file of this hash.
+    Write(u32, [u8; 16], FileName, Seen<Result<Option<Stored>, DirFault>>),
+}
