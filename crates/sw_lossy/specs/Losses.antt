@@ -1,7 +1,7 @@
 -- What becomes of the messages through a door that loses and repeats them. (This project's own.)
 use Rattle.std.specs.Prelude.{◌≡◌, ℕ, ◌+◌, ◌==◌, Bool, true, false, Option, None, Some, if◌then◌else◌, Result, Ok, IsErr}
 use Rattle.sw_outside.specs.Counts.{raised}
-use Rattle.sw_peer.specs.Sights.{Calls, Sight}
+use Rattle.sw_peer.specs.Sights.{Calls, Sight, asked}
 use Rattle.sw_peer.specs.declared.answer.Answer.{Answer}
 use Rattle.sw_peer.specs.declared.answer.Answer.TheVariants as answers
 use Rattle.sw_peer.specs.declared.link.Link.{Link}
@@ -11,9 +11,10 @@ use Rattle.sw_lossy.specs.declared.acts.Acts.{Acts}
 use Rattle.sw_lossy.specs.declared.acts.Fate.{Fate}
 use Rattle.sw_lossy.specs.declared.acts.Fate.TheVariants.{Goes, IsLost, LosesReply, ComesTwice}
 
--- a door around another shows the other, with its own losses beside those of the other
-abbrev pub around : Sight → ℕ → Sight
-around s faults = record s { faults = s.faults + faults }
+-- a door around another shows the other, with its own losses beside those of the other. It counts the messages that ask by itself, since
+-- one that is lost never comes to the other, and one that comes twice counts there twice
+abbrev pub around : Sight → ℕ → ℕ → Sight
+around s faults asks = record s { faults = s.faults + faults; asks = asks }
 
 -- ---- which message
 
@@ -49,6 +50,13 @@ is_loss ComesTwice = false
 
 abbrev pub faults_after : Fate → ℕ → ℕ
 faults_after fate faults = if is_loss fate then raised faults else faults
+
+-- what the door inside counts of a step that asks
+abbrev pub asked_inside : Link → Fate → ℕ → ℕ
+asked_inside link Goes asks = asked asks link
+asked_inside link IsLost asks = asks
+asked_inside link LosesReply asks = asked asks link
+asked_inside link ComesTwice asks = asked (asked asks link) link
 
 -- ---- what comes to the door inside, and what is heard
 

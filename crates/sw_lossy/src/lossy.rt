@@ -1,14 +1,17 @@
-ghost use Rattle.std.specs.Prelude.{◌≡◌, ◌<◌, ◌≤◌, true, ◌⊎◌};
+ghost use Rattle.std.specs.Prelude.{◌≡◌, ◌<◌, ◌≤◌, ◌^◌, true, ◌⊎◌};
 ghost use Rattle.sw_outside.specs.Faults.{HasRisen};
 ghost use Rattle.sw_outside.specs.Counts.{raised};
-ghost use Rattle.sw_peer.specs.Sights.{Calls, IsMade, IsRead};
-ghost use Rattle.sw_lossy.specs.Losses.{Happens, IsUncopied, around, fate_of, faults_after, is_loss, messages_after};
+ghost use Rattle.sw_peer.specs.Parts.{IsOfPart};
+ghost use Rattle.sw_peer.specs.Sights.{Calls, IsFilesRead, IsHashesRead, IsMade, IsRead, IsWriteRead, asked};
+ghost use Rattle.sw_lossy.specs.Losses.{Happens, IsUncopied, around, asked_inside, fate_of, faults_after, is_loss, messages_after};
 
 use crate::acts::{Acts, Fate};
 use std::alloc::Global;
+use sw_diskfile::FileName;
 use sw_hashpath::Name;
 use sw_outside::NoMemory;
-use sw_peer::{Answer, Change, Door, Got, Link, Lost, ObjectDoor};
+use sw_peer::{Answer, Change, DirFault, Door, Got, Link, Lost, ObjectDoor, ReplicaDoor, Stored};
+use sw_suffix::{DirLine, SuffixHash};
 
 /// A door around another, which loses and repeats messages. A step that is said at the device itself goes through.
 #[derive(Drop)]
@@ -20,6 +23,8 @@ pub struct Lossy<D: Drop> {
     pub messages: u64,
     /// How many of them it lost, or their answers.
     pub faults: u64,
+    /// How many of them asked for hashes or files. One that is lost counts, and one that comes twice counts once.
+    pub asks: u64,
 }
 
 impl<D: Drop> Lossy<D> {
@@ -29,12 +34,14 @@ impl<D: Drop> Lossy<D> {
         ensures acts { result.acts ≡ acts }
         ensures messages { result.messages ≡ 0 }
         ensures faults { result.faults ≡ 0 }
+        ensures asks { result.asks ≡ 0 }
     {
         Lossy {
             door,
             acts,
             messages: 0,
             faults: 0,
+            asks: 0,
         }
     }
 
@@ -55,11 +62,27 @@ impl<D: Drop> Lossy<D> {
         ensures faults { self.new.faults ≡ faults_after (fate_of self.old.acts link self.old.messages) self.old.faults }
         ensures later { self.old.faults ≤ self.new.faults }
         ensures risen { is_loss (fate_of self.old.acts link self.old.messages) ≡ true → HasRisen self.old.faults self.new.faults }
+        ensures asks { self.new.asks ≡ self.old.asks }
     {
         let fate = self.acts.fate_of(link, self.messages);
         self.messages = messages_with(link, self.messages);
         self.faults = faults_with(fate, self.faults);
         fate
+    }
+
+    /// The same of a step that asks for hashes or files.
+    fn next_asking(&mut self, link: Link) -> Fate
+        ensures fate { result ≡ fate_of self.old.acts link self.old.messages }
+        ensures door { self.new.door ≡ self.old.door }
+        ensures acts { self.new.acts ≡ self.old.acts }
+        ensures messages { self.new.messages ≡ messages_after link self.old.messages }
+        ensures faults { self.new.faults ≡ faults_after (fate_of self.old.acts link self.old.messages) self.old.faults }
+        ensures later { self.old.faults ≤ self.new.faults }
+        ensures risen { is_loss (fate_of self.old.acts link self.old.messages) ≡ true → HasRisen self.old.faults self.new.faults }
+        ensures asks { self.new.asks ≡ asked self.old.asks link }
+    {
+        self.asks = asks_with(link, self.asks);
+        self.next(link)
     }
 }
 
@@ -70,6 +93,16 @@ fn messages_with(link: Link, messages: u64) -> u64
     match link {
         Link::Local => messages,
         Link::Sent => messages.saturating_add(1),
+    }
+}
+
+/// The count of messages that ask, after a step that asks and is said so.
+fn asks_with(link: Link, asks: u64) -> u64
+    ensures { result ≡ asked asks link }
+{
+    match link {
+        Link::Local => asks,
+        Link::Sent => asks.saturating_add(1),
     }
 }
 
@@ -86,7 +119,7 @@ fn faults_with(fate: Fate, faults: u64) -> u64
 }
 
 impl<D: Door + Drop> Door for Lossy<D> {
-    ghost sight = { λ w. around (D.sight w.door) w.faults };
+    ghost sight = { λ w. around (D.sight w.door) w.faults w.asks };
 }
 
 impl<D: ObjectDoor + Drop> ObjectDoor for Lossy<D> {
@@ -101,8 +134,9 @@ impl<D: ObjectDoor + Drop> ObjectDoor for Lossy<D> {
     ) -> Result<Answer, Lost>
         requires device { device < (D.sight self.old.door).nodes.devices }
         requires fits { (D.sight self.old.door).nodes.fits name.now ≡ true }
-        ensures made { Calls (IsMade link device name.now change) (around (D.sight self.old.door) self.old.faults) link result (around (D.sight self.new.door) self.new.faults) }
-        ensures asks { (D.sight self.new.door).asks ≡ (D.sight self.old.door).asks }
+        ensures made { Calls (IsMade link device name.now change) (around (D.sight self.old.door) self.old.faults self.old.asks) link result (around (D.sight self.new.door) self.new.faults self.new.asks) }
+        ensures asks { self.new.asks ≡ self.old.asks }
+        ensures inside { (D.sight self.new.door).asks ≡ (D.sight self.old.door).asks }
         ensures happens { let fate = fate_of self.old.acts link self.old.messages in
             Happens D.sight (IsMade link device name.now change) link fate self.old.door result self.new.door
             ⊎ IsUncopied fate self.old.door result self.new.door }
@@ -130,8 +164,9 @@ impl<D: ObjectDoor + Drop> ObjectDoor for Lossy<D> {
     fn get(&mut self, alloc: Global, link: Link, device: u8, name: &Name) -> Result<Got, Lost>
         requires device { device < (D.sight self.old.door).nodes.devices }
         requires fits { (D.sight self.old.door).nodes.fits name.now ≡ true }
-        ensures read { Calls (IsRead link device name.now) (around (D.sight self.old.door) self.old.faults) link result (around (D.sight self.new.door) self.new.faults) }
-        ensures asks { (D.sight self.new.door).asks ≡ (D.sight self.old.door).asks }
+        ensures read { Calls (IsRead link device name.now) (around (D.sight self.old.door) self.old.faults self.old.asks) link result (around (D.sight self.new.door) self.new.faults self.new.asks) }
+        ensures asks { self.new.asks ≡ self.old.asks }
+        ensures inside { (D.sight self.new.door).asks ≡ (D.sight self.old.door).asks }
         ensures happens { Happens D.sight (IsRead link device name.now) link (fate_of self.old.acts link self.old.messages) self.old.door result self.new.door }
         ensures acts { self.new.acts ≡ self.old.acts }
         ensures messages { self.new.messages ≡ messages_after link self.old.messages }
@@ -147,6 +182,106 @@ impl<D: ObjectDoor + Drop> ObjectDoor for Lossy<D> {
             Fate::ComesTwice => {
                 let _ = self.door.get(alloc, link, device, name);
                 self.door.get(alloc, link, device, name)
+            }
+        }
+    }
+}
+
+impl<D: ReplicaDoor + Drop> ReplicaDoor for Lossy<D> {
+    fn hashes(
+        &mut self,
+        alloc: Global,
+        link: Link,
+        device: u8,
+        part: u32,
+    ) -> Result<Result<Vec<SuffixHash>, DirFault>, Lost>
+        requires device { device < (D.sight self.old.door).nodes.devices }
+        requires part { part < 2 ^ (D.sight self.old.door).nodes.power }
+        ensures read { Calls (IsHashesRead link device part) (around (D.sight self.old.door) self.old.faults self.old.asks) link result (around (D.sight self.new.door) self.new.faults self.new.asks) }
+        ensures asks { self.new.asks ≡ asked self.old.asks link }
+        ensures inside { (D.sight self.new.door).asks ≡ asked_inside link (fate_of self.old.acts link self.old.messages) (D.sight self.old.door).asks }
+        ensures happens { Happens D.sight (IsHashesRead link device part) link (fate_of self.old.acts link self.old.messages) self.old.door result self.new.door }
+        ensures acts { self.new.acts ≡ self.old.acts }
+        ensures messages { self.new.messages ≡ messages_after link self.old.messages }
+        ensures faults { self.new.faults ≡ faults_after (fate_of self.old.acts link self.old.messages) self.old.faults }
+    {
+        match self.next_asking(link) {
+            Fate::Goes => self.door.hashes(alloc, link, device, part),
+            Fate::IsLost => Err(Lost),
+            Fate::LosesReply => {
+                let _ = self.door.hashes(alloc, link, device, part);
+                Err(Lost)
+            }
+            Fate::ComesTwice => {
+                let _ = self.door.hashes(alloc, link, device, part);
+                self.door.hashes(alloc, link, device, part)
+            }
+        }
+    }
+
+    fn files_of(
+        &mut self,
+        alloc: Global,
+        link: Link,
+        device: u8,
+        part: u32,
+        suffix: u16,
+    ) -> Result<Result<Vec<DirLine>, DirFault>, Lost>
+        requires device { device < (D.sight self.old.door).nodes.devices }
+        requires part { part < 2 ^ (D.sight self.old.door).nodes.power }
+        requires suffix { suffix < 4096 }
+        ensures read { Calls (IsFilesRead link device part suffix) (around (D.sight self.old.door) self.old.faults self.old.asks) link result (around (D.sight self.new.door) self.new.faults self.new.asks) }
+        ensures asks { self.new.asks ≡ asked self.old.asks link }
+        ensures inside { (D.sight self.new.door).asks ≡ asked_inside link (fate_of self.old.acts link self.old.messages) (D.sight self.old.door).asks }
+        ensures happens { Happens D.sight (IsFilesRead link device part suffix) link (fate_of self.old.acts link self.old.messages) self.old.door result self.new.door }
+        ensures acts { self.new.acts ≡ self.old.acts }
+        ensures messages { self.new.messages ≡ messages_after link self.old.messages }
+        ensures faults { self.new.faults ≡ faults_after (fate_of self.old.acts link self.old.messages) self.old.faults }
+    {
+        match self.next_asking(link) {
+            Fate::Goes => self.door.files_of(alloc, link, device, part, suffix),
+            Fate::IsLost => Err(Lost),
+            Fate::LosesReply => {
+                let _ = self.door.files_of(alloc, link, device, part, suffix);
+                Err(Lost)
+            }
+            Fate::ComesTwice => {
+                let _ = self.door.files_of(alloc, link, device, part, suffix);
+                self.door.files_of(alloc, link, device, part, suffix)
+            }
+        }
+    }
+
+    fn read_write(
+        &mut self,
+        alloc: Global,
+        link: Link,
+        device: u8,
+        part: u32,
+        hash: &[u8; 16],
+        file: &FileName,
+    ) -> Result<Result<Option<Stored>, DirFault>, Lost>
+        requires device { device < (D.sight self.old.door).nodes.devices }
+        requires part { part < 2 ^ (D.sight self.old.door).nodes.power }
+        requires within { IsOfPart (D.sight self.old.door).nodes.power part hash.now }
+        ensures read { Calls (IsWriteRead link device part hash.now file.now) (around (D.sight self.old.door) self.old.faults self.old.asks) link result (around (D.sight self.new.door) self.new.faults self.new.asks) }
+        ensures asks { self.new.asks ≡ self.old.asks }
+        ensures inside { (D.sight self.new.door).asks ≡ (D.sight self.old.door).asks }
+        ensures happens { Happens D.sight (IsWriteRead link device part hash.now file.now) link (fate_of self.old.acts link self.old.messages) self.old.door result self.new.door }
+        ensures acts { self.new.acts ≡ self.old.acts }
+        ensures messages { self.new.messages ≡ messages_after link self.old.messages }
+        ensures faults { self.new.faults ≡ faults_after (fate_of self.old.acts link self.old.messages) self.old.faults }
+    {
+        match self.next(link) {
+            Fate::Goes => self.door.read_write(alloc, link, device, part, hash, file),
+            Fate::IsLost => Err(Lost),
+            Fate::LosesReply => {
+                let _ = self.door.read_write(alloc, link, device, part, hash, file);
+                Err(Lost)
+            }
+            Fate::ComesTwice => {
+                let _ = self.door.read_write(alloc, link, device, part, hash, file);
+                self.door.read_write(alloc, link, device, part, hash, file)
             }
         }
     }

@@ -12,7 +12,7 @@ pub returns-in-Goes-clause-made : goal.returns-in-Goes-clause-made
 returns-in-Goes-clause-made g c =
     let now = c.args.self.now in
     becomes g.D.Door.sight (made-step c.args.link c.args.device c.args.name.now c.args.change)
-    now.acts c.args.link now.messages Goes now.door c.next.new.self.door c.change.new.self c.change.result now.faults c.next.new.self.faults
+    now.acts c.args.link now.messages Goes now.door c.next.new.self.door c.change.new.self c.change.result now.faults c.next.new.self.faults now.asks c.next.new.self.asks
     c.next.ensures.door (sym c.next.ensures.fate ∙ c.in-Goes.is) c.next.ensures.faults c.next.ensures.later c.next.ensures.risen
     c.change.ensures.made
 
@@ -20,14 +20,14 @@ pub returns-in-LosesReply-clause-made : goal.returns-in-LosesReply-clause-made
 returns-in-LosesReply-clause-made g c =
     let now = c.args.self.now in
     becomes g.D.Door.sight (made-step c.args.link c.args.device c.args.name.now c.args.change)
-    now.acts c.args.link now.messages LosesReply now.door c.next.new.self.door c.change-in-LosesReply.new.self (Err (record {})) now.faults c.next.new.self.faults
+    now.acts c.args.link now.messages LosesReply now.door c.next.new.self.door c.change-in-LosesReply.new.self (Err (record {})) now.faults c.next.new.self.faults now.asks c.next.new.self.asks
     c.next.ensures.door (sym c.next.ensures.fate ∙ c.in-LosesReply.is) c.next.ensures.faults c.next.ensures.later c.next.ensures.risen
     ((c.change-in-LosesReply.result, c.change-in-LosesReply.ensures.made), refl)
 
 pub change-requires-in-Ok-2-clause-device : goal.change-requires-in-Ok-2-clause-device
 change-requires-in-Ok-2-clause-device g c =
     let s = g.D.Door.sight in
-    rw (nodes-after (IsAt c.args.device c.args.name.now.hash) (made-step c.args.link c.args.device c.args.name.now c.args.change)
+    rw (nodes-after (made-step c.args.link c.args.device c.args.name.now c.args.change) (λ a b p. p.nodes)
     (s c.args.self.now.door) (s c.next.new.self.door) (s c.change-in-Ok.new.self) c.args.link c.change-in-Ok.result (ap s c.next.ensures.door)
     (subst (λ (x : Change). Calls (IsMade c.args.link c.args.device c.args.name.now x) (g.D.Door.sight c.next.new.self.door) c.args.link
     c.change-in-Ok.result (g.D.Door.sight c.change-in-Ok.new.self)) c.in-Ok.ensures c.change-in-Ok.ensures.made))
@@ -36,7 +36,7 @@ change-requires-in-Ok-2-clause-device g c =
 pub change-requires-in-Ok-2-clause-fits : goal.change-requires-in-Ok-2-clause-fits
 change-requires-in-Ok-2-clause-fits g c =
     let s = g.D.Door.sight in
-    rw (nodes-after (IsAt c.args.device c.args.name.now.hash) (made-step c.args.link c.args.device c.args.name.now c.args.change)
+    rw (nodes-after (made-step c.args.link c.args.device c.args.name.now c.args.change) (λ a b p. p.nodes)
     (s c.args.self.now.door) (s c.next.new.self.door) (s c.change-in-Ok.new.self) c.args.link c.change-in-Ok.result (ap s c.next.ensures.door)
     (subst (λ (x : Change). Calls (IsMade c.args.link c.args.device c.args.name.now x) (g.D.Door.sight c.next.new.self.door) c.args.link
     c.change-in-Ok.result (g.D.Door.sight c.change-in-Ok.new.self)) c.in-Ok.ensures c.change-in-Ok.ensures.made))
@@ -46,7 +46,7 @@ pub returns-in-Ok-clause-made : goal.returns-in-Ok-clause-made
 returns-in-Ok-clause-made g c =
     let now = c.args.self.now in
     becomes g.D.Door.sight (made-step c.args.link c.args.device c.args.name.now c.args.change)
-    now.acts c.args.link now.messages ComesTwice now.door c.next.new.self.door c.change-in-Ok-2.new.self c.change-in-Ok-2.result now.faults c.next.new.self.faults
+    now.acts c.args.link now.messages ComesTwice now.door c.next.new.self.door c.change-in-Ok-2.new.self c.change-in-Ok-2.result now.faults c.next.new.self.faults now.asks c.next.new.self.asks
     c.next.ensures.door (sym c.next.ensures.fate ∙ c.in-ComesTwice.is) c.next.ensures.faults c.next.ensures.later c.next.ensures.risen (
       c.change-in-Ok.new.self,
       (
@@ -61,11 +61,11 @@ returns-in-Ok-clause-made g c =
 pub returns-in-Err-clause-made : goal.returns-in-Err-clause-made
 returns-in-Err-clause-made g c =
     let now = c.args.self.now in
-    let old = around (g.D.Door.sight now.door) now.faults in
+    let old = around (g.D.Door.sight now.door) now.faults now.asks in
     let same =
     kept (fate_of now.acts c.args.link now.messages) now.faults c.next.new.self.faults
     (sym c.next.ensures.fate ∙ c.in-ComesTwice.is) c.next.ensures.faults in
-    rw (c.next.ensures.door, same)
+    rw (c.next.ensures.door, same, c.next.ensures.asks)
     (calls-once (Moves (IsAt c.args.device c.args.name.now.hash)) (IsMade c.args.link c.args.device c.args.name.now c.args.change)
     (made-step c.args.link c.args.device c.args.name.now c.args.change) old old c.args.link answers.NoMemory
     (wanting c.args.link c.args.device c.args.name.now c.args.change old))

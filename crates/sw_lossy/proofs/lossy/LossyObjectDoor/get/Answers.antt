@@ -1,6 +1,5 @@
 use Rattle.std.proofs.Common.{refl, sym, ◌∙◌, ap, Err}
 use Rattle.sw_peer.proofs.Calls.{read-step}
-use Rattle.sw_peer.specs.Sights.{IsAt}
 use Rattle.sw_lossy.proofs.Losses.{becomes, nodes-after}
 use Rattle.sw_lossy.specs.declared.acts.Fate.TheVariants.{Goes, LosesReply, ComesTwice}
 use Rattle.sw_lossy.proofs.lossy.LossyObjectDoor.get.Goals as goal
@@ -9,7 +8,7 @@ pub returns-in-Goes-clause-read : goal.returns-in-Goes-clause-read
 returns-in-Goes-clause-read g c =
     let now = c.args.self.now in
     becomes g.D.Door.sight (read-step c.args.link c.args.device c.args.name.now)
-    now.acts c.args.link now.messages Goes now.door c.next.new.self.door c.get.new.self c.get.result now.faults c.next.new.self.faults
+    now.acts c.args.link now.messages Goes now.door c.next.new.self.door c.get.new.self c.get.result now.faults c.next.new.self.faults now.asks c.next.new.self.asks
     c.next.ensures.door (sym c.next.ensures.fate ∙ c.in-Goes.is) c.next.ensures.faults c.next.ensures.later c.next.ensures.risen
     c.get.ensures.read
 
@@ -17,14 +16,14 @@ pub returns-in-LosesReply-clause-read : goal.returns-in-LosesReply-clause-read
 returns-in-LosesReply-clause-read g c =
     let now = c.args.self.now in
     becomes g.D.Door.sight (read-step c.args.link c.args.device c.args.name.now)
-    now.acts c.args.link now.messages LosesReply now.door c.next.new.self.door c.get-in-LosesReply.new.self (Err (record {})) now.faults c.next.new.self.faults
+    now.acts c.args.link now.messages LosesReply now.door c.next.new.self.door c.get-in-LosesReply.new.self (Err (record {})) now.faults c.next.new.self.faults now.asks c.next.new.self.asks
     c.next.ensures.door (sym c.next.ensures.fate ∙ c.in-LosesReply.is) c.next.ensures.faults c.next.ensures.later c.next.ensures.risen
     ((c.get-in-LosesReply.result, c.get-in-LosesReply.ensures.read), refl)
 
 pub get-requires-in-ComesTwice-2-clause-device : goal.get-requires-in-ComesTwice-2-clause-device
 get-requires-in-ComesTwice-2-clause-device g c =
     let s = g.D.Door.sight in
-    rw (nodes-after (IsAt c.args.device c.args.name.now.hash) (read-step c.args.link c.args.device c.args.name.now)
+    rw (nodes-after (read-step c.args.link c.args.device c.args.name.now) (λ a b p. p.nodes)
     (s c.args.self.now.door) (s c.next.new.self.door) (s c.get-in-ComesTwice.new.self) c.args.link c.get-in-ComesTwice.result (ap s c.next.ensures.door)
     c.get-in-ComesTwice.ensures.read)
     c.requires.device
@@ -32,7 +31,7 @@ get-requires-in-ComesTwice-2-clause-device g c =
 pub get-requires-in-ComesTwice-2-clause-fits : goal.get-requires-in-ComesTwice-2-clause-fits
 get-requires-in-ComesTwice-2-clause-fits g c =
     let s = g.D.Door.sight in
-    rw (nodes-after (IsAt c.args.device c.args.name.now.hash) (read-step c.args.link c.args.device c.args.name.now)
+    rw (nodes-after (read-step c.args.link c.args.device c.args.name.now) (λ a b p. p.nodes)
     (s c.args.self.now.door) (s c.next.new.self.door) (s c.get-in-ComesTwice.new.self) c.args.link c.get-in-ComesTwice.result (ap s c.next.ensures.door)
     c.get-in-ComesTwice.ensures.read)
     c.requires.fits
@@ -41,12 +40,9 @@ pub returns-in-ComesTwice-clause-read : goal.returns-in-ComesTwice-clause-read
 returns-in-ComesTwice-clause-read g c =
     let now = c.args.self.now in
     becomes g.D.Door.sight (read-step c.args.link c.args.device c.args.name.now)
-    now.acts c.args.link now.messages ComesTwice now.door c.next.new.self.door c.get-in-ComesTwice-2.new.self c.get-in-ComesTwice-2.result now.faults c.next.new.self.faults
+    now.acts c.args.link now.messages ComesTwice now.door c.next.new.self.door c.get-in-ComesTwice-2.new.self c.get-in-ComesTwice-2.result now.faults c.next.new.self.faults now.asks c.next.new.self.asks
     c.next.ensures.door (sym c.next.ensures.fate ∙ c.in-ComesTwice.is) c.next.ensures.faults c.next.ensures.later c.next.ensures.risen (
       c.get-in-ComesTwice.new.self,
-      (
-        c.get-in-ComesTwice.result,
-        c.get-in-ComesTwice.ensures.read,
-      ),
+      (c.get-in-ComesTwice.result, c.get-in-ComesTwice.ensures.read),
       c.get-in-ComesTwice-2.ensures.read,
     )
