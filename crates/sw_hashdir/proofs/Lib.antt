@@ -1,7 +1,12 @@
+pub mod Digits
+pub mod Folders
+pub mod Hashes
+pub mod Lines
 pub mod OneReading
 pub mod Order
 pub mod Putting
 pub mod Sound
 pub mod Standing
+pub mod Stored
 pub mod Telling
 pub mod Walking

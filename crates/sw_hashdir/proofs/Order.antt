@@ -1,15 +1,16 @@
 -- The test of order, and each hash's directory: what the test says.
-use Rattle.std.proofs.Common.{◌≡◌, ◌≢◌, ℕ, ◌≤◌, ◌-◌, ◌+◌, ◌/◌, ◌%◌, decimal, ◌⊎◌, inl, inr, refl, sym, ◌∙◌, ap, subst, zero, suc, Bool, true, false, ◌&&◌}
-use Rattle.std.proofs.Common.{nat_le, List, [], ◌∷◌, ◌++◌, map, take, drop, length, length-append, Option, None, Some, IsSome, arith, if◌then◌else◌, codes}
-use Rattle.std.proofs.lemmas.Bool.{and_parts, and_from, cases_Bool, cond-true, cond-false, leb-true, le-leb}
-use Rattle.std.proofs.lemmas.List.{drop-append-le, drop_at, take_at, length-drop, take-append-drop}
+use Rattle.std.proofs.Common.{◌≡◌, ℕ, ◌≤◌, ◌-◌, decimal, refl, ◌∙◌, ap, subst, zero, suc, Bool, true}
+use Rattle.std.proofs.Common.{nat_le, List, [], ◌∷◌, ◌++◌, map, take, drop, length, length-append, Option, None, Some, arith, codes}
+use Rattle.std.proofs.lemmas.Bool.{and_parts, and_from, cond-true, leb-true}
+use Rattle.std.proofs.lemmas.List.{drop_at}
 use Rattle.std.proofs.lemmas.Map.Views.{Contains-keys_from_lookup}
 use Rattle.std.proofs.lemmas.Slice.Eq.{bytes_eq-Decides}
 use Rattle.std.specs.List.{Contains, list_all}
 use Rattle.std.specs.Option.{unwrap_or}
 use Rattle.std.specs.Str.{bytes_eq}
 use Rattle.hex.specs.Hex.{encode_lower}
-use Rattle.sw_cleanup.specs.Directories.{IsInOrder, ReadsAs, name_of}
+use Rattle.sw_cleanup.specs.Directories.{IsInOrder, ReadsAs}
+use Rattle.sw_diskfile.specs.StateFiles.{name_of}
 use Rattle.sw_diskfile.specs.FileNames.{name_text, named}
 use Rattle.sw_diskfile.proofs.Naming.{named_again}
 use Rattle.sw_diskfile.specs.declared.file_name.FileName.{FileName}

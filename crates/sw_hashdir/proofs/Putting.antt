@@ -1,15 +1,16 @@
 -- A file that is put, and what is unlinked after it: the directory stands for one write more, and all others for what they did.
-use Rattle.std.proofs.Common.{◌≡◌, ◌≢◌, ℕ, ◌≤◌, ◌⊎◌, inl, inr, refl, sym, ◌∙◌, ap, subst, zero, suc, Bool, true, false, List, [], ◌∷◌, ◌++◌, map, filter}
-use Rattle.std.proofs.Common.{Option, None, Some, IsSome, ◌↔◌, arith}
+use Rattle.std.proofs.Common.{◌≡◌, ◌≢◌, ℕ, ◌≤◌, inl, inr, refl, sym, ◌∙◌, ap, subst, zero, suc, true, false, List, [], ◌∷◌, ◌++◌, filter}
+use Rattle.std.proofs.Common.{Option, None, Some, IsSome, arith}
 use Rattle.std.proofs.lemmas.Bool.{cases_Bool, cond-true}
 use Rattle.std.proofs.lemmas.List.Elements.{Contains-append_cases, Contains-append_left, Contains-append_right}
 use Rattle.std.proofs.lemmas.Slice.Eq.{bytes_eq-Decides}
 use Rattle.std.specs.List.{Contains}
 use Rattle.std.specs.Str.{bytes_eq}
-use Rattle.sw_cleanup.specs.Cleaning.{IsNameOf, KeepsState, Unlinks}
-use Rattle.sw_cleanup.specs.Directories.{AreNamesIn, IsInOrder, IsWriteIn, StandsFor, StandsIn, name_of}
+use Rattle.sw_cleanup.specs.Cleaning.{Unlinks}
+use Rattle.sw_cleanup.specs.Directories.{AreNamesIn, IsInOrder, IsWriteIn, StandsFor, StandsIn}
+use Rattle.sw_diskfile.specs.StateFiles.{name_of}
 use Rattle.sw_cleanup.specs.Obsolete.{is_obsolete}
-use Rattle.sw_cleanup.proofs.Directory.{agree, is_some, some_part}
+use Rattle.sw_cleanup.proofs.Directory.{agree, is_some}
 use Rattle.sw_cleanup.proofs.Joining.{put_joins}
 use Rattle.sw_cleanup.proofs.Keeping.{unlinking_keeps}
 use Rattle.sw_diskfile.specs.FileNames.{name_text}
@@ -19,7 +20,7 @@ use Rattle.sw_hashpath.specs.Paths.{hash_of}
 use Rattle.sw_hashpath.specs.declared.name.Name.{Name}
 use Rattle.sw_hashpath.specs.declared.secrets.Secrets.{Secrets}
 use Rattle.sw_metafile.specs.Files.{IsFile, file_of}
-use Rattle.sw_metafile.specs.Texts.{file_text, text_of_file}
+use Rattle.sw_metafile.specs.Texts.{file_text}
 use Rattle.sw_metafile.proofs.Decoding.{decoded_text}
 use Rattle.sw_state.specs.States.{is_new, joined, state_of}
 use Rattle.sw_state.specs.Writes.{tag_of}
@@ -34,20 +35,19 @@ use Rattle.sw_volume.specs.Tree.{Folders, contents}
 use Rattle.sw_volume.specs.Volume.{Contents, IsSame, MaySet, Sets}
 use Rattle.sw_peer.specs.Journals.{Hash}
 use Rattle.sw_hashdir.specs.Places.{AllInOrder, dir_text, holds, is_place, write_in, write_with}
-use Rattle.sw_cleanup.specs.Directories.{picked_of}
+use Rattle.sw_diskfile.specs.StateFiles.{picked_of}
 use Rattle.sw_cleanup.proofs.Directory.{picks_state}
 use Rattle.sw_diskfile.specs.Picking.{IsPicked}
 use Rattle.sw_diskfile.specs.declared.picking.Picked.{Picked}
 use Rattle.sw_peer.specs.Outlines.{mark_of, outline_of}
-use Rattle.sw_peer.specs.declared.outline.Outline.{Outline}
-use Rattle.sw_peer.specs.declared.outline.Mark.{Mark}
 use Rattle.std.specs.Option.{option_map}
 use Rattle.sw_state.specs.Metas.{Meta}
 use Rattle.sw_state.specs.declared.base.Base.{Base}
 use Rattle.sw_state.specs.Bases.{base_tag, base_time}
 use Rattle.sw_state.specs.declared.base.Base.TheVariants as bases
-use Rattle.sw_hashdir.specs.Steps.{IsOutlineIn, file_mark, picked_outline}
-use Rattle.sw_hashdir.specs.Steps.{IsNewIn, IsOurs, Joins, JoinsAll, Keeps, MayJoin, Writes}
+use Rattle.sw_hashdir.specs.Steps.{IsOutlineIn}
+use Rattle.sw_peer.specs.Outlines.{file_mark, picked_outline}
+use Rattle.sw_hashdir.specs.Steps.{Joins, JoinsAll, Keeps, MayJoin, Writes}
 use Rattle.sw_hashpath.specs.BadNames.{bad_name}
 use Rattle.sw_hashdir.proofs.Standing.{all_still, holds_is, holds_stands, others_stand}
 
@@ -55,17 +55,17 @@ only-one : (x y : FileName) → Contains (x ∷ []) y → y ≡ x
 only-one x y (zero, inside, at) = sym at
 only-one x y (suc k, inside, at) = absurd (omega arith)
 
--- a write that is there already is not new
-there-not-new : (decode : List ℕ → Option Write) (holds : Contents) (dir : List ℕ) (s : State) (v : Write) → IsInOrder decode holds dir
+-- a write that is there already changes nothing
+pub there-joins : (decode : List ℕ → Option Write) (holds : Contents) (dir : List ℕ) (s : State) (v : Write) → IsInOrder decode holds dir
     → StandsFor decode holds dir s → IsWriteIn decode holds dir v
-    → is_new s v.time (tag_of v.kind) ≡ false
-there-not-new decode holds dir s v order stands there =
+    → joined s v ≡ s
+there-joins decode holds dir s v order stands there =
     let inside : Contains stands.writes v = (stands.are_all v).1 there in
     let same : state_of (stands.writes ++ v ∷ []) ≡ state_of stands.writes =
     state_of_set (stands.writes ++ v ∷ []) stands.writes (agree decode holds dir order (stands.writes ++ v ∷ [])
     (λ w is. (stands.are_all w).0 (back w inside is)))
     (λ w. (λ is. back w inside is, λ is. Contains-append_left stands.writes (v ∷ []) w is)) in
-    (new_changes s v).1 (ap (λ (t : State). joined t v) stands.is_state ∙ (joins_one_more stands.writes v ∙ (same ∙ sym stands.is_state)))
+    ap (λ (t : State). joined t v) stands.is_state ∙ (joins_one_more stands.writes v ∙ (same ∙ sym stands.is_state))
   where
     last : (w : Write) → Contains (v ∷ []) w → w ≡ v
     last w (zero, inside, at) = sym at
@@ -76,6 +76,12 @@ there-not-new decode holds dir s v order stands there =
       | inl early ↦ early
       | inr late ↦ subst (λ (x : Write). Contains stands.writes x) (sym (last w late)) inside
     ]
+
+-- and is not new
+there-not-new : (decode : List ℕ → Option Write) (holds : Contents) (dir : List ℕ) (s : State) (v : Write) → IsInOrder decode holds dir
+    → StandsFor decode holds dir s → IsWriteIn decode holds dir v
+    → is_new s v.time (tag_of v.kind) ≡ false
+there-not-new decode holds dir s v order stands there = (new_changes s v).1 (there-joins decode holds dir s v order stands there)
 
 -- so no file of a new write's name stands
 absent-new : (decode : List ℕ → Option Write) (holds : Contents) (dir : List ℕ) (s : State) (w : Write) → w.time ≤ GREATEST → IsInOrder decode holds dir

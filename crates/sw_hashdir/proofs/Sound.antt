@@ -7,7 +7,8 @@ use Rattle.std.proofs.lemmas.Slice.Eq.{bytes_eq-Decides}
 use Rattle.std.specs.List.{Contains}
 use Rattle.std.specs.Option.{option_and_then, option_map, unwrap_or}
 use Rattle.std.specs.Str.{bytes_eq}
-use Rattle.sw_cleanup.specs.Directories.{IsInOrder, StandsFor, StandsIn, name_of, picked_of}
+use Rattle.sw_cleanup.specs.Directories.{IsInOrder, StandsFor, StandsIn}
+use Rattle.sw_diskfile.specs.StateFiles.{name_of, picked_of}
 use Rattle.sw_cleanup.specs.Obsolete.{IsPickedFile, is_put}
 use Rattle.sw_cleanup.proofs.Directory.{own_name, picks_state}
 use Rattle.sw_diskfile.specs.FileNames.{name_text}
@@ -96,19 +97,19 @@ picked-among names picked file is (inr e) = greatest-among names (is_later_meta 
 abbrev named_by : ℕ → Kind → FileName
 named_by t k = record { time = t; tag = tag_of k }
 
-abbrev base_file : Base → FileName
+abbrev pub base_file : Base → FileName
 base_file b = record { time = base_time b; tag = base_tag b }
 
-abbrev meta_file : Meta → FileName
+abbrev pub meta_file : Meta → FileName
 meta_file m = record { time = m.0; tag = tags.Meta }
 
 -- a base and a meta have the name of the write that they are
-base-name : (t : ℕ) (k : Kind) (b : Base) → base_at t k ≡ Some b → named_by t k ≡ base_file b
+pub base-name : (t : ℕ) (k : Kind) (b : Base) → base_at t k ≡ Some b → named_by t k ≡ base_file b
 base-name t (kinds.Put content) b is = let same : bases.Put t content ≡ b = cc in rw (← same) refl
 base-name t kinds.Del b is = let same : bases.Del t ≡ b = cc in rw (← same) refl
 base-name t (kinds.Meta heads) b is = cc
 
-meta-name : (t : ℕ) (k : Kind) (m : Meta) → meta_at t k ≡ Some m → named_by t k ≡ meta_file m
+pub meta-name : (t : ℕ) (k : Kind) (m : Meta) → meta_at t k ≡ Some m → named_by t k ≡ meta_file m
 meta-name t (kinds.Put content) m is = cc
 meta-name t kinds.Del m is = cc
 meta-name t (kinds.Meta heads) m is = let same : (t, heads) ≡ m = cc in rw (← same) refl
@@ -135,7 +136,7 @@ data-picked : (o : Option FileName) (file : FileName) → data_of o ≡ Some fil
 data-picked None file e = cc
 data-picked (Some f) file e = (data-put f file e).0
 
-meta-base : (m : Option Meta) (file : FileName) → option_map meta_file m ≡ Some file → (x : Meta) × (m ≡ Some x) × (file ≡ meta_file x)
+pub meta-base : (m : Option Meta) (file : FileName) → option_map meta_file m ≡ Some file → (x : Meta) × (m ≡ Some x) × (file ≡ meta_file x)
 meta-base None file e = cc
 meta-base (Some x) file e = (x, refl, (let same : file ≡ meta_file x = cc in same))
 

@@ -1,6 +1,6 @@
 -- What a directory in order stands for is what its relation says, and it stays where its files stay.
-use Rattle.std.proofs.Common.{◌≡◌, ◌≢◌, ℕ, ◌≤◌, ◌⊎◌, inl, inr, refl, sym, ◌∙◌, ap, subst, zero, suc, Bool, true, false, ◌&&◌, nat_le, List, [], ◌∷◌, map}
-use Rattle.std.proofs.Common.{Option, None, Some, IsSome, ◌↔◌, arith, if◌then◌else◌}
+use Rattle.std.proofs.Common.{◌≡◌, ◌≢◌, ℕ, ◌≤◌, ◌⊎◌, inl, inr, refl, sym, ◌∙◌, ap, subst, zero, suc, true, nat_le, List, [], ◌∷◌, map}
+use Rattle.std.proofs.Common.{Option, None, Some, ◌↔◌, arith}
 use Rattle.std.proofs.lemmas.Bool.{and_parts, and_from, cases_Bool, cond-true, cond-false, leb-true, le-leb}
 use Rattle.std.proofs.lemmas.Option.{cond_some}
 use Rattle.std.proofs.lemmas.Map.Views.{Contains-keys_from_lookup}
@@ -8,8 +8,8 @@ use Rattle.std.proofs.lemmas.Slice.Eq.{bytes_eq-Decides}
 use Rattle.std.specs.List.{Contains, cons_option, filter_map}
 use Rattle.std.specs.Option.{unwrap_or}
 use Rattle.std.specs.Str.{bytes_eq}
-use Rattle.sw_cleanup.specs.Directories.{IsInOrder, IsWriteIn, StandsFor, name_of}
-use Rattle.sw_cleanup.specs.Cleaning.{StandsForSame}
+use Rattle.sw_cleanup.specs.Directories.{IsInOrder, IsWriteIn, StandsFor}
+use Rattle.sw_diskfile.specs.StateFiles.{name_of}
 use Rattle.sw_cleanup.proofs.Directory.{own_name, stands_for_one}
 use Rattle.sw_diskfile.specs.FileNames.{is_name_of, name_text}
 use Rattle.sw_diskfile.specs.declared.file_name.FileName.{FileName}

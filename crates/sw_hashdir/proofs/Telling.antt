@@ -1,10 +1,11 @@
 -- What is in order passes the test.
-use Rattle.std.proofs.Common.{◌≡◌, ◌≤◌, ℕ, ◌-◌, drop, length, Bool, true, false, List, [], ◌∷◌, map, refl, sym, ◌∙◌, ap, subst, Option, Some, None}
+use Rattle.std.proofs.Common.{◌≡◌, ◌≤◌, ℕ, ◌-◌, drop, length, true, List, refl, sym, ◌∙◌, ap, subst, Option, Some, None}
 use Rattle.std.proofs.lemmas.Bool.{and_from, le-leb}
 use Rattle.std.proofs.lemmas.Option.{cond_some}
 use Rattle.std.proofs.lemmas.Slice.Eq.{bytes_eq-Decides}
 use Rattle.std.specs.Str.{bytes_eq}
-use Rattle.sw_cleanup.specs.Directories.{IsInOrder, name_of}
+use Rattle.sw_cleanup.specs.Directories.{IsInOrder}
+use Rattle.sw_diskfile.specs.StateFiles.{name_of}
 use Rattle.sw_diskfile.proofs.Naming.{named_takes}
 use Rattle.sw_diskfile.specs.FileNames.{name_text, named}
 use Rattle.sw_diskfile.specs.declared.file_name.FileName.{FileName}
@@ -14,7 +15,7 @@ use Rattle.sw_state.specs.declared.write.Write.{Write}
 use Rattle.sw_timestamp.specs.declared.timestamp.TheConstants.{GREATEST}
 use Rattle.sw_volume.specs.Tree.{Files, Folders, contents}
 use Rattle.sw_peer.specs.Journals.{Hash}
-use Rattle.sw_hashdir.specs.Places.{AllInOrder, dir_text, file_names, hash_in, in_order, is_dir_right, is_place, is_read_as, is_right, is_right_at, is_that}
+use Rattle.sw_hashdir.specs.Places.{AllInOrder, dir_text, file_names, hash_in, in_order, is_place, is_read_as, is_right, is_right_at, is_that}
 use Rattle.sw_hashdir.specs.Places.{placed_at, write_in}
 use Rattle.sw_hashdir.proofs.Order.{each-all}
 

@@ -21,13 +21,13 @@ use Rattle.sw_hashdir.specs.Walks.{Adds, IsNamedIn, IsPathBelow, IsPathWithin, I
 -- ---- lists
 
 module _ {X : Type 0} where
-  at_front : (x : X) (xs : List X) → Contains (x ∷ xs) x
+  pub at_front : (x : X) (xs : List X) → Contains (x ∷ xs) x
   at_front x xs = (0, omega arith, refl)
 
-  behind : (x : X) (xs : List X) (y : X) → Contains xs y → Contains (x ∷ xs) y
+  pub behind : (x : X) (xs : List X) (y : X) → Contains xs y → Contains (x ∷ xs) y
   behind x xs y is = Contains-append_right (x ∷ []) xs y is
 
-  front_or_behind : (x : X) (xs : List X) (y : X) → Contains (x ∷ xs) y → (x ≡ y) ⊎ Contains xs y
+  pub front_or_behind : (x : X) (xs : List X) (y : X) → Contains (x ∷ xs) y → (x ≡ y) ⊎ Contains xs y
   front_or_behind x xs y (zero, inside, here) = inl here
   front_or_behind x xs y (suc k, inside, here) = inr (k, omega arith, here)
 
@@ -131,7 +131,7 @@ none_named dir path is = none_of is.0 is.1
 
 -- ---- folders
 
-segment_whole : (name rest : List ℕ) → IsSegment name → first_segment rest ≡ [] → first_segment (name ++ rest) ≡ name
+pub segment_whole : (name rest : List ℕ) → IsSegment name → first_segment rest ≡ [] → first_segment (name ++ rest) ≡ name
 segment_whole [] rest is end = end
 segment_whole (b ∷ bs) rest is end = by (b == 47) is (segment_whole bs rest)
   where

@@ -1,6 +1,6 @@
 -- What is promised of the definitions on reading. (This project's own.)
 use Rattle.std.specs.Prelude.{◌≡◌, ℕ, ◌↔◌, List, Some, ◌⊎◌}
-use Rattle.sw_cleanup.specs.Directories.{name_of}
+use Rattle.sw_diskfile.specs.StateFiles.{name_of}
 use Rattle.sw_diskfile.specs.declared.file_name.FileName.{FileName}
 use Rattle.sw_hashpath.specs.declared.decode_error.BadFile.{BadFile}
 use Rattle.sw_hashpath.specs.declared.secrets.Secrets.{Secrets}

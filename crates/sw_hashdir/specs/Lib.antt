@@ -1,4 +1,5 @@
 pub mod Laws
+pub mod Partitions
 pub mod Places
 pub mod Readings
 pub mod Steps

@@ -2,7 +2,7 @@
 use Rattle.std.specs.Prelude.{◌≡◌, ℕ, ◌-◌, Bool, true, false, ◌&&◌, nat_le, List, [], ◌∷◌, ◌++◌, length, map, take, drop, codes, decimal, Option, None, Some}
 use Rattle.std.specs.Prelude.{Result, Ok, Err, if◌then◌else◌}
 use Rattle.std.specs.List.{filter_map, list_all}
-use Rattle.std.specs.Option.{option_map_or, unwrap_or}
+use Rattle.std.specs.Option.{unwrap_or}
 use Rattle.std.specs.Str.{bytes_eq}
 use Rattle.hex.specs.Hex.{encode_lower}
 use Rattle.sw_hashpath.specs.HashParts.{partition_of}
@@ -18,7 +18,8 @@ use Rattle.sw_diskfile.specs.declared.file_name.FileName.{FileName}
 use Rattle.sw_metafile.specs.Decoding.{decoded}
 use Rattle.sw_metafile.specs.Reading.{digest_of}
 use Rattle.sw_metafile.specs.declared.file_body.FileBody.{FileBody}
-use Rattle.sw_cleanup.specs.Directories.{IsInOrder, name_of}
+use Rattle.sw_cleanup.specs.Directories.{IsInOrder}
+use Rattle.sw_diskfile.specs.StateFiles.{name_of}
 use Rattle.sw_peer.specs.Journals.{Hash}
 
 -- ---- directories

@@ -2,7 +2,8 @@
 -- Which faults there are, and that a file of another write in its place is one, is this project's own.)
 use Rattle.std.specs.Prelude.{◌≡◌, ◌≢◌, ℕ, ⊤, true, List, Option, Some, None, Result, Ok, Err, ◌⊎◌, if◌then◌else◌}
 use Rattle.std.specs.Option.{option_and_then, option_map, unwrap_or}
-use Rattle.sw_cleanup.specs.Directories.{AreNamesIn, name_of}
+use Rattle.sw_cleanup.specs.Directories.{AreNamesIn}
+use Rattle.sw_diskfile.specs.StateFiles.{name_of}
 use Rattle.sw_cleanup.specs.Obsolete.{is_put}
 use Rattle.sw_diskfile.specs.FileNames.{name_text}
 use Rattle.sw_diskfile.specs.Picking.{IsPicked}

@@ -1,16 +1,13 @@
 -- What calls of a volume make of what all hashes stand for.
-use Rattle.std.specs.Prelude.{◌≡◌, ◌≢◌, ℕ, true, List, [], ◌∷◌, ◌++◌, Some, None, ◌⊎◌, if◌then◌else◌}
-use Rattle.std.specs.Option.{option_map}
+use Rattle.std.specs.Prelude.{◌≡◌, ◌≢◌, ℕ, Bool, true, ◌&&◌, is_none, List, [], ◌∷◌, ◌++◌, Some, None, ◌⊎◌}
+use Rattle.std.specs.Str.{bytes_eq}
 use Rattle.sw_diskfile.specs.FileNames.{name_text}
-use Rattle.sw_diskfile.specs.Picking.{is_del}
 use Rattle.sw_metafile.specs.Texts.{file_text}
-use Rattle.sw_diskfile.specs.declared.picking.Picked.{Picked}
 use Rattle.sw_peer.specs.Outlines.{outline_of}
-use Rattle.sw_peer.specs.declared.outline.Mark.{Mark}
-use Rattle.sw_peer.specs.declared.outline.Mark.TheVariants.{Object, Tombstone}
 use Rattle.sw_peer.specs.declared.outline.Outline.{Outline}
 use Rattle.sw_cleanup.specs.Cleaning.{Unlinks, obsolete_of}
-use Rattle.sw_cleanup.specs.Directories.{AreNamesIn, name_of}
+use Rattle.sw_cleanup.specs.Directories.{AreNamesIn}
+use Rattle.sw_diskfile.specs.StateFiles.{name_of}
 use Rattle.sw_diskfile.specs.declared.file_name.FileName.{FileName}
 use Rattle.sw_hashpath.specs.BadNames.{bad_name}
 use Rattle.sw_hashpath.specs.Paths.{hash_of}
@@ -41,6 +38,12 @@ pub record IsHashed (secrets : Secrets) (name : Name) : Type 0 where
   pub hashed : hash_of secrets name.account (Some name.container) (Some name.object) ≡ name.hash
   pub good : bad_name name.account (Some name.container) (Some name.object) ≡ None
 
+-- whether that is so
+abbrev pub is_hashed : Secrets → Name → Bool
+is_hashed secrets name =
+    bytes_eq (hash_of secrets name.account (Some name.container) (Some name.object)) name.hash
+    && is_none (bad_name name.account (Some name.container) (Some name.object))
+
 -- and its hash has a directory
 pub record IsOurs (secrets : Secrets) (power : ℕ) (name : Name) : Type 0 where
   pub place : is_place power name.hash ≡ true
@@ -68,13 +71,6 @@ pub record Writes (old new : Folders) (dir : List ℕ) (names : List FileName) (
   pub between : Folders
   pub puts : Sets (contents old) (contents between) dir (name_text (name_of w)) (Some (file_text name.account name.container name.object w))
   pub unlinks : Unlinks (contents between) (contents new) dir (obsolete_of (names ++ name_of w ∷ [])) before now
-
-abbrev pub file_mark : FileName → Mark
-file_mark file = if is_del file.tag then Tombstone file.time else Object file.time
-
--- what picked files tell of a state
-abbrev pub picked_outline : Picked → Outline
-picked_outline p = record { base = option_map file_mark p.base; meta = option_map (λ f. f.time) p.meta }
 
 -- under whatever secrets: the outline is that of what the directory's hash stands for
 abbrev pub IsOutlineIn : Folders → List ℕ → Outline → Type 0

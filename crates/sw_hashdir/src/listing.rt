@@ -1,16 +1,17 @@
-ghost use Rattle.std.specs.Prelude.{◌≡◌, ℕ, true, Some, None, IfOk};
+ghost use Rattle.std.specs.Prelude.{◌≡◌, ◌≤◌, ℕ, true, IfOk};
+ghost use Rattle.std.specs.List.{All};
 ghost use Rattle.sw_cleanup.specs.Cleaning.{AreListedIn};
 ghost use Rattle.sw_diskfile.specs.Picking.{IsPicked};
 ghost use Rattle.sw_outside.specs.Counts.{raised};
 ghost use Rattle.sw_volume.specs.Tree.{contents};
 ghost use Rattle.sw_volume.specs.Volume.{HasCause, IsSame};
-ghost use Rattle.sw_hashdir.specs.Steps.{IsOutlineIn, picked_outline};
+ghost use Rattle.sw_hashdir.specs.Steps.{IsOutlineIn};
+ghost use Rattle.sw_peer.specs.Outlines.{picked_outline};
 
 use std::alloc::Global;
 use sw_cleanup::names_of_writes;
 use sw_diskfile::{FileName, Picked, pick};
-use sw_peer::{Mark, Outline};
-use sw_timestamp::Tag;
+use sw_peer::Outline;
 use sw_volume::{Volume, VolumeError};
 
 /// What a listing tells of a hash: the files of writes in byte order of their names, those that make the object, and its outline.
@@ -24,6 +25,7 @@ pub struct Seen {
 /// Lists a directory: the only call of the volume. Files that aren't named as a write's are passed over.
 pub fn look<V: Volume>(alloc: Global, volume: &mut V, dir: &[u8]) -> Result<Seen, VolumeError>
     ensures names { IfOk result (λ seen. V.tells volume.old ≡ true → AreListedIn (contents (V.holds volume.old)) dir.now seen.names.items) }
+    ensures times { IfOk result (λ seen. All (λ file. file.time ≤ 999999999999999) seen.names.items) }
     ensures picked { IfOk result (λ seen. IsPicked seen.names.items seen.picked) }
     ensures shape { IfOk result (λ seen. seen.outline ≡ picked_outline seen.picked) }
     ensures outline { IfOk result (λ seen. V.tells volume.old ≡ true → IsOutlineIn (V.holds volume.old) dir.now seen.outline) }
@@ -36,36 +38,10 @@ pub fn look<V: Volume>(alloc: Global, volume: &mut V, dir: &[u8]) -> Result<Seen
     let listing = volume.list(alloc, dir)?;
     let names = names_of_writes(alloc, listing.files.as_slice())?;
     let picked = pick(&names);
-    let outline = outline_in(&picked);
+    let outline = Outline::of_files(&picked);
     Ok(Seen {
         names,
         picked,
         outline,
     })
-}
-
-/// The outline that picked files tell.
-fn outline_in(picked: &Picked) -> Outline
-    ensures { result ≡ picked_outline picked.now }
-{
-    Outline {
-        base: match &picked.base {
-            Some(file) => Some(mark_of(file)),
-            None => None,
-        },
-        meta: match &picked.meta {
-            Some(file) => Some(file.time),
-            None => None,
-        },
-    }
-}
-
-fn mark_of(file: &FileName) -> Mark
-    ensures { picked_outline (record { base = Some file.now; meta = None }) ≡ record { base = Some result; meta = None } }
-{
-    if file.tag == Tag::Del {
-        Mark::Tombstone(file.time)
-    } else {
-        Mark::Object(file.time)
-    }
 }

@@ -1,9 +1,9 @@
 ghost use Rattle.std.specs.Prelude.{◌≡◌, ◌≤◌, true, IfOk, OnOk};
 ghost use Rattle.sw_hashdir.specs.Places.{dir_text, is_place};
 
-use itoa::Buffer;
+use crate::folder::suffix_dir;
 use std::alloc::Global;
-use sw_hashpath::{hex_text, partition};
+use sw_hashpath::{hex_text, partition, suffix};
 use sw_outside::NoMemory;
 
 /// The directory of a hash in a ring of this part power: `objects/<partition>/<last three digits>/<digits>`.
@@ -13,14 +13,8 @@ pub fn dir_of(alloc: Global, hash: &[u8; 16], power: u8) -> Result<Vec<u8>, NoMe
     ensures text { IfOk result (λ dir. dir.items ≡ dir_text power hash.now) }
     ensures place { OnOk result (is_place power hash.now ≡ true) }
 {
-    let hex = hex_text(hash);
-    let mut buffer = Buffer::new();
-    let number = buffer.format(partition(hash, power));
-    let mut dir = Vec::from_slice(alloc, b"objects/")?;
-    dir.extend_from_slice(number.as_bytes())?;
+    let mut dir = suffix_dir(alloc, partition(hash, power), suffix(hash))?;
     dir.push(b'/')?;
-    dir.extend_from_slice(&hex[29..])?;
-    dir.push(b'/')?;
-    dir.extend_from_slice(&hex)?;
+    dir.extend_from_slice(&hex_text(hash))?;
     Ok(dir)
 }

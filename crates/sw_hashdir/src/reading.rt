@@ -1,5 +1,5 @@
 ghost use Rattle.std.specs.Prelude.{◌≡◌, ◌↔◌, ℕ, ◌≤◌, List, true, IsTrue, None, Some, IfOk, IfSome, IsSome, OnErr};
-ghost use Rattle.sw_cleanup.specs.Directories.{name_of};
+ghost use Rattle.sw_diskfile.specs.StateFiles.{name_of};
 ghost use Rattle.sw_diskfile.specs.FileNames.{name_text};
 ghost use Rattle.sw_hashpath.specs.BadNames.{bad_name};
 ghost use Rattle.sw_hashpath.specs.Paths.{hash_of};
@@ -7,13 +7,16 @@ ghost use Rattle.sw_outside.specs.Counts.{raised};
 ghost use Rattle.sw_volume.specs.Tree.{contents};
 ghost use Rattle.sw_volume.specs.Volume.{HasCause, IsSame};
 ghost use Rattle.sw_hashdir.specs.Readings.{IfBad, IfDamaged, IsDamage, IsDamaged, IsDamagedAt, IsFileOf, IsFound, IsFoundAt};
+ghost use Rattle.sw_hashdir.specs.Steps.{IsHashed};
+ghost use Rattle.std.specs.Option.{option_map};
 ghost use Rattle.sw_hashdir.specs.Readings.{OnFailedRead, UnlessFailedRead, data_of, fault_of_decoding, fault_of_volume, raised_where};
 
 use std::alloc::Global;
 use sw_diskfile::{FileName, NAME_ROOM, Picked, write_name};
-use sw_hashpath::{Secrets, hash_path};
+use sw_hashpath::{Name, Secrets, hash_path};
 use sw_metafile::{BadFile, DecodeError, FileBody, decode};
 use sw_outside::Bytes;
+use sw_peer::Stored;
 use sw_state::Write;
 use sw_timestamp::Tag;
 use sw_volume::{Volume, VolumeError};
@@ -79,9 +82,37 @@ pub fn read_write<V: Volume>(
     ensures calls { V.calls volume.new ≡ raised (V.calls volume.old) }
     ensures lists { V.lists volume.new ≡ V.lists volume.old }
 {
+    let stored = read_stored(alloc, volume, secrets, hash, dir, file)?;
+    Ok(stored.map(|stored| stored.write))
+}
+
+/// The same, with the name that the file says.
+pub fn read_stored<V: Volume>(
+    alloc: Global,
+    volume: &mut V,
+    secrets: &Secrets,
+    hash: &[u8; 16],
+    dir: &[u8],
+    file: &FileName,
+) -> Result<Option<Stored>, ReadFault>
+    ensures found { IfOk result (λ found. V.tells volume.old ≡ true
+        → IsFound secrets.now hash.now file.now (contents (V.holds volume.old) dir.now (name_text file.now)) (option_map (λ s. s.write) found)) }
+    ensures damaged { IfDamaged result (λ bad. V.tells volume.old ≡ true
+        → IsDamaged secrets.now hash.now file.now (contents (V.holds volume.old) dir.now (name_text file.now)) bad) }
+    ensures named { IfOk result (λ found. IfSome found (λ s. name_of s.write ≡ file.now)) }
+    ensures timed { IfOk result (λ found. IfSome found (λ s. s.write.time ≤ 999999999999999)) }
+    ensures hashed { IfOk result (λ found. IfSome found (λ s. (s.name.hash ≡ hash.now) × IsHashed secrets.now s.name)) }
+    ensures same { V.tells volume.old ≡ true → IsSame (contents (V.holds volume.old)) (contents (V.holds volume.new)) }
+    ensures told { V.tells volume.new ≡ V.tells volume.old }
+    ensures failed { OnFailedRead result (V.faults volume.new ≡ raised (V.faults volume.old)) }
+    ensures kept { UnlessFailedRead result (V.faults volume.new ≡ V.faults volume.old) }
+    ensures later { V.faults volume.old ≤ V.faults volume.new }
+    ensures calls { V.calls volume.new ≡ raised (V.calls volume.old) }
+    ensures lists { V.lists volume.new ≡ V.lists volume.old }
+{
     match read_file(alloc, volume, dir, file) {
-        Ok(Some(bytes)) => match write_of(alloc, secrets, hash, file, bytes.as_slice()) {
-            Ok(write) => Ok(Some(write)),
+        Ok(Some(bytes)) => match stored_in(alloc, secrets, hash, file, bytes.as_slice()) {
+            Ok(stored) => Ok(Some(stored)),
             Err(error) => Err(ReadFault::from(error)),
         },
         Ok(None) => Ok(None),
@@ -146,20 +177,30 @@ fn read_file<V: Volume>(
     volume.read(alloc, dir, &room[..count])
 }
 
-/// The write that these bytes of the file are.
-fn write_of(
+/// The write that these bytes of the file are, and its name.
+fn stored_in(
     alloc: Global,
     secrets: &Secrets,
     hash: &[u8; 16],
     file: &FileName,
     bytes: &[u8],
-) -> Result<Write, DecodeError>
-    ensures found { IfOk result (λ write. IsFileOf secrets.now hash.now file.now bytes.now write) }
+) -> Result<Stored, DecodeError>
+    ensures found { IfOk result (λ stored. IsFileOf secrets.now hash.now file.now bytes.now stored.write) }
+    ensures timed { IfOk result (λ stored. stored.write.time ≤ 999999999999999) }
+    ensures hashed { IfOk result (λ stored. (stored.name.hash ≡ hash.now) × IsHashed secrets.now stored.name) }
     ensures damaged { IfBad result (λ bad. IsDamage secrets.now hash.now file.now bytes.now bad) }
 {
     let body = decode(alloc, bytes)?;
     if is_of_hash(secrets, hash, &body) && is_of_write(file, &body.write) {
-        Ok(body.write)
+        Ok(Stored {
+            name: Name {
+                account: body.account,
+                container: body.container,
+                object: body.object,
+                hash: *hash,
+            },
+            write: body.write,
+        })
     } else {
         Err(DecodeError::Bad(BadFile::Field))
     }

@@ -1,6 +1,6 @@
 ghost use Rattle.std.specs.Prelude.{◌≡◌, ℕ, ◌≤◌, true, None, Some, ◌⊎◌, IfOk, IfSome, max};
 ghost use Rattle.std.specs.Option.{option_map};
-ghost use Rattle.sw_cleanup.specs.Directories.{name_of};
+ghost use Rattle.sw_diskfile.specs.StateFiles.{name_of};
 ghost use Rattle.sw_outside.specs.Counts.{raised};
 ghost use Rattle.sw_peer.specs.Steps.{got_beside};
 ghost use Rattle.sw_peer.specs.declared.got.Got.TheVariants as gots;

@@ -1,6 +1,6 @@
 ghost use Rattle.std.specs.Prelude.{◌≡◌, ℕ, ◌≤◌, ◌++◌, ◌∷◌, [], true, filter, length, Some, None, IfOk, OnOk, ◌⊎◌};
 ghost use Rattle.sw_cleanup.specs.Cleaning.{obsolete_of};
-ghost use Rattle.sw_cleanup.specs.Directories.{name_of};
+ghost use Rattle.sw_diskfile.specs.StateFiles.{name_of};
 ghost use Rattle.sw_cleanup.specs.Obsolete.{is_obsolete};
 ghost use Rattle.sw_diskfile.specs.FileNames.{name_text};
 ghost use Rattle.sw_metafile.specs.Texts.{file_text};

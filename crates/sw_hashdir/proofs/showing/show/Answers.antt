@@ -1,6 +1,6 @@
 use Rattle.std.proofs.Common.{◌≡◌, true, Option, None, Some, Result, Ok, Err, ◌⊎◌, inl, inr, subst, sym, ◌∙◌}
 use Rattle.std.specs.Option.{IfSome}
-use Rattle.sw_cleanup.specs.Directories.{name_of}
+use Rattle.sw_diskfile.specs.StateFiles.{name_of}
 use Rattle.sw_hashpath.specs.declared.decode_error.BadFile.{BadFile}
 use Rattle.sw_peer.specs.declared.got.Got.TheVariants as gots
 use Rattle.sw_hashdir.specs.Readings.{CallsReading, IfDamaged, IsDamagedOf, IsGotIn, IsWholeAt, OnShown, got_read}

@@ -1,6 +1,6 @@
-use Rattle.std.proofs.Common.{rules, ◌≡◌, ℕ, ◌++◌, ◌∷◌, [], true, List, Option, Some, None, Result, Ok, Err, refl, sym, ap, subst, ◌∙◌, filter}
+use Rattle.std.proofs.Common.{◌≡◌, ℕ, ◌++◌, ◌∷◌, [], List, Some, Result, Err, refl, ap, subst, ◌∙◌, filter}
 use Rattle.sw_cleanup.specs.Cleaning.{Unlinks, obsolete_of}
-use Rattle.sw_cleanup.specs.Directories.{name_of}
+use Rattle.sw_diskfile.specs.StateFiles.{name_of}
 use Rattle.sw_cleanup.specs.Obsolete.{is_obsolete}
 use Rattle.sw_diskfile.specs.FileNames.{name_text}
 use Rattle.sw_diskfile.specs.declared.file_name.FileName.{FileName}
@@ -11,7 +11,6 @@ use Rattle.sw_volume.specs.Volume.{MaySet, OnFailed, Sets}
 use Rattle.sw_hashdir.proofs.Putting.{put-may-join, writes-join}
 use Rattle.sw_volume.specs.declared.errors.VolumeError.{VolumeError}
 use Rattle.sw_volume.specs.declared.errors.VolumeError.TheVariants.{Failed, NoMemory}
-use Rattle.sw_hashdir.specs.Steps.{MayJoin, Writes}
 use Rattle.sw_hashdir.proofs.writing.write_file.Goals as goal
 
 pub returns-in-Ok-clause-ok : goal.returns-in-Ok-clause-ok
