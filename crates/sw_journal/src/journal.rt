@@ -106,6 +106,13 @@ impl Journal {
         self.doubts.iter().find(|entry| is_of(entry, hash))
     }
 
+    /// All doubts, in the order in which they came.
+    pub fn doubts(&self) -> &[ObjEntry]
+        ensures { result.now ≡ self.now.doubts }
+    {
+        &self.doubts
+    }
+
     /// The last doubt's write was made: it becomes the last entry. It takes no memory.
     pub fn confirm(&mut self)
         requires { (doubts : List ObjEntry) × (entry : ObjEntry) × (self.old.doubts ≡ doubts ++ entry ∷ []) }

@@ -4,14 +4,16 @@ use Rattle.std.proofs.Common.{Some, None, IsSome, ◌⊎◌, inl, inr, nat_le, �
 use Rattle.std.proofs.lemmas.Bool.{cases_Bool, cond-true, cond-false, leb-true, leb-false}
 use Rattle.std.proofs.Math.Nat.{min-eq_left, min-eq_right}
 use Rattle.sw_cleanup.specs.Cleaning.{AreListedIn, obsolete_of}
-use Rattle.sw_cleanup.specs.Directories.{StandsIn, name_of}
+use Rattle.sw_cleanup.specs.Directories.{StandsIn}
+use Rattle.sw_diskfile.specs.StateFiles.{name_of}
 use Rattle.sw_diskfile.specs.FileNames.{name_text}
 use Rattle.sw_diskfile.specs.Picking.{IsPicked}
 use Rattle.sw_diskfile.specs.declared.file_name.FileName.{FileName}
 use Rattle.sw_diskfile.specs.declared.picking.Picked.{Picked}
 use Rattle.sw_hashdir.specs.Places.{dir_text}
 use Rattle.sw_hashdir.specs.Readings.{IsSecondRead, expiry_file}
-use Rattle.sw_hashdir.specs.Steps.{Writes, picked_outline}
+use Rattle.sw_hashdir.specs.Steps.{Writes}
+use Rattle.sw_peer.specs.Outlines.{picked_outline}
 use Rattle.sw_hashpath.specs.declared.name.Name.{Name}
 use Rattle.sw_metafile.specs.Texts.{file_text}
 use Rattle.sw_journal.specs.Settling.{SettlesFirst}

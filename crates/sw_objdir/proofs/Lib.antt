@@ -6,3 +6,7 @@ pub mod Told
 pub mod Listing
 pub mod Making
 pub mod Reading
+pub mod Doubts
+pub mod OneFile
+pub mod PartReads
+pub mod FileReads

@@ -1,5 +1,5 @@
 -- A step that only looks at files and settles doubts changes nothing that a hash stands for.
-use Rattle.std.proofs.Common.{◌≡◌, ℕ, ◌≤◌, Bool, true, false, List, [], ◌++◌, refl, sym, ◌∙◌, ap, subst, arith, append_assoc, length, inl, inr}
+use Rattle.std.proofs.Common.{◌≡◌, ℕ, ◌≤◌, Bool, true, false, List, [], ◌++◌, refl, sym, ◌∙◌, ap, subst, arith, append_assoc, length, inl, inr, Result, Err}
 use Rattle.std.proofs.lemmas.Bool.{and_parts, cases_Bool, cond-true, cond-false}
 use Rattle.sw_hashdir.proofs.Standing.{order_moved, state_moved}
 use Rattle.sw_hashdir.specs.Places.{AllInOrder, dir_text, holds, in_order, is_place, state_in, write_in}
@@ -7,7 +7,7 @@ use Rattle.sw_hashpath.specs.declared.name.Name.{Name}
 use Rattle.sw_hashpath.specs.declared.secrets.Secrets.{Secrets}
 use Rattle.sw_objdir.proofs.Journaling.{settles-both}
 use Rattle.sw_objdir.specs.Directories.{Fits, IsDir, Kept, held, history_of, is_told}
-use Rattle.sw_objdir.specs.Stepping.{IsReadStep, IsSameDir, IsStep, OnlyLooks, SameFiles}
+use Rattle.sw_objdir.specs.Stepping.{IsPartStep, IsReadStep, IsSameDir, IsStep, OnlyLooks, SameFiles}
 use Rattle.sw_outside.specs.Faults.{HasRisen}
 use Rattle.sw_peer.proofs.Calls.{grows-refl, grows-trans, settles-none}
 use Rattle.sw_peer.specs.Histories.{Grows, is_shown, stands}
@@ -15,6 +15,9 @@ use Rattle.sw_peer.specs.Journals.{Answers, Hash, Shows, has_settled, left_by, w
 use Rattle.sw_peer.specs.declared.answer.Answer.{Answer}
 use Rattle.sw_peer.specs.declared.answer.Answer.TheVariants as answers
 use Rattle.sw_peer.specs.declared.change.Change.{Change}
+use Rattle.sw_peer.specs.Parts.{ShowsPart, is_given}
+use Rattle.sw_peer.specs.declared.dir_fault.DirFault.{DirFault}
+use Rattle.sw_peer.specs.declared.dir_fault.DirFault.TheVariants as faulted
 use Rattle.sw_peer.specs.declared.entry.ObjEntry.{ObjEntry}
 use Rattle.sw_peer.specs.declared.got.Got.{Got}
 use Rattle.sw_peer.specs.declared.got.Got.TheVariants as gots
@@ -117,19 +120,22 @@ module _ {V : Type 0} (tells : V → Bool) (files : V → Folders) (faults : V �
     later = let x = one.later in let y = two.later in omega (arith, x, y);
   }
 
+  looks-grows : (k n : Kept V) → OnlyLooks tells files faults k n → Grows (history_of tells files faults k) (history_of tells files faults n)
+  looks-grows k n looks = record {
+    told = told-same k n looks.same;
+    opening = λ hash. rw (looks.same.began, looks.same.secrets, looks.same.power) refl;
+    entries = (looks.settles.0, looks.settles.1.entered);
+    max_entries = looks.settles.1.max_entries;
+    max_bytes = looks.settles.1.max_bytes;
+    faults = looks.later;
+  }
+
   module _ (k n : Kept V) (dir : IsDir tells files faults k) (looks : OnlyLooks tells files faults k n) where
+    grows : Grows (history_of tells files faults k) (history_of tells files faults n)
+    grows = looks-grows k n looks
+
     all-held : (hash : Hash) → held tells files faults n hash ≡ held tells files faults k hash
     all-held = held-same k n dir looks.same looks.still
-
-    grows : Grows (history_of tells files faults k) (history_of tells files faults n)
-    grows = record {
-      told = told-same k n looks.same;
-      opening = λ hash. rw (looks.same.began, looks.same.secrets, looks.same.power) refl;
-      entries = (looks.settles.0, looks.settles.1.entered);
-      max_entries = looks.settles.1.max_entries;
-      max_bytes = looks.settles.1.max_bytes;
-      faults = looks.later;
-    }
 
     -- the step gave up before what stands was compared
     pub step-unsettled : (name : Name) (change : Change) (answer : Answer) → has_settled answer false ≡ false
@@ -202,3 +208,27 @@ module _ {V : Type 0} (tells : V → Bool) (files : V → Folders) (faults : V �
         adds = λ alone. looks.settles.1.entered;
       };
     }
+
+  -- a read of a partition
+  pub part-reads : (k n : Kept V) → OnlyLooks tells files faults k n → IsDir tells files faults n
+      → {A : Type 0} (at : Hash → Type 0) (damages : Bool) (reading : Bool → (Hash → State) → A → Type 0) (got : Result A DirFault)
+      → (is_given got ≡ true → (hash : Hash) → at hash → written hash n.journal.doubts ≡ [])
+      → ShowsPart (is_told tells files faults n) damages (stands (history_of tells files faults n)) reading got
+      → (got ≡ Err faulted.Failed → HasRisen (faults k.volume) (faults n.volume)) → IsPartStep tells files faults k at damages reading got n
+  part-reads k n looks after at damages reading got settled shown cause = record {
+    same = looks.same;
+    all = λ hash. sym (held-same n k after
+        (record { began = sym looks.same.began; secrets = sym looks.same.secrets; power = sym looks.same.power; told = sym looks.same.told })
+        (λ told d f. sym (looks.still (sym looks.same.told ∙ told) d f)) hash);
+    read = record {
+      follows = looks-grows k n looks;
+      settles = λ alone. looks.settles;
+      settled = settled;
+      shown = shown;
+      failed = cause;
+      held = λ alone told is hash of. sym (subst (λ (l : List _). Fits l (held tells files faults n hash) (stands (history_of tells files faults n) hash))
+          (settled is hash of) (after.kept.fits told hash));
+      added = looks.settles.0;
+      adds = λ alone. looks.settles.1.entered;
+    };
+  }

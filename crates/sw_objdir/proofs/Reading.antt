@@ -12,7 +12,8 @@ use Rattle.sw_hashdir.specs.Places.{dir_text}
 use Rattle.sw_hashdir.specs.Readings.{CallsFor, CallsWith, CountsFault, HasFront, IfDamaged, IfShownDamaged, IsDamageShown, IsDamaged, IsDamagedAt}
 use Rattle.sw_hashdir.specs.Readings.{IsExpiryIn, IsFound, IsFoundAt, IsGotIn, IsSecondRead, IsShown, IsShownBeside, IsShownWith}
 use Rattle.sw_hashdir.specs.Readings.{IsOutOfOrder, IsPickedIn, OnShown, data_of, expiry_file, raised_where}
-use Rattle.sw_hashdir.specs.Steps.{IsOurs, picked_outline}
+use Rattle.sw_hashdir.specs.Steps.{IsOurs}
+use Rattle.sw_peer.specs.Outlines.{picked_outline}
 use Rattle.sw_hashdir.specs.declared.reading.ReadFault.{ReadFault}
 use Rattle.sw_hashdir.specs.declared.reading.ReadFault.TheVariants as faulted
 use Rattle.sw_hashpath.specs.declared.decode_error.BadFile.{BadFile}

@@ -3,14 +3,15 @@
 -- OpenStack Swift's object server.)
 use Rattle.std.specs.Prelude.{◌≡◌, ℕ, suc, ◌≤◌, Bool, true, List, [], ◌∷◌, ◌++◌, length, Option, Some, None, ◌⊎◌, if◌then◌else◌}
 use Rattle.sw_cleanup.specs.Cleaning.{AreListedIn, obsolete_of}
-use Rattle.sw_cleanup.specs.Directories.{name_of}
+use Rattle.sw_diskfile.specs.StateFiles.{name_of}
 use Rattle.sw_diskfile.specs.FileNames.{name_text}
 use Rattle.sw_diskfile.specs.Picking.{IsPicked}
 use Rattle.sw_diskfile.specs.declared.file_name.FileName.{FileName}
 use Rattle.sw_diskfile.specs.declared.picking.Picked.{Picked}
 use Rattle.sw_hashdir.specs.Places.{dir_text}
 use Rattle.sw_hashdir.specs.Readings.{IsDamageShown, IsDamagedAt, IsSecondRead, IsShown, data_of, expiry_file}
-use Rattle.sw_hashdir.specs.Steps.{Writes, picked_outline}
+use Rattle.sw_hashdir.specs.Steps.{Writes}
+use Rattle.sw_peer.specs.Outlines.{picked_outline}
 use Rattle.sw_hashpath.specs.declared.decode_error.BadFile.{BadFile}
 use Rattle.sw_hashpath.specs.declared.name.Name.{Name}
 use Rattle.sw_journal.specs.Settling.{SettlesFirst}

@@ -1,3 +1,4 @@
 pub mod Directories
 pub mod Stepping
 pub mod Calling
+pub mod Comparing

@@ -1,14 +1,24 @@
 -- What a step of an object directory is: one of its lock, by the relations that every door of object nodes uses. (This project's own.)
-use Rattle.std.specs.Prelude.{◌≡◌, ◌≢◌, ℕ, ◌≤◌, Bool, true}
+use Rattle.std.specs.Prelude.{◌≡◌, ◌≢◌, ℕ, ◌≤◌, Bool, true, List, ◌++◌, map, Result}
 use Rattle.sw_hashpath.specs.declared.name.Name.{Name}
 use Rattle.sw_objdir.specs.Directories.{Kept, held, history_of}
+use Rattle.sw_peer.specs.Briefs.{brief_of}
 use Rattle.sw_peer.specs.Histories.{OnlySettles, StepChanges, StepReads}
 use Rattle.sw_peer.specs.Journals.{Hash}
+use Rattle.sw_peer.specs.Parts.{StepReadsPart}
 use Rattle.sw_peer.specs.declared.answer.Answer.{Answer}
 use Rattle.sw_peer.specs.declared.change.Change.{Change}
+use Rattle.sw_peer.specs.declared.dir_fault.DirFault.{DirFault}
+use Rattle.sw_peer.specs.declared.entry.Brief.{Brief}
+use Rattle.sw_peer.specs.declared.entry.ObjEntry.{ObjEntry}
 use Rattle.sw_peer.specs.declared.got.Got.{Got}
+use Rattle.sw_state.specs.declared.state.State.{State}
 use Rattle.sw_volume.specs.Tree.{Folders, contents}
 use Rattle.sw_volume.specs.Volume.{IsSame}
+
+-- what a trail shows of the entries that were added
+abbrev pub AddsBriefs : List ObjEntry → List ObjEntry → List Brief → List Brief → Type 0
+AddsBriefs old new before after = (added : List ObjEntry) → new ≡ old ++ added → after ≡ before ++ map brief_of added
 
 module _ {V : Type 0} (tells : V → Bool) (files : V → Folders) (faults : V → ℕ) where
   -- at every path stands what stood there
@@ -41,3 +51,11 @@ module _ {V : Type 0} (tells : V → Bool) (files : V → Folders) (faults : V �
     pub same : IsSameDir k n
     pub all : (hash : Hash) → held tells files faults n hash ≡ held tells files faults k hash
     pub read : StepReads true (history_of tells files faults k) name.hash got (history_of tells files faults n) (held tells files faults n name.hash)
+
+  -- a read of a partition; every hash stands for what it stood for
+  pub record IsPartStep {A : Type 0} (k : Kept V) (at : Hash → Type 0) (damages : Bool) (reading : Bool → (Hash → State) → A → Type 0)
+      (got : Result A DirFault) (n : Kept V) : Type 0 where
+    pub same : IsSameDir k n
+    pub all : (hash : Hash) → held tells files faults n hash ≡ held tells files faults k hash
+    pub read : StepReadsPart true (history_of tells files faults k) at damages reading got (history_of tells files faults n)
+        (held tells files faults n)

@@ -1,8 +1,9 @@
 ghost use Rattle.std.specs.Prelude.{◌≡◌, ℕ, ◌≤◌, true, false, [], Some, None, IfOk, OnOk, OnErr};
 ghost use Rattle.sw_cleanup.specs.Cleaning.{AreListedIn};
 ghost use Rattle.sw_diskfile.specs.Picking.{IsPicked};
-ghost use Rattle.sw_hashdir.specs.Places.{dir_text};
-ghost use Rattle.sw_hashdir.specs.Steps.{IsHashed, IsOurs, picked_outline};
+ghost use Rattle.sw_hashdir.specs.Places.{dir_text, is_place};
+ghost use Rattle.sw_hashdir.specs.Steps.{IsHashed, IsOurs};
+ghost use Rattle.sw_peer.specs.Outlines.{picked_outline};
 ghost use Rattle.sw_hashdir.specs.Readings.{IfDamaged, IsDamagedAt, IsSecondRead, OnFailedRead, UnlessFailedRead, expiry_file};
 ghost use Rattle.sw_journal.specs.Settling.{SettlesFirst};
 ghost use Rattle.sw_objdir.specs.Calling.{Called, reads_of};
@@ -44,7 +45,7 @@ impl<V: Volume + Drop> ObjDir<V> {
         let Ok(dir) = dir_of(alloc, &name.hash, self.power) else {
             return Answer::NoMemory;
         };
-        let seen = match self.list(alloc, name, &dir) {
+        let seen = match self.list(alloc, &name.hash, &dir) {
             Ok(seen) => seen,
             Err(VolumeError::Failed) => return Answer::Failed,
             Err(VolumeError::NoMemory) => return Answer::NoMemory,
@@ -64,31 +65,31 @@ impl<V: Volume + Drop> ObjDir<V> {
         self.write(alloc, name, &dir, &seen, change)
     }
 
-    /// Lists the name's directory, and settles the name's doubt by it.
+    /// Lists the directory of a hash, and settles its doubt by it.
     pub(crate) fn list(
         &mut self,
         alloc: Global,
-        name: &Name,
+        hash: &[u8; 16],
         dir: &[u8],
     ) -> Result<Seen, VolumeError>
-        requires ours { IsOurs self.old.secrets self.old.power name.now }
-        requires dir { dir.now ≡ dir_text self.old.power name.now.hash }
+        requires place { is_place self.old.power hash.now ≡ true }
+        requires dir { dir.now ≡ dir_text self.old.power hash.now }
         ensures dir { IsDir V.tells V.holds V.faults self.new }
         ensures looks { OnlyLooks V.tells V.holds V.faults self.old self.new }
-        ensures settled { OnOk result (written name.now.hash self.new.journal.doubts ≡ []) }
-        ensures settles { IfOk result (λ seen. SettlesFirst name.now.hash seen.outline self.old.journal self.new.journal) }
+        ensures settled { OnOk result (written hash.now self.new.journal.doubts ≡ []) }
+        ensures settles { IfOk result (λ seen. SettlesFirst hash.now seen.outline self.old.journal self.new.journal) }
         ensures unsettled { OnErr result (self.new.journal ≡ self.old.journal) }
         ensures names { IfOk result (λ seen. V.tells self.old.volume ≡ true → AreListedIn (contents (V.holds self.old.volume)) dir.now seen.names.items) }
         ensures picked { IfOk result (λ seen. IsPicked seen.names.items seen.picked) }
         ensures shape { IfOk result (λ seen. seen.outline ≡ picked_outline seen.picked) }
         ensures outline { IfOk result (λ seen. is_told V.tells V.holds V.faults self.old ≡ true → seen.outline
-            ≡ outline_of (held V.tells V.holds V.faults self.old name.now.hash)) }
+            ≡ outline_of (held V.tells V.holds V.faults self.old hash.now)) }
         ensures cause { HasCause (V.faults self.old.volume) (V.faults self.new.volume) result }
         ensures calls { V.calls self.new.volume ≡ raised (V.calls self.old.volume) }
         ensures lists { V.lists self.new.volume ≡ raised (V.lists self.old.volume) }
     {
         let seen = look(alloc, &mut self.volume, dir)?;
-        self.journal.settle(&name.hash, &seen.outline);
+        self.journal.settle(hash, &seen.outline);
         Ok(seen)
     }
 

@@ -29,7 +29,7 @@ impl<V: Volume + Drop> ObjDir<V> {
         let Ok(dir) = dir_of(alloc, &name.hash, self.power) else {
             return Got::NoMemory;
         };
-        match self.list(alloc, name, &dir) {
+        match self.list(alloc, &name.hash, &dir) {
             Ok(seen) => show(
                 alloc,
                 &mut self.volume,

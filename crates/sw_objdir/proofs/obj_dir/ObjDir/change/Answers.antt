@@ -2,7 +2,7 @@ use Rattle.std.proofs.Common.{◌≡◌, ℕ, length, true, false, List, [], ref
 use Rattle.sw_cleanup.specs.Cleaning.{AreListedIn}
 use Rattle.sw_hashdir.specs.Places.{dir_text}
 use Rattle.sw_hashdir.specs.Readings.{IsSecondRead, expiry_file}
-use Rattle.sw_hashdir.specs.Steps.{picked_outline}
+use Rattle.sw_peer.specs.Outlines.{picked_outline}
 use Rattle.sw_journal.specs.Settling.{SettlesFirst}
 use Rattle.sw_objdir.proofs.Deciding.{called-refused, called-written, dir-still, listed-still, looked-so, outline-still, refusal-never, refused-answers}
 use Rattle.sw_objdir.proofs.Deciding.{refused-of, risen-after, room-as, second-still, stands-held, step-refused}

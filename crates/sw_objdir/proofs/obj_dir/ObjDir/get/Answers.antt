@@ -1,6 +1,7 @@
 use Rattle.std.proofs.Common.{◌≡◌, ℕ, List, true, [], subst, sym, refl, ap, ◌∙◌, arith, inl, inr}
 use Rattle.sw_cleanup.specs.Cleaning.{AreListedIn}
-use Rattle.sw_hashdir.specs.Steps.{IsOurs, picked_outline}
+use Rattle.sw_hashdir.specs.Steps.{IsOurs}
+use Rattle.sw_peer.specs.Outlines.{picked_outline}
 use Rattle.sw_hashdir.specs.Places.{dir_text, is_place}
 use Rattle.sw_journal.specs.Settling.{SettlesFirst}
 use Rattle.sw_objdir.proofs.Looking.{dir-moved}

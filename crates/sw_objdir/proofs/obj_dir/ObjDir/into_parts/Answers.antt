@@ -1,6 +1,6 @@
 use Rattle.std.proofs.Common.{sym}
 use Rattle.sw_objdir.specs.Directories.{Kept}
-use Rattle.sw_objdir.proofs.Told.{given-back, reopens}
+use Rattle.sw_objdir.proofs.Told.{reopens}
 use Rattle.sw_objdir.proofs.obj_dir.ObjDir.into_parts.Goals as goal
 
 pub returns-clause-told : goal.returns-clause-told

@@ -1,6 +1,6 @@
 use Rattle.std.proofs.Common.{◌≡◌, ◌+◌, ℕ, true, List, [], ◌∷◌, ◌++◌, refl, sym, ◌∙◌, ap, subst, None, Some, ◌⊎◌, length, inl, inr}
 use Rattle.sw_cleanup.specs.Cleaning.{AreListedIn, obsolete_of}
-use Rattle.sw_cleanup.specs.Directories.{name_of}
+use Rattle.sw_diskfile.specs.StateFiles.{name_of}
 use Rattle.sw_diskfile.specs.FileNames.{name_text}
 use Rattle.sw_metafile.specs.Texts.{file_text}
 use Rattle.sw_outside.specs.Counts.{raised}

@@ -1,0 +1,65 @@
+use Rattle.std.proofs.Common.{◌≡◌, ℕ, arith, false, [], Err, Result, Vec, Global, sym, ◌∙◌, ap, subst}
+use Rattle.std.specs.Bool.{⊤}
+use Rattle.std.proofs.lemmas.Bool.Decides.{nat_tests}
+use Rattle.sw_objdir.proofs.Doubts.{looked-both}
+use Rattle.sw_objdir.proofs.Looking.{dir-moved}
+use Rattle.sw_objdir.proofs.PartReads.{cause-as, hashes-stand, if-ok, moved-told, part-told, told_as}
+use Rattle.sw_objdir.specs.Comparing.{IsSettled, Looks}
+use Rattle.sw_objdir.specs.Directories.{Kept, history_of, is_told}
+use Rattle.sw_objdir.specs.Stepping.{OnlyLooks}
+use Rattle.sw_objdir.specs.declared.comparing.Scope.TheVariants as scopes
+use Rattle.sw_peer.specs.Histories.{stands}
+use Rattle.sw_peer.specs.Journals.{Hash, written}
+use Rattle.sw_peer.specs.Parts.{AreHashes, IsOfPart}
+use Rattle.sw_peer.specs.declared.dir_fault.DirFault.{DirFault}
+use Rattle.sw_suffix.specs.declared.told.SuffixHash.{SuffixHash}
+use Rattle.sw_volume.specs.declared.errors.VolumeError.{VolumeError}
+use Rattle.sw_objdir.proofs.obj_dir.ObjDir.hashes.Goals.{in-Ok, in-Err-hashes_of}
+use Rattle.sw_objdir.proofs.obj_dir.ObjDir.hashes.Goals as goal
+
+pub invariant_of-self : goal.invariant_of-self
+invariant_of-self g c =
+    let v = g.V.Volume in let i = c.self.inside in
+    let m : Kept _ = record { volume = i.volume; began = i.opening.value; secrets = i.secrets; power = i.power; journal = i.journal } in
+    dir-moved v.tells v.holds v.faults m c.hashes_of.new.volume c.self.invariant c.hashes_of.ensures.told c.hashes_of.ensures.same
+
+pub returns-in-Err-clause-read : goal.returns-in-Err-clause-read
+returns-in-Err-clause-read g c =
+    let v = g.V.Volume in let k = c.args.self.now in let e = c.in-Err.error in
+    let r : Result (Vec SuffixHash Global) VolumeError = Err e in
+    part-told v.tells v.holds v.faults k c.settle_all.new.self c.settle_all.ensures.looks c.settle_all.ensures.dir
+    (λ hash. IsOfPart k.power c.args.part hash × ⊤) false (λ told s got. AreHashes k.power c.args.part told s got.items)
+    r (Err c.fault_of_volume.result) (ap (λ (x : DirFault). let y : Result (Vec SuffixHash Global) DirFault = Err x in y) c.fault_of_volume.ensures)
+    (cause-as e c.in-Err.ensures.cause) tt tt
+
+pub returns-clause-read : goal.returns-clause-read
+returns-clause-read g c =
+    let v = g.V.Volume in let i = c.self.inside in let k = c.args.self.now in
+    let m : Kept _ = record { volume = i.volume; began = i.opening.value; secrets = i.secrets; power = i.power; journal = i.journal } in
+    let looks : OnlyLooks v.tells v.holds v.faults k m =
+    subst (λ (x : Kept _). OnlyLooks v.tells v.holds v.faults k x) (sym c.self.view_is) c.settle_all.ensures.looks in
+    let settled : IsSettled m.power (scopes.Part c.args.part) m.journal.doubts =
+    subst (λ (x : Kept _). IsSettled x.power (scopes.Part c.args.part) x.journal.doubts) (sym c.self.view_is) c.in_default.ensures.settled in
+    let none : (hash : Hash) → IsOfPart m.power c.args.part hash → written hash m.journal.doubts ≡ [] =
+    λ hash of. settled hash (let e = of.part_is in grind (arith, nat_tests)) in
+    let is : c.match-hashes_of.result ≡ told_as c.hashes_of.result = elim c.match-hashes_of.branch [
+      | in-Ok w ↦ w.result-is ∙ ap told_as (sym w.in-Ok.is)
+      | in-Err-hashes_of w ↦ w.result-is ∙ (ap Err w.fault_of_volume-in-Err-hashes_of.ensures ∙ ap told_as (sym w.in-Err-hashes_of.is))
+    ] in
+    moved-told v.tells v.holds v.faults k m looks c.self.invariant
+    (ap (λ (x : Kept _). v.faults x.volume) c.self.view_is ∙ c.in_default.ensures.cause.kept)
+    c.hashes_of.new.volume c.hashes_of.ensures.told c.hashes_of.ensures.same c.hashes_of.result c.hashes_of.ensures.cause
+    (λ hash. IsOfPart k.power c.args.part hash × ⊤) false (λ told s got. AreHashes k.power c.args.part told s got.items) c.match-hashes_of.result is
+    (λ hash of. none hash (subst (λ (p : ℕ). IsOfPart p c.args.part hash) (sym looks.same.power) of.0))
+    (if-ok c.hashes_of.result _ _
+    (λ hashes of. subst (λ (p : ℕ). AreHashes p c.args.part (is_told v.tells v.holds v.faults m) (stands (history_of v.tells v.holds v.faults m)) hashes.items)
+    looks.same.power (hashes-stand v.tells v.holds v.faults m c.self.invariant c.args.part hashes.items none (of m.secrets))) c.hashes_of.ensures.hashes)
+
+pub returns-clause-only_lists : goal.returns-clause-only_lists
+returns-clause-only_lists g c =
+    let v = g.V.Volume in let i = c.self.inside in let k = c.args.self.now in
+    let m : Kept _ = record { volume = i.volume; began = i.opening.value; secrets = i.secrets; power = i.power; journal = i.journal } in
+    let lists : (x : ℕ) × Looks v.calls v.lists x 0 k m =
+    subst (λ (y : Kept _). (x : ℕ) × Looks v.calls v.lists x 0 k y) (sym c.self.view_is) c.settle_all.ensures.only_lists in
+    let more = c.hashes_of.ensures.only_lists in
+    looked-both v.calls v.lists k m (record m { volume = c.hashes_of.new.volume }) lists (more.0, record { called = more.1; listings = more.2 })
