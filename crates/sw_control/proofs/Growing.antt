@@ -1,7 +1,7 @@
 -- How text lines grow.
 use Rattle.std.proofs.Common.{◌≡◌, ℕ, ◌+◌, ◌<◌, List, [], ◌∷◌, ◌++◌, length, map, sym, ap, ◌∙◌, append_assoc, append-nil, length-append, arith, slice_index_or, get_or, take}
 use Rattle.std.proofs.lemmas.Grind.{flat_map-append}
-use Rattle.std.proofs.lemmas.List.{take_more}
+use Rattle.std.proofs.lemmas.List.{map_more, take_more}
 use Rattle.std.specs.List.{flat_map}
 use Rattle.sw_peer.specs.Briefs.{brief_of}
 use Rattle.sw_peer.specs.Lines.{settled_in}
@@ -27,9 +27,10 @@ added_both a b c xs ys first second = record {
       let regrouped = append_assoc a.text.items (numbered a.count xs) (numbered (a.count + length xs) ys) in
       cc;
   count = omega (arith, length-append xs ys);
+  few = second.few;
 }
 
--- a line adds what is said of its settled doubt, and of its own write
+-- a line adds what is said of its settled doubts, and of its own write
 pub line_added : (a b c : TextLines) (devices : List (List ℕ)) (kept line : Line) (device : List ℕ) (briefs : List Brief)
     → line ≡ kept → device ≡ slice_index_or devices line.device [] → briefs ≡ map brief_of (settled_in kept)
     → Adds a (map (settled_told device) briefs) b → Adds b (own_told device line.event) c → Adds a (line_told devices kept) c
@@ -46,6 +47,14 @@ added_to a b told texts text count added =
     let so_many : a.count ≡ 0 + length told = omega arith in
     let of_count = ap (λ n. numbered 0 told ++ numbered n texts) so_many in
     (added.text ∙ (of_told ∙ (of_count ∙ sym (numbered-append 0 told texts))), omega (arith, length-append told texts))
+
+-- the briefs before the index were added, and then the one at it
+pub briefs_added : (a b c : TextLines) (device : List ℕ) (briefs : List Brief) (i : ℕ) (brief : Brief) → i < length briefs → brief ≡ get_or briefs i brief
+    → Adds a (map (settled_told device) (take i briefs)) b → Adds b (settled_told device brief ∷ []) c → Adds a (map (settled_told device) (take (i + 1) briefs)) c
+briefs_added a b c device briefs i brief within is first second =
+    let more = map_more (settled_told device) briefs i brief within in
+    let here = ap (λ (x : Brief). settled_told device x) is in
+    rw (more, ← here) (added_both a b c (map (settled_told device) (take i briefs)) (settled_told device brief ∷ []) first second)
 
 flat_map-more : {X A : Type 0} (f : X → List A) (xs : List X) (i : ℕ) (d : X) → i < length xs
     → flat_map f (take (i + 1) xs) ≡ flat_map f (take i xs) ++ f (get_or xs i d)

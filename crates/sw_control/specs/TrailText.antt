@@ -41,7 +41,7 @@ write_word tags.Put = codes "put"
 write_word tags.Meta = codes "post"
 write_word tags.Del = codes "delete"
 
--- what is said of the doubt that a step settled
+-- what is said of a doubt that a step settled
 abbrev pub settled_told : List ℕ → Brief → List ℕ
 settled_told device brief = write_told (write_word brief.tag) device brief.name brief.time
 
@@ -50,10 +50,11 @@ abbrev pub own_told : List ℕ → Event → List (List ℕ)
 own_told device (events.Changed name change answer) =
     if is_entered answer then write_told (step_word (step_kind change)) device name (time_in change) ∷ [] else []
 own_told device (events.Read name got) = []
+own_told device (events.ReadPart read) = []
 own_told device (events.Listed failed) = []
 own_told device events.Restarted = told (codes "restart") device (codes "/") (codes "-") ∷ []
 
--- what is said of a step at this device: of the doubt that it settled, where it settled one, and then of its own write
+-- what is said of a step at this device: of each doubt that it settled, and then of its own write
 abbrev pub step_told : List ℕ → Line → List (List ℕ)
 step_told device line = map (settled_told device) (map brief_of (settled_in line)) ++ own_told device line.event
 

@@ -1,5 +1,4 @@
-ghost use Rattle.std.specs.Prelude.{◌≡◌, ◌+◌, ◌^◌, ◌≤◌, ◌<◌, ◌∷◌, ◌++◌, [], codes, map, option_to_list, IfOk, OnOk, slice_index_or};
-ghost use Rattle.std.specs.Option.{option_copied};
+ghost use Rattle.std.specs.Prelude.{◌≡◌, ◌≤◌, ◌∷◌, ◌++◌, [], codes, length, map, IfOk, OnOk, slice_index_or};
 ghost use Rattle.sw_peer.specs.Steps.{is_entered as is_entered_by};
 ghost use Rattle.sw_control.specs.Growth.{Adds};
 ghost use Rattle.sw_control.specs.TrailText.{line_told, own_told, path_of, settled_told, step_word, told, trail_text as trail_text_of, write_told, write_word};
@@ -43,9 +42,8 @@ impl TextLines {
         devices: &BytesList,
         kept: &KeptLine,
     ) -> Result<(), NoMemory>
-        requires { self.old.count + 2 < 2 ^ 64 }
-        ensures added { OnOk result (Adds self.old (line_told devices.now kept.now) self.new) }
-        ensures few { OnOk result (self.new.count ≤ self.old.count + 2) }
+        requires { self.old.count ≤ length self.old.text.items }
+        ensures { OnOk result (Adds self.old (line_told devices.now kept.now) self.new) }
     {
         let line = kept.line();
         let device = device_name(devices, line.device);
@@ -54,34 +52,32 @@ impl TextLines {
         self.add_own(alloc, device, &line.event)
     }
 
-    /// Adds that of a settled doubt, where there is one.
+    /// Adds those of settled doubts.
     fn add_settled(
         &mut self,
         alloc: Global,
         device: &[u8],
-        settled: Option<&Brief>,
+        settled: &[Brief],
     ) -> Result<(), NoMemory>
-        requires { self.old.count + 1 < 2 ^ 64 }
-        ensures added { OnOk result (Adds self.old (map (settled_told device.now) (option_to_list (option_copied settled.entry))) self.new) }
-        ensures few { OnOk result (self.new.count ≤ self.old.count + 1) }
+        requires { self.old.count ≤ length self.old.text.items }
+        ensures { OnOk result (Adds self.old (map (settled_told device.now) settled.now) self.new) }
     {
-        match settled {
-            Some(brief) => self.add_write(
+        for brief in settled {
+            self.add_write(
                 alloc,
                 write_kind(brief.tag),
                 device,
                 &brief.name,
                 brief.time,
-            ),
-            None => Ok(()),
+            )?;
         }
+        Ok(())
     }
 
     /// Adds that of an event's own write, or of a restart.
     fn add_own(&mut self, alloc: Global, device: &[u8], event: &Event) -> Result<(), NoMemory>
-        requires { self.old.count + 1 < 2 ^ 64 }
-        ensures added { OnOk result (Adds self.old (own_told device.now event.now) self.new) }
-        ensures few { OnOk result (self.new.count ≤ self.old.count + 1) }
+        requires { self.old.count ≤ length self.old.text.items }
+        ensures { OnOk result (Adds self.old (own_told device.now event.now) self.new) }
     {
         match event {
             Event::Changed(name, change, answer) => {
@@ -92,7 +88,7 @@ impl TextLines {
                 }
             }
             Event::Restarted => self.add(b"restart", device, b"/", b"-"),
-            Event::Read(..) | Event::Listed(_) => Ok(()),
+            Event::Read(..) | Event::ReadPart(_) | Event::Listed(_) => Ok(()),
         }
     }
 
@@ -105,7 +101,7 @@ impl TextLines {
         name: &Name,
         time: Timestamp,
     ) -> Result<(), NoMemory>
-        requires { self.old.count + 1 < 2 ^ 64 }
+        requires { self.old.count ≤ length self.old.text.items }
         ensures { OnOk result (Adds self.old (write_told kind.now device.now name.now time ∷ []) self.new) }
     {
         let path = path_text(alloc, name)?;
@@ -116,7 +112,7 @@ impl TextLines {
 
     /// Adds one, with the next number.
     fn add(&mut self, kind: &[u8], device: &[u8], path: &[u8], time: &[u8]) -> Result<(), NoMemory>
-        requires { self.old.count + 1 < 2 ^ 64 }
+        requires { self.old.count ≤ length self.old.text.items }
         ensures { OnOk result (Adds self.old (told kind.now device.now path.now time.now ∷ []) self.new) }
     {
         self.count += 1;
