@@ -19,6 +19,7 @@ use Rattle.sw_ring.specs.declared.ring.Ring.{Ring}
 use Rattle.sw_session.specs.declared.server.ServerFault.{ServerFault}
 use Rattle.sw_volume.specs.Tree.{Folders}
 use Rattle.sw_volume.specs.Volume.{raised_by}
+use Rattle.sw_cluster.proofs.Readying.{ready-of}
 use Rattle.sw_cluster.proofs.Restarting.{listed-lines, no-line, none-called, once-called, restart-lines}
 use Rattle.sw_cluster.specs.Restarts.{restarts_in}
 use Rattle.sw_cluster.specs.Nodes.{FailsToStart, IsReady, NodesAnswer, NodesHalt, faults_by}
@@ -82,11 +83,8 @@ module _ {V : Type 0} (tells : V → Bool) (files : V → Folders) (faults : V �
   -- listing files leaves the nodes as ready as they were
   ready_still : {S : Type 0} (out : S → ℕ → ℕ → Bool) (ring : Ring) (w after : AllNodes V) (stores : S) (device : ℕ) (response : Response) → IsReady out ring w stores
       → IsFiled tells files faults device w response after ⊎ ((after ≡ w) × (response ≡ bare 500)) → IsReady out ring after stores
-  ready_still out ring w after stores device response ready (inl filed) = record {
-    whole = filed.same.lifted ∙ ready.whole;
-    nodes = filed.moves.nodes ∙ ready.nodes;
-    are_out = ready.are_out;
-  }
+  ready_still out ring w after stores device response ready (inl filed) =
+      ready-of out ring after stores (filed.same.lifted ∙ ready.whole) (filed.moves.nodes ∙ ready.nodes) ready.are_out
   ready_still out ring w after stores device response ready (inr same) = subst (λ (x : AllNodes V). IsReady out ring x stores) (sym same.0) ready
 
   -- and leaves no line of a restart

@@ -1,6 +1,7 @@
 mod Controlling
 mod OpeningLemmas
 mod Resting
+mod Readying
 mod ReportLemmas
 mod Restarting
 mod RunningLemmas

@@ -14,6 +14,7 @@ use Rattle.sw_ring.specs.Faults.{has_repeat}
 use Rattle.sw_ring.specs.Rows.{AreGood, is_good}
 use Rattle.sw_ring.specs.declared.ring.Ring.{Ring}
 use Rattle.sw_volume.specs.Tree.{Folders}
+use Rattle.sw_cluster.proofs.Readying.{ready-of}
 use Rattle.sw_cluster.proofs.Restarting.{asked-lines, none-called}
 use Rattle.sw_cluster.proofs.RunningLemmas.{answered_nodes, answered_runs, left_nodes, left_runs}
 use Rattle.sw_cluster.proofs.ServingLemmas.{request_left, request_served}
@@ -66,11 +67,8 @@ module _ {V : Type 0} (tells : V → Bool) (files : V → Folders) (faults : V �
     goes_on : (ring : Ring) (w after : AllNodes V) (stores : S) → IsReady out ring w stores → (see after).nodes ≡ (see w).nodes → IsReady out ring after stores
     goes_on ring w after stores ready same =
         let nodes = same ∙ ready.nodes in
-        record {
-          whole = whole_of after.lifted after.devices (length ring.devices) (has_device ring) (ap (λ (n : Nodes). n.devices) nodes);
-          nodes = nodes;
-          are_out = ready.are_out;
-        }
+        ready-of out ring after stores (whole_of after.lifted after.devices (length ring.devices) (has_device ring) (ap (λ (n : Nodes). n.devices) nodes)) nodes
+        ready.are_out
 
     pub answered_on : (ring : Ring) (w after : AllNodes V) (stores : S) (request : Request) (moment : ℕ) (response : Response) → IsReady out ring w stores
         → IsAnswered see w after ring request moment response → IsReady out ring after stores

@@ -7,7 +7,7 @@ use Rattle.std.specs.List.{slice_get}
 use Rattle.std.proofs.lemmas.Bool.{cases_lt}
 use Rattle.std.proofs.lemmas.Nat.{div-mul-add, mod-mul-add, pow_pos, rows}
 use Rattle.std.proofs.lemmas.Option.{slice_get_past}
-use Rattle.sw_hashpath.specs.HashParts.{stripe_of}
+use Rattle.sw_hashpath.specs.HashParts.{partition_of}
 use Rattle.sw_hashdir.specs.Places.{holds}
 use Rattle.sw_objdir.proofs.Looking.{held-told}
 use Rattle.sw_objdir.specs.Directories.{Kept}
@@ -33,13 +33,14 @@ use Rattle.sw_stores.specs.Volumes.{AreResting}
 use Rattle.sw_volume.specs.Tree.{Folders}
 use Rattle.sw_volume.specs.Volume.{raised_by}
 use Rattle.sw_cluster.specs.Restarts.{AreCalled, restarts_in}
+use Rattle.sw_cluster.proofs.Readying.{ready-of}
 use Rattle.sw_cluster.proofs.Restarting.{called-on, none-called, out-called, whole-called}
 use Rattle.sw_core.proofs.Placed.{stripe-below}
 use Rattle.sw_core.proofs.Sessions.{run-begins}
 use Rattle.sw_core.proofs.Wholes.{open-at}
 use Rattle.sw_core.specs.Doors.{HasRun, StandsFor}
 use Rattle.sw_core.specs.Machine.{Came, Runs, machine_of, state}
-use Rattle.sw_core.specs.Worlds.{AllNodes, AreLifted, HasLimits, IsWorld, Lifts, first_of, held_of, lock_of, nodes_of}
+use Rattle.sw_core.specs.Worlds.{AllNodes, AreLifted, HasLimits, IsWorld, Lifts, first_of, held_of, lock_of, nodes_of, stripe_at}
 use Rattle.sw_core.specs.Worlds.{opened, past_of, seen_of, shown, sight_of, without_lines}
 use Rattle.sw_core.specs.declared.slot.Slot.{Slot}
 use Rattle.sw_core.specs.declared.slot.Slot.TheVariants as slots
@@ -76,28 +77,32 @@ module _ {V : Type 0} (tells : V → Bool) (files : V → Folders) (faults : V �
   abbrev see : AllNodes V → Sight
   see w = sight_of tells files faults w
 
+  lock-same : (w : AllNodes V) → w.lock_bits ≡ ring.lock_bits → w.power ≡ ring.power → (device : ℕ) (hash : Hash)
+      → lock_of w.lock_bits w.power device hash ≡ lock_of ring.lock_bits ring.power device hash
+  lock-same w bits power device hash = ap (λ (b : ℕ). lock_of b w.power device hash) bits ∙ ap (λ (p : ℕ). lock_of ring.lock_bits p device hash) power
+
   -- ---- how a run begins
 
   -- where all locks tell what they hold, the nodes stand for the machine that holds it
-  pub stands-begun : (w : AllNodes V) → w.lock_bits ≡ ring.lock_bits → length w.slots ≡ length ring.devices * 2 ^ ring.lock_bits
+  pub stands-begun : (w : AllNodes V) → w.lock_bits ≡ ring.lock_bits → w.power ≡ ring.power → length w.slots ≡ length ring.devices * 2 ^ ring.lock_bits
       → AllTold tells files faults ring w
       → StandsFor (sight_of tells files faults w) (machine_of (sight_of tells files faults w))
-  stands-begun w bits count told = record {
-    states = λ device hash. sym (state_of-writes_of (held_of tells files faults (slice_get w.slots (lock_of w.lock_bits device hash)) hash));
+  stands-begun w bits power count told = record {
+    states = λ device hash. sym (state_of-writes_of (held_of tells files faults (slice_get w.slots (lock_of w.lock_bits w.power device hash)) hash));
     seen = λ l. refl;
     told = λ device hash.
-        subst (λ (b : ℕ). (seen_of tells files faults (slice_get w.slots (lock_of b device hash))).told ≡ true) (sym bits)
+        subst (λ (l : ℕ). (seen_of tells files faults (slice_get w.slots l)).told ≡ true) (sym (lock-same w bits power device hash))
         (each device hash (cases_lt device (length ring.devices)));
   }
     where
       each : (device : ℕ) (hash : Hash) → (device < length ring.devices) ⊎ (length ring.devices ≤ device)
-          → (seen_of tells files faults (slice_get w.slots (lock_of ring.lock_bits device hash))).told ≡ true
+          → (seen_of tells files faults (slice_get w.slots (lock_of ring.lock_bits ring.power device hash))).told ≡ true
       each device hash (inl here) = told device hash here
       each device hash (inr past) =
-          let beyond : length w.slots ≤ lock_of ring.lock_bits device hash = rw count (further device (length ring.devices) past) in
-          ap (λ (o : Option (Slot V)). (seen_of tells files faults o).told) (slice_get_past w.slots (lock_of ring.lock_bits device hash) beyond)
+          let beyond : length w.slots ≤ lock_of ring.lock_bits ring.power device hash = rw count (further device (length ring.devices) past) in
+          ap (λ (o : Option (Slot V)). (seen_of tells files faults o).told) (slice_get_past w.slots (lock_of ring.lock_bits ring.power device hash) beyond)
         where
-          further : (d n : ℕ) → n ≤ d → n * 2 ^ ring.lock_bits ≤ d * 2 ^ ring.lock_bits + stripe_of hash ring.lock_bits % 2 ^ ring.lock_bits
+          further : (d n : ℕ) → n ≤ d → n * 2 ^ ring.lock_bits ≤ d * 2 ^ ring.lock_bits + stripe_at ring.lock_bits ring.power (partition_of hash ring.power)
           further d n h = grind (arith, rows)
 
   -- ---- what its trail tells
@@ -113,43 +118,46 @@ module _ {V : Type 0} (tells : V → Bool) (files : V → Folders) (faults : V �
     bits-are : w.lock_bits ≡ ring.lock_bits
     bits-are = ap (λ (n : SightNodes). n.lock_bits) nodes
 
-    stored : (device : ℕ) (hash : Hash) → device < length ring.devices → IsStored tells files faults ring run.after rests device hash
-    stored device hash here = by (open-at w is whole (lock_of ring.lock_bits device hash) within)
-      where
-        low : stripe_of hash ring.lock_bits % 2 ^ ring.lock_bits < 2 ^ ring.lock_bits
-        low = stripe-below ring.lock_bits hash
+    power-are : w.power ≡ ring.power
+    power-are = ap (λ (n : SightNodes). n.power) nodes
 
-        within : lock_of ring.lock_bits device hash < length w.slots
-        within = rw (is.count, devices-are, bits-are) (under device (length ring.devices) (stripe_of hash ring.lock_bits % 2 ^ ring.lock_bits)
+    stored : (device : ℕ) (hash : Hash) → device < length ring.devices → IsStored tells files faults ring run.after rests device hash
+    stored device hash here = by (open-at w is whole (lock_of ring.lock_bits ring.power device hash) within)
+      where
+        low : stripe_at ring.lock_bits ring.power (partition_of hash ring.power) < 2 ^ ring.lock_bits
+        low = stripe-below ring.lock_bits ring.power (partition_of hash ring.power)
+
+        within : lock_of ring.lock_bits ring.power device hash < length w.slots
+        within = rw (is.count, devices-are, bits-are) (under device (length ring.devices) (stripe_at ring.lock_bits ring.power (partition_of hash ring.power))
             (2 ^ ring.lock_bits) here low)
           where
             under : (d n s b : ℕ) → d < n → s < b → d * b + s < n * b
             under d n s b h g = grind (arith, rows)
 
-        by : (k : Kept V) × (slice_get w.slots (lock_of ring.lock_bits device hash) ≡ Some (slots.Open k)) × (k.secrets ≡ w.secrets) × (k.power ≡ w.power)
+        by : (k : Kept V) × (slice_get w.slots (lock_of ring.lock_bits ring.power device hash) ≡ Some (slots.Open k)) × (k.secrets ≡ w.secrets) × (k.power ≡ w.power)
             × HasLimits k
             → IsStored tells files faults ring run.after rests device hash
         by there =
             let told : (seen_of tells files faults (Some (slots.Open there.0))).told ≡ true =
             subst (λ (o : Option (Slot V)). (seen_of tells files faults o).told ≡ true) there.1
-            (subst (λ (b : ℕ). (seen_of tells files faults (slice_get w.slots (lock_of b device hash))).told ≡ true) bits-are (run.stands.told device hash)) in
+            (subst (λ (l : ℕ). (seen_of tells files faults (slice_get w.slots l)).told ≡ true) (lock-same w bits-are power-are device hash) (run.stands.told device hash)) in
             let held : held_of tells files faults (Some (slots.Open there.0)) hash ≡ state run.after device hash =
             subst (λ (o : Option (Slot V)). held_of tells files faults o hash ≡ state run.after device hash) there.1
-            (subst (λ (b : ℕ). held_of tells files faults (slice_get w.slots (lock_of b device hash)) hash ≡ state run.after device hash) bits-are
+            (subst (λ (l : ℕ). held_of tells files faults (slice_get w.slots l) hash ≡ state run.after device hash) (lock-same w bits-are power-are device hash)
             (run.stands.states device hash)) in
             let secrets : there.0.secrets ≡ ring.secrets = there.2 ∙ ap (λ (n : SightNodes). n.secrets) nodes in
             let power : there.0.power ≡ ring.power = there.3 ∙ ap (λ (n : SightNodes). n.power) nodes in
             record {
               volume = there.0.volume;
               resting = subst (λ (s : ℕ). rests device s ≡ Some there.0.volume)
-                  (mod-mul-add device (2 ^ ring.lock_bits) (stripe_of hash ring.lock_bits % 2 ^ ring.lock_bits) low)
-                  (subst (λ (d : ℕ). rests d (lock_of ring.lock_bits device hash % 2 ^ ring.lock_bits) ≡ Some there.0.volume)
-                  (div-mul-add device (2 ^ ring.lock_bits) (stripe_of hash ring.lock_bits % 2 ^ ring.lock_bits) low)
-                  (resting (lock_of ring.lock_bits device hash) there.0 there.1));
+                  (mod-mul-add device (2 ^ ring.lock_bits) (stripe_at ring.lock_bits ring.power (partition_of hash ring.power)) low)
+                  (subst (λ (d : ℕ). rests d (lock_of ring.lock_bits ring.power device hash % 2 ^ ring.lock_bits) ≡ Some there.0.volume)
+                  (div-mul-add device (2 ^ ring.lock_bits) (stripe_at ring.lock_bits ring.power (partition_of hash ring.power)) low)
+                  (resting (lock_of ring.lock_bits ring.power device hash) there.0 there.1));
               stands = subst (λ (s : _). holds s ring.power (files there.0.volume) hash ≡ state run.after device hash) secrets
                   (subst (λ (p : ℕ). holds there.0.secrets p (files there.0.volume) hash ≡ state run.after device hash) power
                   (sym (held-told tells files faults there.0 hash told) ∙ held));
-              counts = sym (ap (λ h. h.faults) (run.stands.seen (lock_of ring.lock_bits device hash)))
+              counts = sym (ap (λ h. h.faults) (run.stands.seen (lock_of ring.lock_bits ring.power device hash)))
                   ∙ ap (λ (o : Option (Slot V)). (seen_of tells files faults o).faults) there.1;
             }
 
@@ -160,9 +168,9 @@ module _ {V : Type 0} (tells : V → Bool) (files : V → Folders) (faults : V �
     pub trail-of : (steps : List Line) → steps ≡ w.lines → IsTrail tells files faults ring began rests steps
     trail-of steps are = record {
       machine = run.after;
-      run = subst (λ (ls : List Line). Runs (lock_of ring.lock_bits) (machine_of (sight_of tells files faults began)) (map Came ls) run.after)
+      run = subst (λ (ls : List Line). Runs (nodes_of (length ring.devices) ring.lock_bits ring.power ring.secrets) (machine_of (sight_of tells files faults began)) (map Came ls) run.after)
           (sym (are ∙ lines-are))
-          (subst (λ (b : ℕ). Runs (lock_of b) (machine_of (sight_of tells files faults began)) (map Came run.lines) run.after) bits-are run.run);
+          (subst (λ (n : SightNodes). Runs n (machine_of (sight_of tells files faults began)) (map Came run.lines) run.after) nodes run.run);
       stored = stored;
     }
 
@@ -172,6 +180,7 @@ module _ {V : Type 0} (tells : V → Bool) (files : V → Folders) (faults : V �
   relined w is = record {
     devices = is.devices;
     lock_bits = is.lock_bits;
+    fine = is.fine;
     least = is.least;
     greatest = is.greatest;
     count = is.count;
@@ -237,17 +246,15 @@ module _ {V : Type 0} (tells : V → Bool) (files : V → Folders) (faults : V �
         → ((d s : ℕ) → out stores.now d s ≡ places_of ring d s) → IsUnderWay ring began stores
     way-begun volumes count is are_out = record {
       ring_is = refl;
-      ready = record {
-        whole = ap (λ (w : AllNodes V). w.lifted) is;
-        nodes = ap (λ (w : AllNodes V). nodes_of (shown w.lifted w.devices) w.lock_bits w.power w.secrets) is;
-        are_out = are_out;
-      };
+      ready = ready-of out ring began stores.now (ap (λ (w : AllNodes V). w.lifted) is)
+          (ap (λ (w : AllNodes V). nodes_of (shown w.lifted w.devices) w.lock_bits w.power w.secrets) is) are_out;
       faults_are = refl;
       calls_are = none-called (2 ^ ring.lock_bits) (store_calls stores.now) (store_calls stores.now) refl
           ∙ ap (λ (w : AllNodes V). raised_by (restarts_in w.lines * 2 ^ ring.lock_bits) (store_calls stores.now)) (sym is);
       same_stores = refl;
       runs = λ told. run-begins (machine_of (sight_of tells files faults began)) (sight_of tells files faults began)
-          (stands-begun began (ap (λ (w : AllNodes V). w.lock_bits) is) (ap (λ (w : AllNodes V). length w.slots) is ∙ (simp length-map count)) told)
+          (stands-begun began (ap (λ (w : AllNodes V). w.lock_bits) is) (ap (λ (w : AllNodes V). w.power) is)
+          (ap (λ (w : AllNodes V). length w.slots) is ∙ (simp length-map count)) told)
           (ap (λ (w : AllNodes V). Some w.lines) is);
     }
 

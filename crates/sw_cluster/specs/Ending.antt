@@ -10,9 +10,9 @@ use Rattle.sw_peer.specs.Journals.{Hash}
 use Rattle.sw_ring.specs.declared.ring.Ring.{Ring}
 use Rattle.sw_core.specs.Machine.{Came, Machine, machine_of, state}
 use Rattle.sw_core.specs.Machine as machines
-use Rattle.sw_core.specs.Worlds.{AllNodes, lock_of, opened, sight_of}
+use Rattle.sw_core.specs.Worlds.{AllNodes, lock_of, nodes_of, opened, sight_of, stripe_at}
 use Rattle.sw_hashdir.specs.Places.{holds}
-use Rattle.sw_hashpath.specs.HashParts.{stripe_of}
+use Rattle.sw_hashpath.specs.HashParts.{partition_of}
 use Rattle.sw_outside.specs.Counts.{raised}
 use Rattle.sw_peer.specs.declared.line.Line.{Line}
 use Rattle.sw_stores.specs.Places.{IsAsItWas}
@@ -44,21 +44,21 @@ module _ {V : Type 0} (tells : V → Bool) (files : V → Folders) (faults : V �
   -- each lock tells what it holds
   abbrev pub AllTold : Ring → AllNodes V → Type 0
   AllTold ring w = (device : ℕ) (hash : Hash) → device < length ring.devices
-      → ((sight_of tells files faults w).objects.seen (lock_of ring.lock_bits device hash)).told ≡ true
+      → ((sight_of tells files faults w).objects.seen (lock_of ring.lock_bits ring.power device hash)).told ≡ true
 
   -- At the place of each lock rests a volume, whose files stand for the state of what reached there, and whose count of faults is the
   -- machine's
   pub record IsStored (ring : Ring) (machine : Machine) (rests : ℕ → ℕ → Option V) (device : ℕ) (hash : Hash) : Type 0 where
     pub volume : V
-    pub resting : rests device (stripe_of hash ring.lock_bits % 2 ^ ring.lock_bits) ≡ Some volume
+    pub resting : rests device (stripe_at ring.lock_bits ring.power (partition_of hash ring.power)) ≡ Some volume
     pub stands : holds ring.secrets ring.power (files volume) hash ≡ state machine device hash
-    pub counts : (machine.seen (lock_of ring.lock_bits device hash)).faults ≡ faults volume
+    pub counts : (machine.seen (lock_of ring.lock_bits ring.power device hash)).faults ≡ faults volume
 
   -- The trail tells what happened: its steps are a run of the machine from what the nodes began with, so each is answered by what had
   -- reached its device and hash before; and in the end the files stand for what reached.
   pub record IsTrail (ring : Ring) (began : AllNodes V) (rests : ℕ → ℕ → Option V) (steps : List Line) : Type 0 where
     pub machine : Machine
-    pub run : machines.Runs (lock_of ring.lock_bits) (machine_of (sight_of tells files faults began)) (map Came steps) machine
+    pub run : machines.Runs (nodes_of (length ring.devices) ring.lock_bits ring.power ring.secrets) (machine_of (sight_of tells files faults began)) (map Came steps) machine
     pub stored : (device : ℕ) (hash : Hash) → device < length ring.devices → IsStored ring machine rests device hash
 
   -- a session was run over these nodes of a ring, and then their volumes were given back

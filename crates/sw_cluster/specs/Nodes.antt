@@ -32,6 +32,10 @@ out_but ring (Some device) d s = places_of ring d s && not (places_at ring devic
 pub record IsReady {V S : Type 0} (out : S → ℕ → ℕ → Bool) (ring : Ring) (w : AllNodes V) (stores : S) : Type 0 where
   pub whole : w.lifted ≡ None
   pub nodes : nodes_of (shown w.lifted w.devices) w.lock_bits w.power w.secrets ≡ nodes_of (length ring.devices) ring.lock_bits ring.power ring.secrets
+  pub devices : w.devices ≡ length ring.devices
+  pub lock_bits : w.lock_bits ≡ ring.lock_bits
+  pub power : w.power ≡ ring.power
+  pub secrets : w.secrets ≡ ring.secrets
   pub are_out : (d s : ℕ) → out stores d s ≡ places_of ring d s
 
 -- the count of faults of the stores, by what halted the server

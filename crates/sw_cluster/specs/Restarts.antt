@@ -1,7 +1,7 @@
 -- The restarts that a trail tells, and how often the stores were called for them. (This project's own.)
 use Rattle.std.specs.Prelude.{◌≡◌, ℕ, ◌+◌, ◌*◌, ◌^◌, ◌≤◌, List, [], ◌∷◌, Option, None}
 use Rattle.sw_peer.specs.declared.line.Event.{Event}
-use Rattle.sw_peer.specs.declared.line.Event.TheVariants.{Changed, Listed, Read, Restarted}
+use Rattle.sw_peer.specs.declared.line.Event.TheVariants.{Changed, Listed, Read, ReadPart, Restarted}
 use Rattle.sw_peer.specs.declared.line.Line.{Line}
 use Rattle.sw_ring.specs.declared.ring.Ring.{Ring}
 use Rattle.sw_volume.specs.Volume.{raised_by}
@@ -10,6 +10,7 @@ use Rattle.sw_volume.specs.Volume.{raised_by}
 abbrev pub restarts_of : Event → ℕ
 restarts_of (Changed name change answer) = 0
 restarts_of (Read name got) = 0
+restarts_of (ReadPart read) = 0
 restarts_of (Listed failed) = 0
 restarts_of Restarted = 1
 

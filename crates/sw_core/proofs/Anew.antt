@@ -6,7 +6,7 @@ use Rattle.std.proofs.lemmas.Bool.{cases_lt}
 use Rattle.std.proofs.Math.Nat.{mul-le-mul_right, suc-mul}
 use Rattle.std.proofs.lemmas.Nat.{rows}
 use Rattle.sw_hashdir.specs.Places.{holds}
-use Rattle.sw_hashpath.specs.HashParts.{stripe_of}
+use Rattle.sw_hashpath.specs.HashParts.{partition_of}
 use Rattle.sw_objdir.proofs.Looking.{held-told}
 use Rattle.sw_objdir.specs.Directories.{Kept, held, history_of, is_told, started}
 use Rattle.sw_peer.specs.Histories.{History}
@@ -16,7 +16,7 @@ use Rattle.sw_volume.specs.Tree.{Folders}
 use Rattle.sw_core.proofs.Placed.{stripe-below}
 use Rattle.sw_core.proofs.Wholes.{open-at}
 use Rattle.sw_core.specs.Limits.{journal_bytes, journal_entries}
-use Rattle.sw_core.specs.Worlds.{AllNodes, HasLimits, IsWorld, Lifts, SetsDown, TellsOn, held_of, lock_of, past_of, first_of, restart_line, seen_of, sight_of}
+use Rattle.sw_core.specs.Worlds.{AllNodes, HasLimits, IsWorld, Lifts, SetsDown, TellsOn, held_of, lock_of, past_of, first_of, restart_line, seen_of, sight_of, stripe_at}
 use Rattle.sw_core.specs.declared.slot.Slot.{Slot}
 use Rattle.sw_core.specs.declared.slot.Slot.TheVariants as slots
 
@@ -41,7 +41,7 @@ module _ {V : Type 0} (tells : V → Bool) (files : V → Folders) (faults : V �
   bits = old.lock_bits
 
   abbrev locked : Hash → ℕ
-  locked hash = lock_of old.lock_bits device hash
+  locked hash = lock_of old.lock_bits old.power device hash
 
   abbrev between : AllNodes V
   between = record old { slots = mid.slots; lifted = Some device }
@@ -52,8 +52,8 @@ module _ {V : Type 0} (tells : V → Bool) (files : V → Folders) (faults : V �
   abbrev after : AllNodes V
   after = record old { slots = new.slots; lines = old.lines ++ restart_line device ∷ []; lifted = None }
 
-  low : (hash : Hash) → stripe_of hash old.lock_bits % 2 ^ old.lock_bits < 2 ^ old.lock_bits
-  low hash = stripe-below old.lock_bits hash
+  low : (hash : Hash) → stripe_at old.lock_bits old.power (partition_of hash old.power) < 2 ^ old.lock_bits
+  low hash = stripe-below old.lock_bits old.power (partition_of hash old.power)
 
   inside : (hash : Hash) → locked hash < length old.slots
   inside hash =
@@ -78,8 +78,8 @@ module _ {V : Type 0} (tells : V → Bool) (files : V → Folders) (faults : V �
       let less = low hash in
       let within : locked hash < past_of old.lock_bits device = omega (arith, less) in
       let lifted = up.lifted.within (locked hash) (there hash).0 (omega arith) within (there hash).1 in
-      let volume = up.lifted.gives (stripe_of hash old.lock_bits % 2 ^ old.lock_bits) (there hash).0 within (there hash).1 in
-      down.down.within (stripe_of hash old.lock_bits % 2 ^ old.lock_bits) (there hash).0.volume (there hash).0.secrets volume lifted
+      let volume = up.lifted.gives (stripe_at old.lock_bits old.power (partition_of hash old.power)) (there hash).0 within (there hash).1 in
+      down.down.within (stripe_at old.lock_bits old.power (partition_of hash old.power)) (there hash).0.volume (there hash).0.secrets volume lifted
 
   tells-on : (hash : Hash) → TellsOn tells files faults (there hash).0
   tells-on hash =
@@ -112,10 +112,10 @@ module _ {V : Type 0} (tells : V → Bool) (files : V → Folders) (faults : V �
   told-old : (hash : Hash) → (seen_of tells files faults (slice_get old.slots (locked hash))).told ≡ true → is_told tells files faults (there hash).0 ≡ true
   told-old hash told = sym (ap (λ (h : History). h.told) (seen-old hash)) ∙ told
 
-  elsewhere : (d : ℕ) (hash : Hash) → d ≢ device → slice_get new.slots (lock_of old.lock_bits d hash) ≡ slice_get old.slots (lock_of old.lock_bits d hash)
+  elsewhere : (d : ℕ) (hash : Hash) → d ≢ device → slice_get new.slots (lock_of old.lock_bits old.power d hash) ≡ slice_get old.slots (lock_of old.lock_bits old.power d hash)
   elsewhere d hash away =
-      let out = apart-from (2 ^ old.lock_bits) d device (stripe_of hash old.lock_bits % 2 ^ old.lock_bits) (stripe-below old.lock_bits hash) away in
-      down.down.outside (lock_of old.lock_bits d hash) (further (lock_of old.lock_bits d hash) out) ∙ up.lifted.outside (lock_of old.lock_bits d hash) out
+      let out = apart-from (2 ^ old.lock_bits) d device (stripe_at old.lock_bits old.power (partition_of hash old.power)) (stripe-below old.lock_bits old.power (partition_of hash old.power)) away in
+      down.down.outside (lock_of old.lock_bits old.power d hash) (further (lock_of old.lock_bits old.power d hash) out) ∙ up.lifted.outside (lock_of old.lock_bits old.power d hash) out
     where
       further : (l : ℕ) → (l < first_of old.lock_bits device) ⊎ (past_of old.lock_bits device ≤ l)
           → (l < first_of old.lock_bits device) ⊎ (first_of old.lock_bits device + length given ≤ l)

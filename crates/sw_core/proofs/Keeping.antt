@@ -10,7 +10,7 @@ use Rattle.std.proofs.lemmas.Bool.{and_cases, and_parts, cases_Bool, cases_lt, l
 use Rattle.std.proofs.lemmas.List.{length-map}
 use Rattle.std.proofs.lemmas.List.Elements.{All-get_or}
 use Rattle.std.proofs.lemmas.Option.{get_or_from_slice_get, slice_get-map, slice_get_past, slice_get_within}
-use Rattle.sw_hashpath.specs.HashParts.{stripe_of}
+use Rattle.sw_hashpath.specs.HashParts.{partition_of}
 use Rattle.sw_hashpath.specs.declared.secrets.Secrets.{Secrets}
 use Rattle.sw_objdir.specs.Directories.{Kept, history_of, started}
 use Rattle.sw_outside.specs.Faults.{HasRisen}
@@ -27,7 +27,7 @@ use Rattle.sw_core.proofs.Slots.{same-some}
 use Rattle.sw_core.proofs.Wholes.{none-some, open-at}
 use Rattle.sw_core.specs.Limits.{journal_bytes, journal_entries}
 use Rattle.sw_core.specs.Listing.{AreLookedAt, IsLookedAt}
-use Rattle.sw_core.specs.Worlds.{AllNodes, AreLifted, AreSetDown, HasRoom, IsSlot, IsWorld, first_of, held_of, is_out, lock_of, past_of, seen_of, sight_of}
+use Rattle.sw_core.specs.Worlds.{AllNodes, AreLifted, AreSetDown, HasRoom, IsSlot, IsWorld, first_of, held_of, is_out, lock_of, past_of, seen_of, sight_of, stripe_at}
 use Rattle.sw_core.specs.declared.slot.Slot.{Slot}
 use Rattle.sw_core.specs.declared.slot.Slot.TheVariants as slots
 
@@ -97,13 +97,14 @@ module _ {V : Type 0} (secrets : Secrets) (power : ℕ) (volumes : List V) (lift
           let v = there-is volumes l below in
           begun-at l v.0 v.1 ∙ (sym (slice_get-map begun volumes l ∙ ap (option_map begun) v.1) ∙ is)
 
-  pub opened-world : (devices bits : ℕ) (lines : List Line) → devices ≤ 256 → bits ≤ 4 → 1 ≤ power → power ≤ 32 → length volumes ≡ devices * 2 ^ bits
-      → IsWorld (record { devices = devices; lock_bits = bits; power = power; secrets = secrets; slots = new; lines = lines; lifted = None })
-  opened-world devices bits lines few narrow least greatest amount = record {
+  pub opened-world : (devices bits : ℕ) (lines : List Line) (asks : ℕ) → devices ≤ 256 → bits ≤ 4 → bits ≤ power → 1 ≤ power → power ≤ 32 → length volumes ≡ devices * 2 ^ bits
+      → IsWorld (record { devices = devices; lock_bits = bits; power = power; secrets = secrets; slots = new; lines = lines; asks = asks; lifted = None })
+  opened-world devices bits lines asks few narrow fine least greatest amount = record {
     devices = few;
     lock_bits = narrow;
     least = least;
     greatest = greatest;
+    fine = fine;
     count = down.count ∙ (count ∙ amount);
     out = λ device is. cc;
     slots = λ l h.
@@ -132,6 +133,7 @@ module _ {V : Type 0} (w : AllNodes V) (is : IsWorld w) (device : ℕ) where
     lock_bits = is.lock_bits;
     least = is.least;
     greatest = is.greatest;
+    fine = is.fine;
     count = up.count ∙ is.count;
     out = λ d same. let equal : device ≡ d = same-some device d same in subst (λ (e : ℕ). e < w.devices) equal below;
     slots = λ l h. slot l (subst (λ (n : ℕ). l < n) up.count h) (out-cases w.lock_bits device l);
@@ -157,6 +159,7 @@ module _ {V : Type 0} (w : AllNodes V) (is : IsWorld w) (device : ℕ) where
     lock_bits = is.lock_bits;
     least = is.least;
     greatest = is.greatest;
+    fine = is.fine;
     count = down.count ∙ is.count;
     out = λ d same. cc;
     slots = λ l h. slot l (subst (λ (n : ℕ). l < n) down.count h) (out-cases w.lock_bits device l);
@@ -226,6 +229,7 @@ module _ {V : Type 0} (tells : V → Bool) (files : V → Folders) (faults : V �
     lock_bits = is.lock_bits;
     least = is.least;
     greatest = is.greatest;
+    fine = is.fine;
     count = looked.count ∙ is.count;
     out = is.out;
     slots = λ l h. slot l (subst (λ (n : ℕ). l < n) looked.count h);
@@ -291,10 +295,10 @@ module _ {V : Type 0} (tells : V → Bool) (files : V → Folders) (faults : V �
     nodes = refl;
     same = λ l. (seen-looked l).0;
     later = λ l. (seen-looked l).1;
-    others = λ d hash away. ap (seen_of tells files faults) (looked.outside (lock_of w.lock_bits d hash)
-        (apart-from (2 ^ w.lock_bits) d device (stripe_of hash w.lock_bits % 2 ^ w.lock_bits) (stripe-below w.lock_bits hash) away));
+    others = λ d hash away. ap (seen_of tells files faults) (looked.outside (lock_of w.lock_bits w.power d hash)
+        (apart-from (2 ^ w.lock_bits) d device (stripe_at w.lock_bits w.power (partition_of hash w.power)) (stripe-below w.lock_bits w.power (partition_of hash w.power)) away));
     risen = risen;
-    holds = λ d hash. held-looked (lock_of w.lock_bits d hash) hash;
+    holds = λ d hash. held-looked (lock_of w.lock_bits w.power d hash) hash;
     alone = refl;
     containers = refl;
     counts = (refl, refl);

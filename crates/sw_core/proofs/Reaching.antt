@@ -12,11 +12,14 @@ use Rattle.sw_peer.specs.declared.change.Change.{Change}
 use Rattle.sw_peer.specs.declared.entry.ObjEntry.{ObjEntry}
 use Rattle.sw_peer.specs.declared.entry.ObjEntry.TheVariants.{Wrote}
 use Rattle.sw_peer.specs.declared.line.Event.{Event}
-use Rattle.sw_peer.specs.declared.line.Event.TheVariants.{Changed, Listed, Read, Restarted}
+use Rattle.sw_peer.specs.declared.line.Event.TheVariants.{Changed, Listed, Read, ReadPart, Restarted}
 use Rattle.sw_peer.specs.declared.line.Line.{Line}
 use Rattle.sw_state.specs.States.{state_of}
 use Rattle.sw_state.specs.declared.state.State.{State}
 use Rattle.sw_state.specs.declared.write.Write.{Write}
+use Rattle.sw_peer.specs.Sights.{Nodes}
+use Rattle.sw_core.proofs.PartFacts.{part-at, read-facts}
+use Rattle.sw_core.specs.PartReads.{part_in}
 use Rattle.sw_core.specs.Laws.{NoDoubts, NoneFailed, RunEnters, RunReaches, RunStands, RunsJoin, entered_by, has_failed, is_entered_at, is_failed, is_restart, told_by}
 use Rattle.sw_core.specs.Machine.{Came, Machine, MachineComes, MachineRestarts, RunLine, Runs, Went, made_writes, reached_with, state}
 
@@ -100,59 +103,73 @@ nothing : (ws : List Write) (b : Bool) (vs : List Write) → vs ≡ [] → ws �
 nothing ws true vs is = sym (ap (λ (x : List Write). ws ++ x) is ∙ append-nil ws)
 nothing ws false vs is = sym (append-nil ws)
 
-module _ (lock : ℕ → Hash → ℕ) where
-  elsewhere-none : (m after : Machine) (device : ℕ) (hash : Hash) → NoDoubts lock m → ((l : ℕ) → l ≢ lock device hash → after.seen l ≡ m.seen l)
-      → (after.seen (lock device hash)).journal.doubts ≡ [] → NoDoubts lock after
-  elsewhere-none m after device hash none same here d k = by (nat_eq (lock d k) (lock device hash)) refl
+module _ (nodes : Nodes) where
+  elsewhere-none : (m after : Machine) (device : ℕ) (hash : Hash) → NoDoubts nodes m → ((l : ℕ) → l ≢ nodes.lock device hash → after.seen l ≡ m.seen l)
+      → (after.seen (nodes.lock device hash)).journal.doubts ≡ [] → NoDoubts nodes after
+  elsewhere-none m after device hash none same here d k = by (nat_eq (nodes.lock d k) (nodes.lock device hash)) refl
     where
-      by : (b : Bool) → nat_eq (lock d k) (lock device hash) ≡ b → (after.seen (lock d k)).journal.doubts ≡ []
-      by true is = let at : lock d k ≡ lock device hash = eqb-true (lock d k) (lock device hash) is in subst (λ (l : ℕ). (after.seen l).journal.doubts ≡ []) (sym at) here
-      by false is = ap (λ (h : History). h.journal.doubts) (same (lock d k) (apart is)) ∙ none d k
+      by : (b : Bool) → nat_eq (nodes.lock d k) (nodes.lock device hash) ≡ b → (after.seen (nodes.lock d k)).journal.doubts ≡ []
+      by true is = let at : nodes.lock d k ≡ nodes.lock device hash = eqb-true (nodes.lock d k) (nodes.lock device hash) is in subst (λ (l : ℕ). (after.seen l).journal.doubts ≡ []) (sym at) here
+      by false is = ap (λ (h : History). h.journal.doubts) (same (nodes.lock d k) (apart is)) ∙ none d k
         where
-          apart : nat_eq (lock d k) (lock device hash) ≡ false → lock d k ≢ lock device hash
-          apart no_match equal = let yes_match : nat_eq (lock d k) (lock device hash) ≡ true = eq-eqb (lock d k) (lock device hash) equal in cc
+          apart : nat_eq (nodes.lock d k) (nodes.lock device hash) ≡ false → nodes.lock d k ≢ nodes.lock device hash
+          apart no_match equal = let yes_match : nat_eq (nodes.lock d k) (nodes.lock device hash) ≡ true = eq-eqb (nodes.lock d k) (nodes.lock device hash) equal in cc
 
-  restarted-none : (m : Machine) (device : ℕ) (after : Machine) → NoDoubts lock m → MachineRestarts lock m device after → NoDoubts lock after
+  restarted-none : (m : Machine) (device : ℕ) (after : Machine) → NoDoubts nodes m → MachineRestarts nodes m device after → NoDoubts nodes after
   restarted-none m device after none r d k = by (nat_eq d device) refl
     where
-      by : (b : Bool) → nat_eq d device ≡ b → (after.seen (lock d k)).journal.doubts ≡ []
-      by true is = let at : d ≡ device = eqb-true d device is in subst (λ (e : ℕ). (after.seen (lock e k)).journal.doubts ≡ []) (sym at) (r.doubts k)
+      by : (b : Bool) → nat_eq d device ≡ b → (after.seen (nodes.lock d k)).journal.doubts ≡ []
+      by true is = let at : d ≡ device = eqb-true d device is in subst (λ (e : ℕ). (after.seen (nodes.lock e k)).journal.doubts ≡ []) (sym at) (r.doubts k)
       by false is = ap (λ (h : History). h.journal.doubts) (r.elsewhere d k (apart is)) ∙ none d k
         where
           apart : nat_eq d device ≡ false → d ≢ device
           apart no_match equal = let yes_match : nat_eq d device ≡ true = eq-eqb d device equal in cc
 
   -- one step that comes
-  comes : (m : Machine) (line : Line) (after : Machine) → NoDoubts lock m → has_failed line.event ≡ false
-      → (event : Event) → line.event ≡ event → MachineComes lock m line.link line.device event line.added after
-      → ((d : ℕ) (k : Hash) → after.reached d k ≡ m.reached d k ++ (if nat_eq line.device d then written k line.added else [])) × NoDoubts lock after
+  comes : (m : Machine) (line : Line) (after : Machine) → NoDoubts nodes m → has_failed line.event ≡ false
+      → (event : Event) → line.event ≡ event → MachineComes nodes m line.link line.device event line.added after
+      → ((d : ℕ) (k : Hash) → after.reached d k ≡ m.reached d k ++ (if nat_eq line.device d then written k line.added else [])) × NoDoubts nodes after
   comes m line after none fine (Changed name change answer) is came =
       let makes = came.1 in
-      let told = tells (m.seen (lock line.device name.hash)) (after.seen (lock line.device name.hash)) (state m line.device name.hash) (state after line.device name.hash) name change answer
+      let told = tells (m.seen (nodes.lock line.device name.hash)) (after.seen (nodes.lock line.device name.hash)) (state m line.device name.hash) (state after line.device name.hash) name change answer
       (none line.device name.hash) (sym (ap has_failed is) ∙ fine) makes.step in (
         (λ d k. makes.reached d k ∙ with-told m.reached line.device name.hash (made_writes change makes.step.made) d k (written k line.added) (ap (written k) makes.added_is ∙ told.0 k)),
         elsewhere-none m after line.device name.hash none makes.elsewhere told.1,
       )
   comes m line after none fine (Read name got) is came =
-      let h : History = m.seen (lock line.device name.hash) in
+      let h : History = m.seen (nodes.lock line.device name.hash) in
       let settles = came.step.settles refl in
-      let zero_of = nothing-settled h.journal (after.seen (lock line.device name.hash)).journal settles.0 (none line.device name.hash) settles.1 in
+      let zero_of = nothing-settled h.journal (after.seen (nodes.lock line.device name.hash)).journal settles.0 (none line.device name.hash) settles.1 in
       let entries : h.journal.entries ++ came.step.added ≡ h.journal.entries ++ [] =
       sym (came.step.adds refl) ∙ (settles.1.entered ∙ ap (λ (es : List ObjEntry). h.journal.entries ++ es) zero_of.0) in
       let added : line.added ≡ [] = came.added_is ∙ append_cancel_left h.journal.entries came.step.added [] entries in (
         (λ d k. came.reached d k ∙ nothing (m.reached d k) (nat_eq line.device d) (written k line.added) (ap (written k) added)),
         elsewhere-none m after line.device name.hash none came.elsewhere zero_of.1,
       )
+  comes m line after none fine (ReadPart read) is came =
+      let hash : Hash = came.of_part.0 in
+      let l : ℕ = nodes.part_lock line.device (part_in read) in
+      let here : nodes.lock line.device hash ≡ l = part-at nodes line.device (part_in read) hash came.of_part.1 in
+      let reads = read-facts nodes (m.seen l) read line.added (after.seen l) (state m line.device) came.step in
+      let free : (m.seen l).journal.doubts ≡ [] = subst (λ (x : ℕ). (m.seen x).journal.doubts ≡ []) here (none line.device hash) in
+      let zero_of = nothing-settled (m.seen l).journal (after.seen l).journal reads.settles.0 free reads.settles.1 in
+      let entries : (m.seen l).journal.entries ++ line.added ≡ (m.seen l).journal.entries ++ [] =
+      sym reads.adds ∙ (reads.settles.1.entered ∙ ap (λ (es : List ObjEntry). (m.seen l).journal.entries ++ es) zero_of.0) in
+      let added : line.added ≡ [] = append_cancel_left (m.seen l).journal.entries line.added [] entries in (
+        (λ d k. came.reached d k ∙ nothing (m.reached d k) (nat_eq line.device d) (written k line.added) (ap (written k) added)),
+        elsewhere-none m after line.device hash none (λ x away. came.elsewhere x (λ equal. away (equal ∙ sym here)))
+            (subst (λ (x : ℕ). (after.seen x).journal.doubts ≡ []) (sym here) zero_of.1),
+      )
   comes m line after none fine (Listed failed) is came = (
     (λ d k. came.1.reached d k ∙ nothing (m.reached d k) (nat_eq line.device d) (written k line.added) (ap (written k) came.0)),
-    λ d k. ap (λ (h : History). h.journal.doubts) (came.1.same (lock d k)) ∙ none d k,
+    λ d k. ap (λ (h : History). h.journal.doubts) (came.1.same (nodes.lock d k)) ∙ none d k,
   )
   comes m line after none fine Restarted is came = (
     (λ d k. came.1.reached d k ∙ nothing (m.reached d k) (nat_eq line.device d) (written k line.added) (ap (written k) came.0)),
     restarted-none m line.device after none came.1,
   )
 
-  pub run : (m : Machine) (lines : List RunLine) (after : Machine) → Runs lock m lines after → NoDoubts lock m → NoneFailed lines
+  pub run : (m : Machine) (lines : List RunLine) (after : Machine) → Runs nodes m lines after → NoDoubts nodes m → NoneFailed lines
       → (device : ℕ) (hash : Hash) → after.reached device hash ≡ m.reached device hash ++ told_by lines device hash
   run m [] after r none fine device hash = ap (λ (x : Machine). x.reached device hash) r ∙ sym (append-nil (m.reached device hash))
   run m (Came line ∷ lines) after r none fine device hash =
@@ -162,49 +179,53 @@ module _ (lock : ℕ → Hash → ℕ) where
       ∙ append_assoc (m.reached device hash) (if nat_eq line.device device then written hash line.added else []) (told_by lines device hash))
   run m (Went from message ∷ lines) after r none fine device hash =
       let sends = r.1 in
-      run r.0 lines after r.2 (λ d k. ap (λ (h : History). h.journal.doubts) (sends.seen (lock d k)) ∙ none d k) fine device hash
+      run r.0 lines after r.2 (λ d k. ap (λ (h : History). h.journal.doubts) (sends.seen (nodes.lock d k)) ∙ none d k) fine device hash
       ∙ ap (λ (x : List Write). x ++ told_by lines device hash) (sends.reached device hash)
 
 pub reaches : RunReaches
-reaches lock m lines after r none fine device hash = run lock m lines after r none fine device hash
+reaches nodes m lines after r none fine device hash = run nodes m lines after r none fine device hash
 
 pub stands_so : RunStands
-stands_so lock m lines after r none fine device hash = ap state_of (run lock m lines after r none fine device hash)
+stands_so nodes m lines after r none fine device hash = ap state_of (run nodes m lines after r none fine device hash)
 
 pub joins : RunsJoin
-joins lock m [] mid more after first second = subst (λ (x : Machine). Runs lock x more after) first second
-joins lock m (line ∷ lines) mid more after first second = (first.0, first.1, joins lock first.0 lines mid more after first.2 second)
+joins nodes m [] mid more after first second = subst (λ (x : Machine). Runs nodes x more after) first second
+joins nodes m (line ∷ lines) mid more after first second = (first.0, first.1, joins nodes first.0 lines mid more after first.2 second)
 
 pub enters : RunEnters
-enters lock m [] after r fine l = ap (λ (x : Machine). (x.seen l).journal.entries) r ∙ sym (append-nil (m.seen l).journal.entries)
-enters lock m (Came line ∷ lines) after r fine l =
-    enters lock r.0 lines after r.2 fine.1 l
-    ∙ (ap (λ (es : List ObjEntry). es ++ entered_by lock lines l) (one line.event refl r.1)
-    ∙ append_assoc (m.seen l).journal.entries (if is_entered_at lock line.device line.event l then line.added else []) (entered_by lock lines l))
+enters nodes m [] after r fine l = ap (λ (x : Machine). (x.seen l).journal.entries) r ∙ sym (append-nil (m.seen l).journal.entries)
+enters nodes m (Came line ∷ lines) after r fine l =
+    enters nodes r.0 lines after r.2 fine.1 l
+    ∙ (ap (λ (es : List ObjEntry). es ++ entered_by nodes lines l) (one line.event refl r.1)
+    ∙ append_assoc (m.seen l).journal.entries (if is_entered_at nodes line.device line.event l then line.added else []) (entered_by nodes lines l))
   where
-    at : (hash : Hash) → ((k : ℕ) → k ≢ lock line.device hash → (r.0).seen k ≡ m.seen k) → ((r.0).seen (lock line.device hash)).journal.entries ≡ (m.seen (lock line.device hash)).journal.entries ++ line.added
-        → ((r.0).seen l).journal.entries ≡ (m.seen l).journal.entries ++ (if nat_eq (lock line.device hash) l then line.added else [])
-    at hash elsewhere here = by (nat_eq (lock line.device hash) l) refl
+    at : (own : ℕ) → ((k : ℕ) → k ≢ own → (r.0).seen k ≡ m.seen k) → ((r.0).seen own).journal.entries ≡ (m.seen own).journal.entries ++ line.added
+        → ((r.0).seen l).journal.entries ≡ (m.seen l).journal.entries ++ (if nat_eq own l then line.added else [])
+    at own elsewhere here = by (nat_eq own l) refl
       where
-        by : (b : Bool) → nat_eq (lock line.device hash) l ≡ b → ((r.0).seen l).journal.entries ≡ (m.seen l).journal.entries ++ (if b then line.added else [])
-        by true is = let same : lock line.device hash ≡ l = eqb-true (lock line.device hash) l is in
+        by : (b : Bool) → nat_eq own l ≡ b → ((r.0).seen l).journal.entries ≡ (m.seen l).journal.entries ++ (if b then line.added else [])
+        by true is = let same : own ≡ l = eqb-true own l is in
             subst (λ (x : ℕ). ((r.0).seen x).journal.entries ≡ (m.seen x).journal.entries ++ line.added) same here
         by false is = ap (λ (h : History). h.journal.entries) (elsewhere l apart) ∙ sym (append-nil (m.seen l).journal.entries)
           where
-            apart : l ≢ lock line.device hash
-            apart equal = let yes_match : nat_eq (lock line.device hash) l ≡ true = eq-eqb (lock line.device hash) l (sym equal) in cc
+            apart : l ≢ own
+            apart equal = let yes_match : nat_eq own l ≡ true = eq-eqb own l (sym equal) in cc
 
-    one : (event : Event) → line.event ≡ event → MachineComes lock m line.link line.device event line.added r.0
-        → ((r.0).seen l).journal.entries ≡ (m.seen l).journal.entries ++ (if is_entered_at lock line.device line.event l then line.added else [])
+    one : (event : Event) → line.event ≡ event → MachineComes nodes m line.link line.device event line.added r.0
+        → ((r.0).seen l).journal.entries ≡ (m.seen l).journal.entries ++ (if is_entered_at nodes line.device line.event l then line.added else [])
     one (Changed name change answer) is came =
         let makes = came.1 in
-        subst (λ (e : Event). ((r.0).seen l).journal.entries ≡ (m.seen l).journal.entries ++ (if is_entered_at lock line.device e l then line.added else [])) (sym is)
-        (at name.hash makes.elsewhere (makes.step.adds refl ∙ ap (λ (es : List ObjEntry). (m.seen (lock line.device name.hash)).journal.entries ++ es) (sym makes.added_is)))
+        subst (λ (e : Event). ((r.0).seen l).journal.entries ≡ (m.seen l).journal.entries ++ (if is_entered_at nodes line.device e l then line.added else [])) (sym is)
+        (at (nodes.lock line.device name.hash) makes.elsewhere (makes.step.adds refl ∙ ap (λ (es : List ObjEntry). (m.seen (nodes.lock line.device name.hash)).journal.entries ++ es) (sym makes.added_is)))
     one (Read name got) is came =
-        subst (λ (e : Event). ((r.0).seen l).journal.entries ≡ (m.seen l).journal.entries ++ (if is_entered_at lock line.device e l then line.added else [])) (sym is)
-        (at name.hash came.elsewhere (came.step.adds refl ∙ ap (λ (es : List ObjEntry). (m.seen (lock line.device name.hash)).journal.entries ++ es) (sym came.added_is)))
+        subst (λ (e : Event). ((r.0).seen l).journal.entries ≡ (m.seen l).journal.entries ++ (if is_entered_at nodes line.device e l then line.added else [])) (sym is)
+        (at (nodes.lock line.device name.hash) came.elsewhere (came.step.adds refl ∙ ap (λ (es : List ObjEntry). (m.seen (nodes.lock line.device name.hash)).journal.entries ++ es) (sym came.added_is)))
+    one (ReadPart read) is came =
+        let own : ℕ = nodes.part_lock line.device (part_in read) in
+        subst (λ (e : Event). ((r.0).seen l).journal.entries ≡ (m.seen l).journal.entries ++ (if is_entered_at nodes line.device e l then line.added else [])) (sym is)
+        (at own came.elsewhere (read-facts nodes (m.seen own) read line.added ((r.0).seen own) (state m line.device) came.step).adds)
     one (Listed failed) is came =
-        subst (λ (e : Event). ((r.0).seen l).journal.entries ≡ (m.seen l).journal.entries ++ (if is_entered_at lock line.device e l then line.added else [])) (sym is)
+        subst (λ (e : Event). ((r.0).seen l).journal.entries ≡ (m.seen l).journal.entries ++ (if is_entered_at nodes line.device e l then line.added else [])) (sym is)
         (ap (λ (h : History). h.journal.entries) (came.1.same l) ∙ sym (append-nil (m.seen l).journal.entries))
     one Restarted is came = let never : true ≡ false = sym (ap is_restart is) ∙ fine.0 in cc
-enters lock m (Went from message ∷ lines) after r fine l = enters lock r.0 lines after r.2 fine l ∙ ap (λ (h : History). h.journal.entries ++ entered_by lock lines l) (r.1.seen l)
+enters nodes m (Went from message ∷ lines) after r fine l = enters nodes r.0 lines after r.2 fine l ∙ ap (λ (h : History). h.journal.entries ++ entered_by nodes lines l) (r.1.seen l)

@@ -1,9 +1,12 @@
 -- The same step, of equal histories and states. The records are written anew, so that their fields stay what they are.
-use Rattle.std.proofs.Common.{◌≡◌, Bool, true, [], ◌++◌, length, sym, ◌∙◌, ap, subst}
+use Rattle.std.proofs.Common.{◌≡◌, Bool, true, [], ◌++◌, length, sym, ◌∙◌, ap, subst, Result, Ok, Err}
 use Rattle.sw_hashpath.specs.declared.name.Name.{Name}
 use Rattle.sw_outside.specs.Faults.{HasRisen}
 use Rattle.sw_peer.specs.Histories.{Grows, History, OnlySettles, StepChanges, StepReads, stands}
 use Rattle.sw_peer.specs.Journals.{Answers, Hash, Shows, left_by, written}
+use Rattle.sw_peer.specs.Parts.{ShowsPart, StepReadsPart}
+use Rattle.sw_peer.specs.declared.dir_fault.DirFault.{DirFault}
+use Rattle.sw_peer.specs.declared.dir_fault.DirFault.TheVariants as dir_faults
 use Rattle.sw_peer.specs.declared.answer.Answer.{Answer}
 use Rattle.sw_peer.specs.declared.change.Change.{Change}
 use Rattle.sw_peer.specs.declared.got.Got.{Got}
@@ -35,6 +38,30 @@ recast-read alone h i hash got g j t v al hi gj tv step = record {
   shown = subst (λ (x : History). Shows x.told (stands x hash) (length x.journal.entries) got) gj step.shown;
   failed = λ is. subst (λ (x : History). HasRisen x.faults j.faults) hi (subst (λ (x : History). HasRisen h.faults x.faults) gj (step.failed is));
   held = λ is told clean. subst (λ (x : History). stands x hash ≡ t) gj (step.held al (ap (λ (x : History). x.told) gj ∙ told) clean) ∙ tv;
+  added = step.added;
+  adds = λ is. subst (λ (x : History). j.journal.entries ≡ x.journal.entries ++ step.added) hi (subst (λ (x : History). x.journal.entries ≡ h.journal.entries ++ step.added) gj (step.adds al));
+}
+
+-- what is shown, read in another way
+pub shows-so : {A : Type 0} (told damages : Bool) (s : Hash → State) (reading other : Bool → (Hash → State) → A → Type 0) → ((b : Bool) (s : Hash → State) (x : A) → reading b s x → other b s x)
+    → (got : Result A DirFault) → ShowsPart told damages s reading got → ShowsPart told damages s other got
+shows-so told damages s reading other reads (Ok x) shown = reads told s x shown
+shows-so told damages s reading other reads (Err (dir_faults.Damaged bad)) shown = shown
+shows-so told damages s reading other reads (Err dir_faults.Failed) shown = tt
+shows-so told damages s reading other reads (Err dir_faults.NoMemory) shown = tt
+
+-- the same of a read of a partition, of fewer hashes and read in another way
+abbrev pub recast-part : {A : Type 0} (alone : Bool) (h i : History) (at fewer : Hash → Type 0) (into : (k : Hash) → fewer k → at k) (damages : Bool)
+    (reading other : Bool → (Hash → State) → A → Type 0) (reads : (b : Bool) (s : Hash → State) (x : A) → reading b s x → other b s x) (got : Result A DirFault)
+    (g j : History) (t v : Hash → State) → alone ≡ true → h ≡ i → g ≡ j → ((k : Hash) → fewer k → t k ≡ v k)
+    → StepReadsPart alone h at damages reading got g t → StepReadsPart true i fewer damages other got j v
+recast-part alone h i at fewer into damages reading other reads got g j t v al hi gj tv step = record {
+  follows = subst (λ (x : History). Grows x j) hi (subst (λ (x : History). Grows h x) gj step.follows);
+  settles = λ is. subst (λ (x : History). OnlySettles x j) hi (subst (λ (x : History). OnlySettles h x) gj (step.settles al));
+  settled = λ is k in_part. subst (λ (x : History). written k x.journal.doubts ≡ []) gj (step.settled is k (into k in_part));
+  shown = subst (λ (x : History). ShowsPart x.told damages (stands x) other got) gj (shows-so g.told damages (stands g) reading other reads got step.shown);
+  failed = λ is. subst (λ (x : History). HasRisen x.faults j.faults) hi (subst (λ (x : History). HasRisen h.faults x.faults) gj (step.failed is));
+  held = λ is told given k in_part. subst (λ (x : History). stands x k ≡ t k) gj (step.held al (ap (λ (x : History). x.told) gj ∙ told) given k (into k in_part)) ∙ tv k in_part;
   added = step.added;
   adds = λ is. subst (λ (x : History). j.journal.entries ≡ x.journal.entries ++ step.added) hi (subst (λ (x : History). x.journal.entries ≡ h.journal.entries ++ step.added) gj (step.adds al));
 }

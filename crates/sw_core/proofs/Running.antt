@@ -65,14 +65,14 @@ made-both xs ys a b c p q = record {
   runs = λ m stands.
       let one = p.runs m stands in
       let two = q.runs one.0 one.2 in
-      (two.0, joins a.nodes.lock m p.run one.0 q.run two.0 one.1 (subst (λ (n : Nodes). Runs n.lock one.0 q.run two.0) p.nodes two.1), two.2);
+      (two.0, joins a.nodes m p.run one.0 q.run two.0 one.1 (subst (λ (n : Nodes). Runs n one.0 q.run two.0) p.nodes two.1), two.2);
 }
 
 -- one step whose line was kept
 one-made : (step : Step) (s t : Sight) (line : Line) → step_in (Came line) ≡ Some step
     → t.trail ≡ option_map (λ lines. lines ++ line ∷ []) s.trail
     → t.nodes ≡ s.nodes → t.alone ≡ s.alone
-    → ((m : Machine) → StandsFor s m → (after : Machine) × Runs s.nodes.lock m (Came line ∷ []) after × StandsFor t after) → AreMade (step ∷ []) s t
+    → ((m : Machine) → StandsFor s m → (after : Machine) × Runs s.nodes m (Came line ∷ []) after × StandsFor t after) → AreMade (step ∷ []) s t
 one-made step s t line is kept nodes alone runs =
     record { run = Came line ∷ []; in_order = ap (λ (o : Option Step). o ∷ []) is; kept = kept; nodes = nodes; alone = alone; runs = runs }
 

@@ -1,20 +1,28 @@
 -- What a session knows of a door that is alone, call by call: the lines that the door kept are a run of the machine, and the door stands
 -- for the machine after it.
-use Rattle.std.proofs.Common.{◌≡◌, ℕ, Bool, true, List, [], ◌∷◌, ◌++◌, map, refl, sym, ◌∙◌, ap, subst, Some, Ok, Err, ◌⊎◌, inl, inr}
+use Rattle.std.proofs.Common.{◌≡◌, ℕ, Bool, true, List, [], ◌∷◌, ◌++◌, map, refl, sym, ◌∙◌, ap, subst, Result, Some, Ok, Err, ◌⊎◌, inl, inr}
 use Rattle.std.proofs.lemmas.List.{map-append}
 use Rattle.std.specs.Option.{option_map}
 use Rattle.sw_hashpath.specs.declared.name.Name.{Name}
 use Rattle.sw_peer.specs.Journals.{Hash}
-use Rattle.sw_peer.specs.Sights.{Calls, Comes, IsListed, IsMade, IsRead, IsSame, Nodes, Restarts, Sight, is_wanting, is_wanting_read}
+use Rattle.std.specs.declared.alloc.Global.{Global}
+use Rattle.std.specs.declared.vec.Vec.{Vec}
+use Rattle.sw_peer.specs.Parts.{IsOfPart, is_wanting_part}
+use Rattle.sw_peer.specs.declared.dir_fault.DirFault.{DirFault}
+use Rattle.sw_peer.specs.declared.part_read.PartRead.TheVariants.{Files, Hashes}
+use Rattle.sw_suffix.specs.declared.dir_line.DirLine.{DirLine}
+use Rattle.sw_suffix.specs.declared.told.SuffixHash.{SuffixHash}
+use Rattle.sw_peer.specs.Sights.{Calls, Comes, IsFilesRead, IsHashesRead, IsListed, IsMade, IsRead, IsSame, Nodes, Restarts, Sight, is_wanting, is_wanting_read}
 use Rattle.sw_peer.specs.declared.answer.Answer.{Answer}
 use Rattle.sw_peer.specs.declared.change.Change.{Change}
 use Rattle.sw_peer.specs.declared.got.Got.{Got}
-use Rattle.sw_peer.specs.declared.line.Event.TheVariants.{Changed, Listed, Read, Restarted}
+use Rattle.sw_peer.specs.declared.line.Event.TheVariants.{Changed, Listed, Read, ReadPart, Restarted}
 use Rattle.sw_peer.specs.declared.line.Line.{Line}
+use Rattle.sw_peer.specs.declared.link.Link.{Link}
 use Rattle.sw_peer.specs.declared.link.Link.TheVariants.{Local, Sent}
 use Rattle.sw_peer.specs.declared.link.Lost.{Lost}
 use Rattle.sw_core.proofs.Reaching.{joins, reaches}
-use Rattle.sw_core.proofs.Standing.{change_runs, listing_runs, read_runs, restart_runs}
+use Rattle.sw_core.proofs.Standing.{change_runs, files_runs, hashes_runs, listing_runs, read_runs, restart_runs}
 use Rattle.sw_core.specs.Doors.{HasRun, StandsFor}
 use Rattle.sw_core.specs.Laws.{NoDoubts, NoneFailed, told_by}
 use Rattle.sw_state.specs.States.{state_of}
@@ -33,20 +41,20 @@ run-kept start s t p has = record {
   lines = has.lines;
   kept = ap (λ (x : Sight). x.trail) p.same ∙ has.kept;
   after = has.after;
-  run = subst (λ (n : Nodes). Runs n.lock start (map Came has.lines) has.after) (sym (ap (λ (x : Sight). x.nodes) p.same)) has.run;
+  run = subst (λ (n : Nodes). Runs n start (map Came has.lines) has.after) (sym (ap (λ (x : Sight). x.nodes) p.same)) has.run;
   stands = stands-same s t has.after p has.stands;
 }
 
 -- one step more
 one-more : (start : Machine) (s t : Sight) (line : Line) (has : HasRun start s) → t.nodes ≡ s.nodes → t.trail ≡ option_map (λ lines. lines ++ line ∷ []) s.trail
-    → (after : Machine) → MachineComes s.nodes.lock has.after line.link line.device line.event line.added after → StandsFor t after → HasRun start t
+    → (after : Machine) → MachineComes s.nodes has.after line.link line.device line.event line.added after → StandsFor t after → HasRun start t
 one-more start s t line has nodes trail after comes stands = record {
   lines = has.lines ++ line ∷ [];
   kept = trail ∙ ap (option_map (λ (lines : List Line). lines ++ line ∷ [])) has.kept;
   after = after;
-  run = subst (λ (n : Nodes). Runs n.lock start (map Came (has.lines ++ line ∷ [])) after) (sym nodes)
-      (subst (λ (ls : List RunLine). Runs s.nodes.lock start ls after) (sym (map-append Came has.lines (line ∷ [])))
-      (joins s.nodes.lock start (map Came has.lines) has.after (Came line ∷ []) after has.run (after, comes, refl)));
+  run = subst (λ (n : Nodes). Runs n start (map Came (has.lines ++ line ∷ [])) after) (sym nodes)
+      (subst (λ (ls : List RunLine). Runs s.nodes start ls after) (sym (map-append Came has.lines (line ∷ [])))
+      (joins s.nodes start (map Came has.lines) has.after (Came line ∷ []) after has.run (after, comes, refl)));
   stands = stands;
 }
 
@@ -73,6 +81,34 @@ run-read start device name s got t alone read has = by read.trail
     by : (t.trail ≡ option_map (λ lines. lines ++ line ∷ []) s.trail) ⊎ ((is_wanting_read got ≡ true) × IsSame s t) → HasRun start t
     by (inl kept) =
         let runs = read_runs Local device name s got t has.after has.stands alone read in
+        one-more start s t line has read.moves.nodes kept runs.0 runs.1 runs.2
+    by (inr none) = run-kept start s t none.1 has
+
+-- a read of a partition came, over whatever link: of what is compared
+pub run-hashes : (start : Machine) (link : Link) (device part : ℕ) (s : Sight) (got : Result (Vec SuffixHash Global) DirFault) (t : Sight) (hash : Hash) → IsOfPart s.nodes.power part hash
+    → t.alone ≡ true → IsHashesRead link device part s got t → HasRun start s → HasRun start t
+run-hashes start link device part s got t hash of_part alone read has = by read.trail
+  where
+    line : Line
+    line = record { device = device; link = link; event = ReadPart (Hashes part got); added = read.step.added }
+
+    by : (t.trail ≡ option_map (λ lines. lines ++ line ∷ []) s.trail) ⊎ ((is_wanting_part got ≡ true) × IsSame s t) → HasRun start t
+    by (inl kept) =
+        let runs = hashes_runs link device part s got t has.after hash of_part has.stands alone read in
+        one-more start s t line has read.moves.nodes kept runs.0 runs.1 runs.2
+    by (inr none) = run-kept start s t none.1 has
+
+-- and of the files of a suffix
+pub run-files : (start : Machine) (link : Link) (device part suffix : ℕ) (s : Sight) (got : Result (Vec DirLine Global) DirFault) (t : Sight) (hash : Hash) → IsOfPart s.nodes.power part hash
+    → t.alone ≡ true → IsFilesRead link device part suffix s got t → HasRun start s → HasRun start t
+run-files start link device part suffix s got t hash of_part alone read has = by read.trail
+  where
+    line : Line
+    line = record { device = device; link = link; event = ReadPart (Files part suffix got); added = read.step.added }
+
+    by : (t.trail ≡ option_map (λ lines. lines ++ line ∷ []) s.trail) ⊎ ((is_wanting_part got ≡ true) × IsSame s t) → HasRun start t
+    by (inl kept) =
+        let runs = files_runs link device part suffix s got t has.after hash of_part has.stands alone read in
         one-more start s t line has read.moves.nodes kept runs.0 runs.1 runs.2
     by (inr none) = run-kept start s t none.1 has
 
@@ -111,6 +147,20 @@ run-read-call start device name s got t alone call has =
     let once = comes-once (IsRead Local device name) s got t call in
     run-kept start once.0 t once.2 (run-read start device name s got once.0 (sym (ap (λ (x : Sight). x.alone) once.2.same) ∙ alone) once.1 has)
 
+pub run-hashes-call : (start : Machine) (device part : ℕ) (s : Sight) (got : Result (Vec SuffixHash Global) DirFault) (t : Sight) (hash : Hash) → IsOfPart s.nodes.power part hash
+    → t.alone ≡ true → Calls (IsHashesRead Local device part) s Local (Ok got) t → HasRun start s → HasRun start t
+run-hashes-call start device part s got t hash of_part alone call has =
+    let once = comes-once (IsHashesRead Local device part) s got t call in
+    run-kept start once.0 t once.2
+    (run-hashes start Local device part s got once.0 hash of_part (sym (ap (λ (x : Sight). x.alone) once.2.same) ∙ alone) once.1 has)
+
+pub run-files-call : (start : Machine) (device part suffix : ℕ) (s : Sight) (got : Result (Vec DirLine Global) DirFault) (t : Sight) (hash : Hash) → IsOfPart s.nodes.power part hash
+    → t.alone ≡ true → Calls (IsFilesRead Local device part suffix) s Local (Ok got) t → HasRun start s → HasRun start t
+run-files-call start device part suffix s got t hash of_part alone call has =
+    let once = comes-once (IsFilesRead Local device part suffix) s got t call in
+    run-kept start once.0 t once.2
+    (run-files start Local device part suffix s got once.0 hash of_part (sym (ap (λ (x : Sight). x.alone) once.2.same) ∙ alone) once.1 has)
+
 -- the lines that such a call kept: one, or none where it wanted memory
 pub changed-lines : (device : ℕ) (name : Name) (change : Change) (s : Sight) (answer : Answer) (t : Sight) → Calls (IsMade Local device name change) s Local (Ok answer) t
     → ((line : Line) × (line.device ≡ device) × (line.link ≡ Local) × (line.event ≡ Changed name change answer) × (t.trail ≡ option_map (λ lines. lines ++ line ∷ []) s.trail))
@@ -146,6 +196,6 @@ run-taken start s t taken has =
     run-begins has.after t (subst (λ (x : Sight). StandsFor x has.after) (sym taken) (record { states = has.stands.states; seen = has.stands.seen; told = has.stands.told })) (ap (λ (x : Sight). x.trail) taken)
 
 -- where no step failed, each hash stands at each device for the state of what had reached and of what the lines tell
-pub run-holds : (start : Machine) (s : Sight) (has : HasRun start s) → NoDoubts s.nodes.lock start → NoneFailed (map Came has.lines) → (device : ℕ) (hash : Hash)
+pub run-holds : (start : Machine) (s : Sight) (has : HasRun start s) → NoDoubts s.nodes start → NoneFailed (map Came has.lines) → (device : ℕ) (hash : Hash)
     → s.objects.holds device hash ≡ state_of (start.reached device hash ++ told_by (map Came has.lines) device hash)
-run-holds start s has none fine device hash = has.stands.states device hash ∙ ap state_of (reaches s.nodes.lock start (map Came has.lines) has.after has.run none fine device hash)
+run-holds start s has none fine device hash = has.stands.states device hash ∙ ap state_of (reaches s.nodes start (map Came has.lines) has.after has.run none fine device hash)

@@ -1,11 +1,13 @@
 -- Which entries a step added: that of the doubt which its listing settled, where its write had been made, and then its own.
 use Rattle.std.proofs.Common.{◌≡◌, ℕ, ◌+◌, ◌-◌, ◌≤◌, Bool, true, false, List, [], ◌∷◌, ◌++◌, length, map, take, nat_lt, bytes_eq, refl, sym, ◌∙◌, ap, subst, arith, append_assoc, Option, None, Some, option_to_list, ◌⊎◌, inl, inr, if◌then◌else◌}
+use Rattle.std.proofs.Math.Seq.{take-length}
 use Rattle.std.proofs.lemmas.Bool.Decides.{nat_tests}
 use Rattle.std.proofs.lemmas.List.{append-nil, append_cancel_left, length-append}
 use Rattle.sw_hashpath.specs.declared.name.Name.{Name}
 use Rattle.sw_journal.specs.Entries.{entry_hash, first_in}
 use Rattle.sw_journal.specs.Settling.{SettlesFirst}
 use Rattle.sw_objdir.specs.Calling.{Called, Listed, ReadCalled}
+use Rattle.sw_objdir.specs.Stepping.{AddsBriefs}
 use Rattle.sw_objdir.specs.Directories.{Kept}
 use Rattle.sw_peer.proofs.Hashes.{hash-self}
 use Rattle.sw_peer.specs.Briefs.{brief_of}
@@ -23,7 +25,7 @@ use Rattle.sw_peer.specs.declared.got.Got.TheVariants as gots
 use Rattle.sw_peer.specs.declared.outline.Outline.{Outline}
 use Rattle.sw_state.specs.Writes.{tag_of}
 use Rattle.sw_volume.specs.Tree.{Folders}
-use Rattle.sw_core.specs.Lines.{brief_in, settled_brief}
+use Rattle.sw_core.specs.Lines.{briefs_in, settled_briefs}
 use Rattle.sw_peer.specs.Lines.{own_by}
 
 -- the first entry of a hash behind entries of others
@@ -129,11 +131,11 @@ module _ {V : Type 0} (tells : V → Bool) (files : V → Folders) (faults calls
       by (inl same) = nothing-adds name.hash k.journal n.journal same
       by (inr listed) = kept-adds name.hash _ k.journal listed.0.journal n.journal listed.0.settles (ap entries_in listed.1)
 
-no-more : (n : ℕ) (b : Option Brief) → option_to_list (settled_brief b n n) ≡ []
-no-more n b = let none : nat_lt n n ≡ false = grind (arith, nat_tests) in ap (λ (x : Bool). option_to_list (if x then b else None)) none
+no-more : (n : ℕ) (bs : List Brief) → settled_briefs bs n n ≡ []
+no-more n bs = let none : nat_lt n n ≡ false = grind (arith, nat_tests) in ap (λ (x : Bool). if x then bs else []) none
 
-one-more : (n : ℕ) (b : Option Brief) → option_to_list (settled_brief b (1 + n) n) ≡ option_to_list b
-one-more n b = let more : nat_lt n (1 + n) ≡ true = grind (arith, nat_tests) in ap (λ (x : Bool). option_to_list (if x then b else None)) more
+one-more : (n : ℕ) (bs : List Brief) → settled_briefs bs (1 + n) n ≡ bs
+one-more n bs = let more : nat_lt n (1 + n) ≡ true = grind (arith, nat_tests) in ap (λ (x : Bool). if x then bs else []) more
 
 -- so the number of entries tells whether the doubt was settled as made
 module _ (hash : Hash) (j after : Journal) (own : ℕ) (adds : AddsUp hash j own after) (added : List ObjEntry) (is : after.entries ≡ j.entries ++ added) where
@@ -147,20 +149,28 @@ module _ (hash : Hash) (j after : Journal) (own : ℕ) (adds : AddsUp hash j own
   pub grown : length j.entries ≤ length after.entries
   grown = omega (arith, counted)
 
-  pub briefed : option_to_list (settled_brief (brief_in (first_in hash j.doubts)) (length after.entries - length j.entries) own)
+  pub briefed : settled_briefs (briefs_in (first_in hash j.doubts)) (length after.entries - length j.entries) own
       ≡ map brief_of (take (length added - own) added)
   briefed = by adds.settled adds.is_settled counted added-is
     where
       by : (settled : List ObjEntry) → IsSettled hash j settled → length after.entries ≡ length j.entries + (length settled + own) → added ≡ settled ++ adds.owned
-          → option_to_list (settled_brief (brief_in (first_in hash j.doubts)) (length after.entries - length j.entries) own) ≡ map brief_of (take (length added - own) added)
+          → settled_briefs (briefs_in (first_in hash j.doubts)) (length after.entries - length j.entries) own ≡ map brief_of (take (length added - own) added)
       by settled (inl none) count all =
           let amount : length after.entries - length j.entries ≡ own = omega (arith, count, ap length none) in
           let size : length added - own ≡ 0 = omega (arith, ap length all ∙ length-append settled adds.owned, ap length none, adds.count) in
-          ap (λ (m : ℕ). option_to_list (settled_brief (brief_in (first_in hash j.doubts)) m own)) amount
-          ∙ (no-more own (brief_in (first_in hash j.doubts)) ∙ sym (ap (λ (m : ℕ). map brief_of (take m added)) size))
+          ap (λ (m : ℕ). settled_briefs (briefs_in (first_in hash j.doubts)) m own) amount
+          ∙ (no-more own (briefs_in (first_in hash j.doubts)) ∙ sym (ap (λ (m : ℕ). map brief_of (take m added)) size))
       by settled (inr one) count all =
           let amount : length after.entries - length j.entries ≡ 1 + own = omega (arith, count, ap length one.1) in
           let size : length added - own ≡ 1 = omega (arith, ap length all ∙ length-append settled adds.owned, ap length one.1, adds.count) in
-          ap (λ (m : ℕ). option_to_list (settled_brief (brief_in (first_in hash j.doubts)) m own)) amount
-          ∙ (one-more own (brief_in (first_in hash j.doubts)) ∙ (ap (λ (e : Option ObjEntry). option_to_list (brief_in e)) one.2
+          ap (λ (m : ℕ). settled_briefs (briefs_in (first_in hash j.doubts)) m own) amount
+          ∙ (one-more own (briefs_in (first_in hash j.doubts)) ∙ (ap (λ (e : Option ObjEntry). briefs_in e) one.2
           ∙ sym (ap (λ (m : ℕ). map brief_of (take m added)) size ∙ ap (λ (es : List ObjEntry). map brief_of (take 1 es)) (all ∙ ap (λ (es : List ObjEntry). es ++ adds.owned) one.1))))
+
+-- a read of a partition adds the entries of settled doubts alone
+pub all-briefed : (j after : Journal) (added : List ObjEntry) → after.entries ≡ j.entries ++ added → (none briefs : List Brief) → none ≡ []
+    → AddsBriefs j.entries after.entries none briefs → briefs ≡ map brief_of (take (length added - 0) added)
+all-briefed j after added is none briefs empty adds =
+    let off : length added - 0 ≡ length added = omega arith in
+    let whole : take (length added - 0) added ≡ added = ap (λ (n : ℕ). take n added) off ∙ take-length added in
+    adds added is ∙ (ap (λ (bs : List Brief). bs ++ map brief_of added) empty ∙ ap (map brief_of) (sym whole))

@@ -1,5 +1,5 @@
 -- Why a door that is alone runs the machine.
-use Rattle.std.proofs.Common.{◌≡◌, ◌≢◌, ℕ, ◌≤◌, Bool, true, false, ◌&&◌, nat_eq, List, ◌++◌, bytes_eq, refl, sym, ◌∙◌, ap, subst, if◌then◌else◌}
+use Rattle.std.proofs.Common.{◌≡◌, ◌≢◌, ℕ, ◌≤◌, Bool, true, false, ◌&&◌, nat_eq, List, ◌++◌, bytes_eq, refl, sym, ◌∙◌, ap, subst, Result, if◌then◌else◌}
 use Rattle.std.proofs.lemmas.List.{append-nil}
 use Rattle.std.proofs.lemmas.Bool.{eq-eqb, eqb-true}
 use Rattle.sw_hashpath.specs.declared.name.Name.{Name}
@@ -8,7 +8,10 @@ use Rattle.sw_outside.specs.Faults.{HasRisen}
 use Rattle.sw_peer.specs.Histories.{History}
 use Rattle.sw_peer.specs.Journals.{Hash, left_by}
 use Rattle.sw_peer.specs.Steps.{write_of}
-use Rattle.sw_peer.specs.Sights.{IsAt, IsMade, Nodes, Sight}
+use Rattle.sw_peer.specs.Parts.{IsOfPart, StepReadsPart}
+use Rattle.sw_peer.specs.Sights.{IsAt, IsInPart, IsMade, IsPartRead, Nodes, Sight}
+use Rattle.sw_peer.specs.declared.dir_fault.DirFault.{DirFault}
+use Rattle.sw_peer.specs.declared.part_read.PartRead.{PartRead}
 use Rattle.sw_peer.specs.declared.answer.Answer.{Answer}
 use Rattle.sw_peer.specs.declared.change.Change.{Change}
 use Rattle.sw_peer.specs.declared.link.Link.{Link}
@@ -16,8 +19,9 @@ use Rattle.sw_state.proofs.StateLaws.{joins_one_more}
 use Rattle.sw_state.specs.States.{state_of}
 use Rattle.sw_state.specs.declared.state.State.{State}
 use Rattle.sw_state.specs.declared.write.Write.{Write}
-use Rattle.sw_core.proofs.Recasts.{recast, recast-read}
-use Rattle.sw_core.specs.Doors.{ChangeRuns, ListingRuns, ReadRuns, RestartRuns, StandsFor}
+use Rattle.sw_core.proofs.PartFacts.{part-at}
+use Rattle.sw_core.proofs.Recasts.{recast, recast-part, recast-read}
+use Rattle.sw_core.specs.Doors.{ChangeRuns, FilesRuns, HashesRuns, ListingRuns, ReadRuns, RestartRuns, StandsFor, WriteRuns}
 use Rattle.sw_core.specs.Machine.{Machine, MachineMakes, made_writes, reached_with, state}
 
 -- what told goes on telling
@@ -63,7 +67,7 @@ module _ (link : Link) (device : ℕ) (name : Name) (change : Change) (s : Sight
   now : StandsFor t after
   now = record { states = states; seen = λ x. refl; told = told-on s t made.moves.nodes (λ x. (made.moves.objects.grows x).told) stands.told }
 
-  makes : MachineMakes s.nodes.lock m device name change answer made.step.added after
+  makes : MachineMakes s.nodes m device name change answer made.step.added after
   makes = record {
     step = recast t.alone (s.objects.seen (s.nodes.lock device name.hash)) (m.seen (s.nodes.lock device name.hash)) (s.objects.holds device name.hash) (state m device name.hash) name change answer
         (t.objects.seen (s.nodes.lock device name.hash)) (t.objects.seen (s.nodes.lock device name.hash)) (t.objects.holds device name.hash) (state after device name.hash) alone (stands.seen (s.nodes.lock device name.hash)) (stands.states device name.hash) refl (states device name.hash) made.step;
@@ -92,6 +96,73 @@ read_runs link device name s got t m stands alone read = (
     sent = refl;
   },
   record { states = λ d k. read.holds_all alone d k ∙ stands.states d k; seen = λ x. refl; told = told-on s t read.moves.nodes (λ x. (read.moves.objects.grows x).told) stands.told },
+)
+
+-- a read of a partition, of whatever kind
+module _ {A : Type 0} (link : Link) (device part : ℕ) (at : Hash → Type 0) (damages : Bool) (reading : Nodes → Bool → (Hash → State) → A → Type 0) (read : Result A DirFault → PartRead)
+    (s : Sight) (got : Result A DirFault) (t : Sight) (m : Machine) (hash : Hash) (of_part : IsOfPart s.nodes.power part hash) (stands : StandsFor s m) (alone : t.alone ≡ true)
+    (is : IsPartRead link device part at damages reading read s got t) where
+  abbrev left : Machine
+  left = record { reached = m.reached; seen = t.objects.seen; sent = m.sent }
+
+  abbrev l : ℕ
+  l = s.nodes.part_lock device part
+
+  lock-in : (d : ℕ) (k : Hash) → IsInPart s.nodes.power device part at d k → s.nodes.lock d k ≡ l
+  lock-in d k in_part = ap (λ (e : ℕ). s.nodes.lock e k) in_part.0 ∙ part-at s.nodes device part k in_part.1
+
+  abbrev recast_step : StepReadsPart true (m.seen l) (λ k. IsOfPart s.nodes.power part k × at k) damages (reading s.nodes) got (t.objects.seen l) (state m device)
+  recast_step = recast-part t.alone (s.objects.seen l) (m.seen l) (λ k. IsOfPart s.nodes.power part k × at k) (λ k. IsOfPart s.nodes.power part k × at k) (λ k in_part. in_part)
+      damages (reading s.nodes) (reading s.nodes) (λ b u x is. is) got (t.objects.seen l) (t.objects.seen l)
+      (t.objects.holds device) (state m device) alone (stands.seen l) refl (λ k in_part. is.holds_all alone device k ∙ stands.states device k) is.step
+
+  part_stands : StandsFor t left
+  part_stands = record {
+    states = λ d k. is.holds_all alone d k ∙ stands.states d k;
+    seen = λ x. refl;
+    told = told-on s t is.moves.nodes (λ x. (is.moves.objects.grows x).told) stands.told;
+  }
+
+  part_elsewhere : (x : ℕ) → x ≢ l → t.objects.seen x ≡ m.seen x
+  part_elsewhere x away = is.moves.objects.elsewhere x (λ d k in_part same. away (same ∙ lock-in d k in_part)) ∙ stands.seen x
+
+pub hashes_runs : HashesRuns
+hashes_runs link device part s got t m hash of_part stands alone read = (
+  record { reached = m.reached; seen = t.objects.seen; sent = m.sent },
+  record {
+    of_part = (hash, of_part);
+    step = (recast_step link device part _ _ _ _ s got t m hash of_part stands alone read, refl);
+    reached = λ d k. refl;
+    elsewhere = part_elsewhere link device part _ _ _ _ s got t m hash of_part stands alone read;
+    sent = refl;
+  },
+  part_stands link device part _ _ _ _ s got t m hash of_part stands alone read,
+)
+
+pub files_runs : FilesRuns
+files_runs link device part suffix s got t m hash of_part stands alone read = (
+  record { reached = m.reached; seen = t.objects.seen; sent = m.sent },
+  record {
+    of_part = (hash, of_part);
+    step = (recast_step link device part _ _ _ _ s got t m hash of_part stands alone read, refl);
+    reached = λ d k. refl;
+    elsewhere = part_elsewhere link device part _ _ _ _ s got t m hash of_part stands alone read;
+    sent = refl;
+  },
+  part_stands link device part _ _ _ _ s got t m hash of_part stands alone read,
+)
+
+pub write_runs : WriteRuns
+write_runs link device part k file s got t m hash of_part stands alone read = (
+  record { reached = m.reached; seen = t.objects.seen; sent = m.sent },
+  record {
+    of_part = (hash, of_part);
+    step = (recast_step link device part _ _ _ _ s got t m hash of_part stands alone read, refl);
+    reached = λ d k. refl;
+    elsewhere = part_elsewhere link device part _ _ _ _ s got t m hash of_part stands alone read;
+    sent = refl;
+  },
+  part_stands link device part _ _ _ _ s got t m hash of_part stands alone read,
 )
 
 pub listing_runs : ListingRuns

@@ -17,7 +17,8 @@ use Rattle.sw_objdir.specs.Directories.{Kept}
 use Rattle.sw_peer.proofs.Hashes.{hash-same}
 use Rattle.sw_peer.specs.declared.line.Line.{Line}
 use Rattle.sw_core.proofs.Placed.{slice_get-set_other, slice_get-set_same}
-use Rattle.sw_core.specs.Worlds.{AllNodes, HasLimits, HasRoom, IsSlot, IsWorld, is_hashed, is_out, shown}
+use Rattle.sw_core.specs.Worlds.{AllNodes, HasLimits, HasRoom, IsSlot, IsWorld, is_out, shown}
+use Rattle.sw_hashdir.specs.Steps.{is_hashed}
 use Rattle.sw_core.specs.declared.slot.Slot.{Slot}
 use Rattle.sw_core.specs.declared.slot.Slot.TheVariants as slots
 
@@ -28,6 +29,11 @@ none-out (Some out) device devices h = absurd (omega (arith, h))
 
 pub shown-whole : (lifted : Option ℕ) (devices : ℕ) → lifted ≡ None → shown lifted devices ≡ devices
 shown-whole lifted devices whole = ap (λ (o : Option ℕ). shown o devices) whole
+
+-- where as many devices are shown as before, none is out
+pub still-whole : (lifted now : Option ℕ) (device devices more : ℕ) → lifted ≡ None → device < devices → shown now more ≡ shown lifted devices → now ≡ None
+still-whole lifted now device devices more whole below same =
+    none-out now device more (subst (λ (n : ℕ). device < n) (sym (same ∙ shown-whole lifted devices whole)) below)
 
 pub some-same : {A : Type 0} (a b : A) → Some a ≡ Some b → a ≡ b
 some-same a b same = cc
@@ -70,10 +76,10 @@ roomy old new room lines lines_now spare lifted whole same has = record {
 }
 
 module _ {V : Type 0} (w : AllNodes V) (is : IsWorld w) where
-  -- the same with other lines
-  pub lined : (lines : List Line) → IsWorld (record w { lines = lines })
-  lined lines =
-      record { devices = is.devices; lock_bits = is.lock_bits; least = is.least; greatest = is.greatest; count = is.count; out = is.out; slots = is.slots }
+  -- the same with other lines, and another count
+  pub lined : (lines : List Line) (asks : ℕ) → IsWorld (record w { lines = lines; asks = asks })
+  lined lines asks =
+      record { devices = is.devices; lock_bits = is.lock_bits; least = is.least; greatest = is.greatest; fine = is.fine; count = is.count; out = is.out; slots = is.slots }
 
   module _ (whole : w.lifted ≡ None) where
     -- each lock has an open directory
@@ -92,14 +98,15 @@ module _ {V : Type 0} (w : AllNodes V) (is : IsWorld w) where
         opened-same a b same = cc
 
     -- one directory after a step, with other lines
-    pub stepped : (l : ℕ) (k n : Kept V) (lines : List Line) → slice_get w.slots l ≡ Some (slots.Open k) → n.secrets ≡ k.secrets → n.power ≡ k.power
+    pub stepped : (l : ℕ) (k n : Kept V) (lines : List Line) (asks : ℕ) → slice_get w.slots l ≡ Some (slots.Open k) → n.secrets ≡ k.secrets → n.power ≡ k.power
         → n.journal.max_entries ≡ k.journal.max_entries → n.journal.max_bytes ≡ k.journal.max_bytes
-        → IsWorld (record w { slots = slice_set w.slots l (slots.Open n); lines = lines })
-    stepped l k n lines at secrets power entries bytes = record {
+        → IsWorld (record w { slots = slice_set w.slots l (slots.Open n); lines = lines; asks = asks })
+    stepped l k n lines asks at secrets power entries bytes = record {
       devices = is.devices;
       lock_bits = is.lock_bits;
       least = is.least;
       greatest = is.greatest;
+      fine = is.fine;
       count = length-set w.slots l (slots.Open n) ∙ is.count;
       out = is.out;
       slots = λ m h. slot m (rw (← length-set w.slots l (slots.Open n)) h) (m == l) refl;

@@ -6,6 +6,7 @@ pub mod Lines
 pub mod Listing
 pub mod Machine
 pub mod Making
+pub mod PartReads
 pub mod Stepping
 pub mod Stopping
 pub mod Worlds

@@ -3,11 +3,13 @@
 use Rattle.std.specs.Prelude.{◌≡◌, ◌≢◌, ⊤, ℕ, ◌≤◌, Bool, true, ◌&&◌, List, [], ◌∷◌, ◌++◌, nat_eq, if◌then◌else◌, Contains}
 use Rattle.std.specs.Str.{bytes_eq}
 use Rattle.sw_core.specs.Limits.{empty_journal}
+use Rattle.sw_core.specs.PartReads.{IsReadOf, part_in}
 use Rattle.sw_hashpath.specs.declared.name.Name.{Name}
 use Rattle.sw_outside.specs.Faults.{HasRisen}
 use Rattle.sw_peer.specs.Histories.{History, StepChanges, StepReads}
-use Rattle.sw_peer.specs.Sights.{Sight}
+use Rattle.sw_peer.specs.Sights.{Nodes, Sight}
 use Rattle.sw_peer.specs.Journals.{Hash}
+use Rattle.sw_peer.specs.Parts.{IsOfPart}
 use Rattle.sw_peer.specs.Steps.{write_of}
 use Rattle.sw_peer.specs.declared.answer.Answer.{Answer}
 use Rattle.sw_peer.specs.declared.change.Change.{Change}
@@ -15,9 +17,10 @@ use Rattle.sw_peer.specs.declared.change.Change.TheVariants.{Receive}
 use Rattle.sw_peer.specs.declared.entry.ObjEntry.{ObjEntry}
 use Rattle.sw_peer.specs.declared.got.Got.{Got}
 use Rattle.sw_peer.specs.declared.line.Event.{Event}
-use Rattle.sw_peer.specs.declared.line.Event.TheVariants.{Changed, Listed, Read, Restarted}
+use Rattle.sw_peer.specs.declared.line.Event.TheVariants.{Changed, Listed, Read, ReadPart, Restarted}
 use Rattle.sw_peer.specs.declared.line.Line.{Line}
 use Rattle.sw_peer.specs.declared.link.Link.{Link}
+use Rattle.sw_peer.specs.declared.part_read.PartRead.{PartRead}
 use Rattle.sw_peer.specs.declared.link.Link.TheVariants.{Local, Sent}
 use Rattle.sw_state.specs.States.{state_of, writes_of}
 use Rattle.sw_state.specs.declared.state.State.{State}
@@ -58,21 +61,29 @@ pub data RunLine : Type 0 where
   Came : (line : Line) → RunLine
   Went : (from : ℕ) (message : Message) → RunLine
 
-module _ (lock : ℕ → Hash → ℕ) where
+module _ (nodes : Nodes) where
   -- a step that may change something: that of the lock's history, with what reached in place of what is held
   pub record MachineMakes (m : Machine) (device : ℕ) (name : Name) (change : Change) (answer : Answer) (added : List ObjEntry) (after : Machine) : Type 0 where
-    pub step : StepChanges true (m.seen (lock device name.hash)) (state m device name.hash) name change answer (after.seen (lock device name.hash)) (state after device name.hash)
+    pub step : StepChanges true (m.seen (nodes.lock device name.hash)) (state m device name.hash) name change answer (after.seen (nodes.lock device name.hash)) (state after device name.hash)
     pub added_is : added ≡ step.added
     pub reached : (d : ℕ) (k : Hash) → after.reached d k ≡ reached_with m.reached device name.hash (made_writes change step.made) d k
-    pub elsewhere : (l : ℕ) → l ≢ lock device name.hash → after.seen l ≡ m.seen l
+    pub elsewhere : (l : ℕ) → l ≢ nodes.lock device name.hash → after.seen l ≡ m.seen l
     pub sent : after.sent ≡ m.sent
 
   -- a read
   pub record MachineReads (m : Machine) (device : ℕ) (name : Name) (got : Got) (added : List ObjEntry) (after : Machine) : Type 0 where
-    pub step : StepReads true (m.seen (lock device name.hash)) name.hash got (after.seen (lock device name.hash)) (state m device name.hash)
+    pub step : StepReads true (m.seen (nodes.lock device name.hash)) name.hash got (after.seen (nodes.lock device name.hash)) (state m device name.hash)
     pub added_is : added ≡ step.added
     pub reached : (d : ℕ) (k : Hash) → after.reached d k ≡ m.reached d k
-    pub elsewhere : (l : ℕ) → l ≢ lock device name.hash → after.seen l ≡ m.seen l
+    pub elsewhere : (l : ℕ) → l ≢ nodes.lock device name.hash → after.seen l ≡ m.seen l
+    pub sent : after.sent ≡ m.sent
+
+  -- a read of a partition
+  pub record MachineReadsPart (m : Machine) (device : ℕ) (read : PartRead) (added : List ObjEntry) (after : Machine) : Type 0 where
+    pub of_part : (hash : Hash) × IsOfPart nodes.power (part_in read) hash  -- it is one of the nodes' partitions
+    pub step : IsReadOf nodes (m.seen (nodes.part_lock device (part_in read))) read added (after.seen (nodes.part_lock device (part_in read))) (state m device)
+    pub reached : (d : ℕ) (k : Hash) → after.reached d k ≡ m.reached d k
+    pub elsewhere : (l : ℕ) → l ≢ nodes.part_lock device (part_in read) → after.seen l ≡ m.seen l
     pub sent : after.sent ≡ m.sent
 
   -- what was sent is on its way for good: each step from then on may be its coming, again and again
@@ -82,14 +93,14 @@ module _ (lock : ℕ → Hash → ℕ) where
 
   -- each lock of a device begins anew with what reached
   pub record MachineRestarts (m : Machine) (device : ℕ) (after : Machine) : Type 0 where
-    pub told : (k : Hash) → (after.seen (lock device k)).told ≡ (m.seen (lock device k)).told
-    pub opening : (k : Hash) → (after.seen (lock device k)).opening k ≡ state m device k
-    pub entries : (k : Hash) → (after.seen (lock device k)).journal.entries ≡ []
-    pub doubts : (k : Hash) → (after.seen (lock device k)).journal.doubts ≡ []
-    pub max_entries : (k : Hash) → (after.seen (lock device k)).journal.max_entries ≡ (m.seen (lock device k)).journal.max_entries
-    pub max_bytes : (k : Hash) → (after.seen (lock device k)).journal.max_bytes ≡ (m.seen (lock device k)).journal.max_bytes
-    pub faults : (k : Hash) → (m.seen (lock device k)).faults ≤ (after.seen (lock device k)).faults
-    pub elsewhere : (d : ℕ) (k : Hash) → d ≢ device → after.seen (lock d k) ≡ m.seen (lock d k)
+    pub told : (k : Hash) → (after.seen (nodes.lock device k)).told ≡ (m.seen (nodes.lock device k)).told
+    pub opening : (k : Hash) → (after.seen (nodes.lock device k)).opening k ≡ state m device k
+    pub entries : (k : Hash) → (after.seen (nodes.lock device k)).journal.entries ≡ []
+    pub doubts : (k : Hash) → (after.seen (nodes.lock device k)).journal.doubts ≡ []
+    pub max_entries : (k : Hash) → (after.seen (nodes.lock device k)).journal.max_entries ≡ (m.seen (nodes.lock device k)).journal.max_entries
+    pub max_bytes : (k : Hash) → (after.seen (nodes.lock device k)).journal.max_bytes ≡ (m.seen (nodes.lock device k)).journal.max_bytes
+    pub faults : (k : Hash) → (m.seen (nodes.lock device k)).faults ≤ (after.seen (nodes.lock device k)).faults
+    pub elsewhere : (d : ℕ) (k : Hash) → d ≢ device → after.seen (nodes.lock d k) ≡ m.seen (nodes.lock d k)
     pub reached : (d : ℕ) (k : Hash) → after.reached d k ≡ m.reached d k
     pub sent : after.sent ≡ m.sent
 
@@ -97,7 +108,7 @@ module _ (lock : ℕ → Hash → ℕ) where
   pub record MachineLists (m : Machine) (device : ℕ) (failed : Bool) (after : Machine) : Type 0 where
     pub same : (l : ℕ) → after.seen l ≡ record (m.seen l) { faults = (after.seen l).faults }
     pub later : (l : ℕ) → (m.seen l).faults ≤ (after.seen l).faults
-    pub elsewhere : (d : ℕ) (k : Hash) → d ≢ device → after.seen (lock d k) ≡ m.seen (lock d k)
+    pub elsewhere : (d : ℕ) (k : Hash) → d ≢ device → after.seen (nodes.lock d k) ≡ m.seen (nodes.lock d k)
     pub risen : failed ≡ true → (l : ℕ) × HasRisen (m.seen l).faults (after.seen l).faults
     pub reached : (d : ℕ) (k : Hash) → after.reached d k ≡ m.reached d k
     pub sent : after.sent ≡ m.sent
@@ -106,6 +117,7 @@ module _ (lock : ℕ → Hash → ℕ) where
   abbrev pub MachineComes : Machine → Link → ℕ → Event → List ObjEntry → Machine → Type 0
   MachineComes m link device (Changed name change answer) added after = MayCome m link device name change × MachineMakes m device name change answer added after
   MachineComes m link device (Read name got) added after = MachineReads m device name got added after
+  MachineComes m link device (ReadPart read) added after = MachineReadsPart m device read added after
   MachineComes m link device (Listed failed) added after = (added ≡ []) × MachineLists m device failed after
   MachineComes m link device Restarted added after = (added ≡ []) × MachineRestarts m device after
 

@@ -1,14 +1,18 @@
 -- A step at one lock, with its line. (This project's own.)
-use Rattle.std.specs.Prelude.{◌≡◌, ℕ, Bool}
+use Rattle.std.specs.Prelude.{◌≡◌, ℕ, Bool, Result}
 use Rattle.sw_hashpath.specs.declared.name.Name.{Name}
 use Rattle.sw_objdir.specs.Directories.{Kept}
-use Rattle.sw_objdir.specs.Stepping.{IsReadStep, IsStep}
+use Rattle.sw_objdir.specs.Stepping.{IsPartStep, IsReadStep, IsStep}
 use Rattle.sw_peer.specs.declared.answer.Answer.{Answer}
 use Rattle.sw_peer.specs.declared.change.Change.{Change}
 use Rattle.sw_peer.specs.declared.got.Got.{Got}
-use Rattle.sw_peer.specs.declared.line.Event.TheVariants.{Changed, Read}
+use Rattle.sw_peer.specs.declared.line.Event.TheVariants.{Changed, Read, ReadPart}
 use Rattle.sw_peer.specs.declared.line.Line.{Line}
 use Rattle.sw_peer.specs.declared.link.Link.{Link}
+use Rattle.sw_peer.specs.Journals.{Hash}
+use Rattle.sw_peer.specs.declared.dir_fault.DirFault.{DirFault}
+use Rattle.sw_peer.specs.declared.part_read.PartRead.{PartRead}
+use Rattle.sw_state.specs.declared.state.State.{State}
 use Rattle.sw_volume.specs.Tree.{Folders}
 
 module _ {V : Type 0} (tells : V → Bool) (files : V → Folders) (faults : V → ℕ) where
@@ -21,3 +25,9 @@ module _ {V : Type 0} (tells : V → Bool) (files : V → Folders) (faults : V �
   pub record IsGotIn (k : Kept V) (link : Link) (device : ℕ) (name : Name) (got : Got) (n : Kept V) (line : Line) : Type 0 where
     pub step : IsReadStep tells files faults k name got n
     pub line_is : line ≡ record { device = device; link = link; event = Read name got; added = step.read.added }
+
+  -- a read of a partition
+  pub record IsPartIn {A : Type 0} (k : Kept V) (link : Link) (device : ℕ) (at : Hash → Type 0) (damages : Bool) (reading : Bool → (Hash → State) → A → Type 0)
+      (read : Result A DirFault → PartRead) (got : Result A DirFault) (n : Kept V) (line : Line) : Type 0 where
+    pub step : IsPartStep tells files faults k at damages reading got n
+    pub line_is : line ≡ record { device = device; link = link; event = ReadPart (read got); added = step.read.added }

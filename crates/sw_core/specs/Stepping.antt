@@ -10,7 +10,7 @@ use Rattle.sw_peer.specs.declared.link.Link.{Link}
 use Rattle.sw_peer.specs.declared.link.Link.TheVariants.{Local, Sent}
 use Rattle.sw_core.specs.Doors.{StandsFor}
 use Rattle.sw_core.specs.Machine.{Came, Machine, RunLine, Runs, Went}
-use Rattle.sw_core.specs.Worlds.{is_hashed}
+use Rattle.sw_hashdir.specs.Steps.{is_hashed}
 use Rattle.sw_core.specs.declared.step.Step.{Step}
 use Rattle.sw_core.specs.declared.step.Step.TheVariants as steps
 
@@ -25,6 +25,7 @@ MayBeMade devices secrets (steps.Restart device) = device < devices
 abbrev pub step_by : Link → ℕ → Event → Option Step
 step_by Local device (events.Changed name change answer) = Some (steps.Change device name change)
 step_by Local device (events.Read name got) = Some (steps.Read device name)
+step_by Local device (events.ReadPart read) = None
 step_by Local device (events.Listed failed) = Some (steps.List device)
 step_by Local device events.Restarted = Some (steps.Restart device)
 step_by Sent device event = None
@@ -47,4 +48,4 @@ pub record AreMade (made : List Step) (old new : Sight) : Type 0 where
   pub kept : new.trail ≡ option_map (λ lines. lines ++ came_in run) old.trail
   pub nodes : new.nodes ≡ old.nodes
   pub alone : new.alone ≡ old.alone
-  pub runs : (m : Machine) → StandsFor old m → (after : Machine) × Runs old.nodes.lock m run after × StandsFor new after
+  pub runs : (m : Machine) → StandsFor old m → (after : Machine) × Runs old.nodes m run after × StandsFor new after

@@ -1,21 +1,18 @@
 -- What a world is, and what its user knows of its nodes. (This project's own.)
-use Rattle.std.specs.Prelude.{◌≡◌, ⊤, ℕ, ◌+◌, ◌*◌, ◌%◌, ◌^◌, ◌<◌, ◌≤◌, ◌⊎◌, Bool, true, false, ◌&&◌, nat_le, nat_lt, List, [], ◌∷◌, ◌++◌, length, map, Option}
+use Rattle.std.specs.Prelude.{◌≡◌, refl, ⊤, ℕ, ◌+◌, ◌-◌, ◌*◌, ◌/◌, ◌%◌, ◌^◌, ◌<◌, ◌≤◌, ◌⊎◌, Bool, true, false, ◌&&◌, nat_le, nat_lt, List, [], ◌∷◌, ◌++◌, length, map, Option}
 use Rattle.std.specs.Prelude.{Some, None, is_none, IsSome}
 use Rattle.std.specs.List.{flat_map, slice_get}
-use Rattle.std.specs.Str.{bytes_eq}
 use Rattle.std.specs.declared.alloc.Global.{Global}
 use Rattle.std.specs.declared.vec.Vec.{Vec}
 use Rattle.sw_core.specs.Limits.{journal_bytes, journal_entries}
 use Rattle.sw_core.specs.Machine.{empty_history}
 use Rattle.sw_core.specs.declared.slot.Slot.{Slot}
 use Rattle.sw_core.specs.declared.slot.Slot.TheVariants as slots
-use Rattle.sw_hashpath.specs.BadNames.{bad_name}
-use Rattle.sw_hashpath.specs.HashParts.{stripe_of}
-use Rattle.sw_hashpath.specs.Paths.{hash_of}
-use Rattle.sw_hashpath.specs.declared.name.Name.{Name}
+use Rattle.sw_hashpath.specs.HashParts.{partition_of}
 use Rattle.sw_hashpath.specs.declared.place.Place.{Place}
 use Rattle.sw_hashpath.specs.declared.secrets.Secrets.{Secrets}
 use Rattle.sw_hashdir.specs.Places.{in_order}
+use Rattle.sw_hashdir.specs.Steps.{is_hashed}
 use Rattle.sw_objdir.specs.Directories.{Kept, held, history_of, is_told, started}
 use Rattle.sw_peer.specs.Halves.{HistoryOf}
 use Rattle.sw_peer.specs.Histories.{History}
@@ -36,14 +33,22 @@ pub record AllNodes (V : Type 0) : Type 0 where
   pub secrets : Secrets
   pub slots : List (Slot V)  -- one a lock
   pub lines : List Line  -- of what came since they were last taken
+  pub asks : ℕ  -- how many messages asked for hashes or files
   pub lifted : Option ℕ  -- the device whose volumes are out
 
 -- ---- places
 
--- the lock of a hash at a device: those of a device stand together, one a stripe. The hash of a name is 16 bytes, so that its stripe is
--- below 2 to the lock bits, and the remainder is the stripe itself
-abbrev pub lock_of : ℕ → ℕ → Hash → ℕ
-lock_of lock_bits device hash = device * 2 ^ lock_bits + stripe_of hash lock_bits % 2 ^ lock_bits
+-- the stripe of a partition: its first lock_bits bits. A partition is below 2 to the power, so that the remainder is the stripe itself
+abbrev pub stripe_at : ℕ → ℕ → ℕ → ℕ
+stripe_at lock_bits power part = part / 2 ^ (power - lock_bits) % 2 ^ lock_bits
+
+-- the lock of a partition at a device: those of a device stand together, one a stripe
+abbrev pub part_lock_of : ℕ → ℕ → ℕ → ℕ → ℕ
+part_lock_of lock_bits power device part = device * 2 ^ lock_bits + stripe_at lock_bits power part
+
+-- the lock of a hash at a device: that of its partition
+abbrev pub lock_of : ℕ → ℕ → ℕ → Hash → ℕ
+lock_of lock_bits power device hash = part_lock_of lock_bits power device (partition_of hash power)
 
 -- the first lock of a device, and the place past its last one
 abbrev pub first_of : ℕ → ℕ → ℕ
@@ -70,6 +75,7 @@ IsSlot secrets power true slot = slot ≡ Some (slots.Lifted secrets)
 pub record IsWorld {V : Type 0} (w : AllNodes V) : Type 0 where
   pub devices : w.devices ≤ 256
   pub lock_bits : w.lock_bits ≤ 4
+  pub fine : w.lock_bits ≤ w.power  -- so that a partition is under one lock
   pub least : 1 ≤ w.power
   pub greatest : w.power ≤ 32
   pub count : length w.slots ≡ w.devices * 2 ^ w.lock_bits
@@ -78,15 +84,18 @@ pub record IsWorld {V : Type 0} (w : AllNodes V) : Type 0 where
 
 -- ---- what its user knows
 
--- whether a name is a good one, and its hash that of its path under these secrets
-abbrev pub is_hashed : Secrets → Name → Bool
-is_hashed secrets name =
-    bytes_eq (hash_of secrets name.account (Some name.container) (Some name.object)) name.hash
-    && is_none (bad_name name.account (Some name.container) (Some name.object))
-
 abbrev pub nodes_of : ℕ → ℕ → ℕ → Secrets → Nodes
 nodes_of devices lock_bits power secrets =
-    record { devices = devices; lock_bits = lock_bits; power = power; secrets = secrets; fits = is_hashed secrets; lock = lock_of lock_bits }
+    record {
+      devices = devices;
+      lock_bits = lock_bits;
+      power = power;
+      secrets = secrets;
+      fits = is_hashed secrets;
+      lock = lock_of lock_bits power;
+      part_lock = part_lock_of lock_bits power;
+      one_lock = λ device hash digest. refl;
+    }
 
 -- how many devices may be asked: none while one is out
 abbrev pub shown : Option ℕ → ℕ → ℕ
@@ -117,12 +126,12 @@ module _ {V : Type 0} (tells : V → Bool) (files : V → Folders) (faults : V �
     nodes = nodes_of (shown w.lifted w.devices) w.lock_bits w.power w.secrets;
     objects = record {
       seen = λ l. seen_of (slice_get w.slots l);
-      holds = λ d hash. held_of (slice_get w.slots (lock_of w.lock_bits d hash)) hash;
+      holds = λ d hash. held_of (slice_get w.slots (lock_of w.lock_bits w.power d hash)) hash;
     };
     containers = record { seen = λ l. no_containers; holds = λ d place. tt };
     alone = true;
     faults = 0;
-    asks = 0;
+    asks = w.asks;
     trail = Some w.lines;
   }
 
@@ -137,6 +146,7 @@ opened ring volumes = record {
   secrets = ring.secrets;
   slots = map (λ v. slots.Open (started v ring.secrets ring.power journal_entries journal_bytes)) volumes;
   lines = [];
+  asks = 0;
   lifted = None;
 }
 
@@ -160,6 +170,7 @@ pub record IsSameWorld {V : Type 0} (old new : AllNodes V) : Type 0 where
   pub lock_bits : new.lock_bits ≡ old.lock_bits
   pub power : new.power ≡ old.power
   pub secrets : new.secrets ≡ old.secrets
+  pub asks : new.asks ≡ old.asks
   pub lifted : new.lifted ≡ old.lifted
 
 -- ---- lifting and setting down

@@ -1,6 +1,6 @@
 //! Laws of runs. Each function does nothing: its clause is the law.
 
-ghost use Rattle.sw_core.specs.Doors.{ChangeRuns, ListingRuns, ReadRuns, RestartRuns};
+ghost use Rattle.sw_core.specs.Doors.{ChangeRuns, FilesRuns, HashesRuns, ListingRuns, ReadRuns, RestartRuns, WriteRuns};
 ghost use Rattle.sw_core.specs.Lifting.{LiftingRestarts};
 ghost use Rattle.sw_core.specs.Laws.{RunEnters, RunReaches, RunSound, RunStands, RunsJoin};
 
@@ -34,6 +34,21 @@ pub fn change_runs()
 /// So is a read.
 pub fn read_runs()
     ensures { ReadRuns }
+{}
+
+/// So is a read of what is compared of a partition.
+pub fn hashes_runs()
+    ensures { HashesRuns }
+{}
+
+/// So is a read of the files of a suffix.
+pub fn files_runs()
+    ensures { FilesRuns }
+{}
+
+/// So is a read of a file.
+pub fn write_runs()
+    ensures { WriteRuns }
 {}
 
 /// So is a listing of all files of a device.

@@ -1,35 +1,44 @@
 //! A step at one lock, with its line.
 
-ghost use Rattle.std.specs.Prelude.{◌≡◌, IfOk};
-ghost use Rattle.sw_core.specs.Lines.{brief_in, doubt_in, settled_brief};
+ghost use Rattle.std.specs.Prelude.{◌≡◌, ◌<◌, ◌^◌, ⊤, true, false, IfOk};
+ghost use Rattle.sw_core.specs.Lines.{briefs_in, doubt_in, settled_briefs};
 ghost use Rattle.sw_peer.specs.Lines.{own_by};
-ghost use Rattle.sw_core.specs.Making.{IsChangedIn, IsGotIn};
-ghost use Rattle.sw_hashdir.specs.Steps.{IsHashed};
+ghost use Rattle.sw_core.specs.Making.{IsChangedIn, IsGotIn, IsPartIn};
+ghost use Rattle.sw_hashdir.specs.Steps.{IsHashed, is_hashed};
+ghost use Rattle.sw_hashpath.specs.HashParts.{suffix_of};
+ghost use Rattle.sw_peer.specs.Parts.{AreHashes, AreLines, IsFile, IsOfPart};
+ghost use Rattle.sw_peer.specs.declared.part_read.PartRead.TheVariants.{Files, Hashes, Write};
 ghost use Rattle.sw_journal.specs.Entries.{first_in};
 
 use crate::slot::Slot;
 use std::alloc::Global;
+use sw_diskfile::FileName;
 use sw_hashpath::Name;
 use sw_objdir::ObjDir;
 use sw_outside::NoMemory;
-use sw_peer::{Answer, Brief, Change, ChangeSeen, Event, Got, KeptLine, Line, Link, Seen};
+use sw_peer::{
+    Answer, Brief, Change, ChangeSeen, DirFault, Event, Got, KeptLine, Line, Link, PartRead, Seen,
+    Stored,
+};
+use sw_suffix::{DirLine, SuffixHash};
 use sw_volume::Volume;
 
-/// What a trail prints of the doubt of a hash, where the lock has one.
+/// What a trail prints of the doubt of a hash: a list of one, where the lock has one.
 pub(crate) fn doubted_in<V: Volume + Drop>(
     alloc: Global,
     place: &Slot<V>,
     hash: &[u8; 16],
-) -> Result<Option<Brief>, NoMemory>
-    ensures { IfOk result (λ brief. brief ≡ doubt_in place.now hash.now) }
+) -> Result<Vec<Brief>, NoMemory>
+    ensures { IfOk result (λ briefs. briefs.items ≡ doubt_in place.now hash.now) }
 {
+    let mut briefs = Vec::new(alloc);
     let Slot::Open(dir) = place else {
-        return Ok(None);
+        return Ok(briefs);
     };
-    match dir.doubted(hash) {
-        Some(entry) => Ok(Some(entry.brief(alloc)?)),
-        None => Ok(None),
+    if let Some(entry) = dir.doubted(hash) {
+        briefs.push(entry.brief(alloc)?)?;
     }
+    Ok(briefs)
 }
 
 /// Makes a step that may change the name, and its line. `doubted` is what a trail prints of the name's doubt.
@@ -41,11 +50,11 @@ pub(crate) fn change_in<V: Volume + Drop>(
     name: &Name,
     line_name: Name,
     change: Change,
-    doubted: Option<Brief>,
+    doubted: Vec<Brief>,
 ) -> (Answer, KeptLine)
     requires hashed { IsHashed dir.old.secrets name.now }
     requires named { line_name ≡ name.now }
-    requires doubted { doubted ≡ brief_in (first_in name.now.hash dir.old.journal.doubts) }
+    requires doubted { doubted.items ≡ briefs_in (first_in name.now.hash dir.old.journal.doubts) }
     ensures { IsChangedIn V.tells V.holds V.faults dir.old link device name.now change result.0 dir.new result.1 }
 {
     let from = dir.front();
@@ -69,10 +78,10 @@ pub(crate) fn get_in<V: Volume + Drop>(
     link: Link,
     device: u8,
     name: &Name,
-    doubted: Option<Brief>,
+    doubted: Vec<Brief>,
 ) -> (Got, KeptLine)
     requires hashed { IsHashed dir.old.secrets name.now }
-    requires doubted { doubted ≡ brief_in (first_in name.now.hash dir.old.journal.doubts) }
+    requires doubted { doubted.items ≡ briefs_in (first_in name.now.hash dir.old.journal.doubts) }
     ensures { IsGotIn V.tells V.holds V.faults dir.old link device name.now result.0 dir.new result.1 }
 {
     let from = dir.front();
@@ -88,6 +97,82 @@ pub(crate) fn get_in<V: Volume + Drop>(
     (got, KeptLine::new(line, settled))
 }
 
+/// Reads what is compared of a partition, and makes the line of that.
+pub(crate) fn hashes_in<V: Volume + Drop>(
+    alloc: Global,
+    dir: &mut ObjDir<V>,
+    link: Link,
+    device: u8,
+    part: u32,
+) -> (Result<Vec<SuffixHash>, DirFault>, KeptLine)
+    requires part { part < 2 ^ dir.old.power }
+    ensures { IsPartIn V.tells V.holds V.faults dir.old link device (λ hash. IsOfPart dir.old.power part hash × ⊤) false
+        (λ told s got. AreHashes dir.old.power part told s got.items) (λ got. Hashes part got) result.0 dir.new result.1 }
+{
+    let from = dir.front();
+    let mut settled = Vec::new(alloc);
+    let got = dir.hashes(alloc, part, &mut settled);
+    let line = Line {
+        device,
+        link,
+        event: Event::ReadPart(PartRead::Hashes(part, Seen::of(&got))),
+        added: dir.added_since(from),
+    };
+    (got, KeptLine::new(line, settled))
+}
+
+/// Reads the files of a suffix of a partition, and makes the line of that.
+pub(crate) fn files_in<V: Volume + Drop>(
+    alloc: Global,
+    dir: &mut ObjDir<V>,
+    link: Link,
+    device: u8,
+    part: u32,
+    suffix: u16,
+) -> (Result<Vec<DirLine>, DirFault>, KeptLine)
+    requires part { part < 2 ^ dir.old.power }
+    requires suffix { suffix < 4096 }
+    ensures { IsPartIn V.tells V.holds V.faults dir.old link device (λ hash. IsOfPart dir.old.power part hash × (suffix_of hash ≡ suffix)) false
+        (λ told s got. AreLines dir.old.power part suffix told s got.items) (λ got. Files part suffix got) result.0 dir.new result.1 }
+{
+    let from = dir.front();
+    let mut settled = Vec::new(alloc);
+    let got = dir.files_of(alloc, part, suffix, &mut settled);
+    let line = Line {
+        device,
+        link,
+        event: Event::ReadPart(PartRead::Files(part, suffix, Seen::of(&got))),
+        added: dir.added_since(from),
+    };
+    (got, KeptLine::new(line, settled))
+}
+
+/// Reads a file of a hash of a partition, and makes the line of that.
+pub(crate) fn write_in<V: Volume + Drop>(
+    alloc: Global,
+    dir: &mut ObjDir<V>,
+    link: Link,
+    device: u8,
+    part: u32,
+    hash: &[u8; 16],
+    file: &FileName,
+) -> (Result<Option<Stored>, DirFault>, KeptLine)
+    requires within { IsOfPart dir.old.power part hash.now }
+    ensures { IsPartIn V.tells V.holds V.faults dir.old link device (λ other. IsOfPart dir.old.power part other × (other ≡ hash.now)) true
+        (λ told s got. IsFile (is_hashed dir.old.secrets) hash.now file.now told s got) (λ got. Write part hash.now file.now got) result.0 dir.new result.1 }
+{
+    let from = dir.front();
+    let mut settled = Vec::new(alloc);
+    let got = dir.read_write(alloc, part, hash, file, &mut settled);
+    let line = Line {
+        device,
+        link,
+        event: Event::ReadPart(PartRead::Write(part, *hash, *file, Seen::of(&got))),
+        added: dir.added_since(from),
+    };
+    (got, KeptLine::new(line, settled))
+}
+
 /// How many entries a step added for its own write, by its answer.
 fn own_entries(answer: &Answer) -> u64
     ensures { result ≡ own_by answer.now }
@@ -99,8 +184,12 @@ fn own_entries(answer: &Answer) -> u64
 }
 
 /// The doubt, where more entries were added than those of the step's own write: then it was settled, and its write had been made.
-fn settled_of(doubted: Option<Brief>, added: u64, own: u64) -> Option<Brief>
-    ensures { result ≡ settled_brief doubted added own }
+fn settled_of(doubted: Vec<Brief>, added: u64, own: u64) -> Vec<Brief>
+    ensures { result.items ≡ settled_briefs doubted.items added own }
 {
-    if own < added { doubted } else { None }
+    let mut settled = doubted;
+    if added <= own {
+        settled.clear();
+    }
+    settled
 }

@@ -1,6 +1,7 @@
 ghost use Rattle.std.specs.Prelude.{◌≡◌, ◌<◌, true, false, List, [], ◌∷◌, ◌++◌, All, None, OnOk, OnErr, ◌⊎◌};
 ghost use Rattle.sw_core.specs.Stepping.{AreMade, MayBeMade};
-ghost use Rattle.sw_core.specs.Worlds.{is_hashed, sight_of};
+ghost use Rattle.sw_core.specs.Worlds.{sight_of};
+ghost use Rattle.sw_hashdir.specs.Steps.{is_hashed};
 ghost use Rattle.sw_peer.specs.Sights.{is_wanting, is_wanting_read};
 ghost use Rattle.sw_core.specs.declared.step.Step.{Step};
 ghost use Rattle.sw_core.specs.declared.step.Step.TheVariants as step_kinds;

@@ -1,7 +1,7 @@
 ghost use Rattle.std.specs.Prelude.{◌≡◌, ◌*◌, ◌<◌, ◌≤◌, ◌^◌, ◌⊎◌, false, [], length, Err, IfOk, IfErr, OnErr, None, Some};
 ghost use Rattle.sw_core.specs.Listing.{AreCalm, ListsFiles, is_failed};
 ghost use Rattle.sw_core.specs.Stopping.{Gives};
-ghost use Rattle.sw_core.specs.Worlds.{IsWorld, IsSameWorld, Lifts, SetsDown, lock_of, opened, sight_of, volumes_of, without_lines};
+ghost use Rattle.sw_core.specs.Worlds.{IsWorld, IsSameWorld, Lifts, SetsDown, lock_of, opened, part_lock_of, sight_of, volumes_of, without_lines};
 ghost use Rattle.sw_peer.specs.Sights.{IsListed};
 ghost use Rattle.sw_volume.specs.declared.errors.VolumeError.TheVariants.{NoMemory as Wanting};
 
@@ -19,7 +19,7 @@ use crate::world::slots::{
 use std::alloc::Global;
 use std::marker::Model;
 use std::mem;
-use sw_hashpath::{Secrets, stripe};
+use sw_hashpath::{Secrets, partition};
 use sw_outside::{BytesList, NoMemory};
 use sw_peer::KeptLine;
 use sw_ring::Ring;
@@ -36,6 +36,8 @@ pub struct World<V: Volume + Drop> {
     secrets: Secrets,
     slots: Vec<Slot<V>>,
     lines: Vec<KeptLine>,
+    /// How many messages asked for hashes or files.
+    asks: u64,
     lifted: Option<u8>,
     /// Empty, with room for all volumes, so that giving them back takes no memory.
     room: Vec<V>,
@@ -56,6 +58,7 @@ impl<V: Volume + Drop> Model for World<V> {
       secrets = w.secrets;
       slots = w.slots.items;
       lines = w.lines.items;
+      asks = w.asks;
       lifted = w.lifted;
     } };
 
@@ -66,6 +69,7 @@ impl<V: Volume + Drop> Model for World<V> {
       secrets = w.secrets;
       slots = w.slots.items;
       lines = w.lines.items;
+      asks = w.asks;
       lifted = w.lifted;
     })
         × HasRoom w.slots.items w.room w.lines w.spare w.lifted };
@@ -97,6 +101,7 @@ impl<V: Volume + Drop> World<V> {
             secrets,
             slots,
             lines: Vec::new(alloc),
+            asks: 0,
             lifted: None,
             room,
             spare: Vec::new(alloc),
@@ -191,10 +196,21 @@ impl<V: Volume + Drop> World<V> {
     /// The place of the lock of a hash at a device.
     pub(crate) fn lock(&self, device: u8, hash: &[u8; 16]) -> usize
         requires { device < self.now.devices }
-        ensures lock { result ≡ lock_of self.now.lock_bits device hash.now }
+        ensures lock { result ≡ lock_of self.now.lock_bits self.now.power device hash.now }
         ensures within { result < length self.now.slots }
     {
-        usize::from(device) * stripes(self.lock_bits) + usize::from(stripe(hash, self.lock_bits))
+        self.lock_of_part(device, partition(hash, self.power))
+    }
+
+    /// The place of the lock of a partition at a device: its stripe is its first bits.
+    pub(crate) fn lock_of_part(&self, device: u8, part: u32) -> usize
+        requires device { device < self.now.devices }
+        requires part { part < 2 ^ self.now.power }
+        ensures lock { result ≡ part_lock_of self.now.lock_bits self.now.power device part }
+        ensures within { result < length self.now.slots }
+    {
+        let stripe = u64::from(part) >> (self.power - self.lock_bits);
+        usize::from(device) * stripes(self.lock_bits) + stripe as usize
     }
 }
 

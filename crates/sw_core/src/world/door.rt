@@ -1,13 +1,16 @@
 ghost use Rattle.std.specs.Prelude.{◌≡◌, ◌<◌, Some, true};
 ghost use Rattle.std.specs.List.{slice_get};
 ghost use Rattle.sw_core.specs.Worlds.{sight_of};
+ghost use Rattle.sw_peer.specs.Sights.{asked};
 
-use crate::making::{change_in, doubted_in, get_in};
+use crate::making::{change_in, doubted_in, files_in, get_in, hashes_in, write_in};
 use crate::slot::Slot;
 use crate::world::World;
 use std::alloc::Global;
+use sw_diskfile::FileName;
 use sw_hashpath::Name;
-use sw_peer::{Answer, Change, Door, Got, Link, Lost, ObjectDoor};
+use sw_peer::{Answer, Change, DirFault, Door, Got, Link, Lost, ObjectDoor, ReplicaDoor, Stored};
+use sw_suffix::{DirLine, SuffixHash};
 use sw_volume::Volume;
 
 /// All nodes, of which nobody else changes one. No message is lost. A step that wants memory for its line, before it is made, is no step
@@ -57,5 +60,79 @@ impl<V: Volume + Drop> ObjectDoor for World<V> {
         let (got, line) = get_in(alloc, dir, link, device, name, doubted);
         self.lines.push_reserved(line);
         Ok(got)
+    }
+}
+
+impl<V: Volume + Drop> ReplicaDoor for World<V> {
+    fn hashes(
+        &mut self,
+        alloc: Global,
+        link: Link,
+        device: u8,
+        part: u32,
+    ) -> Result<Result<Vec<SuffixHash>, DirFault>, Lost> {
+        self.asks = asked_after(link, self.asks);
+        if self.lines.reserve(1).is_err() {
+            return Ok(Err(DirFault::NoMemory));
+        }
+        let place = self.lock_of_part(device, part);
+        let Slot::Open(dir) = &mut self.slots[place] else {
+            unreachable!()
+        };
+        let (got, line) = hashes_in(alloc, dir, link, device, part);
+        self.lines.push_reserved(line);
+        Ok(got)
+    }
+
+    fn files_of(
+        &mut self,
+        alloc: Global,
+        link: Link,
+        device: u8,
+        part: u32,
+        suffix: u16,
+    ) -> Result<Result<Vec<DirLine>, DirFault>, Lost> {
+        self.asks = asked_after(link, self.asks);
+        if self.lines.reserve(1).is_err() {
+            return Ok(Err(DirFault::NoMemory));
+        }
+        let place = self.lock_of_part(device, part);
+        let Slot::Open(dir) = &mut self.slots[place] else {
+            unreachable!()
+        };
+        let (got, line) = files_in(alloc, dir, link, device, part, suffix);
+        self.lines.push_reserved(line);
+        Ok(got)
+    }
+
+    fn read_write(
+        &mut self,
+        alloc: Global,
+        link: Link,
+        device: u8,
+        part: u32,
+        hash: &[u8; 16],
+        file: &FileName,
+    ) -> Result<Result<Option<Stored>, DirFault>, Lost> {
+        if self.lines.reserve(1).is_err() {
+            return Ok(Err(DirFault::NoMemory));
+        }
+        let place = self.lock_of_part(device, part);
+        let Slot::Open(dir) = &mut self.slots[place] else {
+            unreachable!()
+        };
+        let (got, line) = write_in(alloc, dir, link, device, part, hash, file);
+        self.lines.push_reserved(line);
+        Ok(got)
+    }
+}
+
+/// The count of messages that ask, after a read that is said so.
+fn asked_after(link: Link, asks: u64) -> u64
+    ensures { result ≡ asked asks link }
+{
+    match link {
+        Link::Local => asks,
+        Link::Sent => asks.saturating_add(1),
     }
 }

@@ -157,7 +157,7 @@ pub(crate) fn line_of_restart(alloc: Global, device: u8) -> KeptLine
             event: Event::Restarted,
             added: Added::since(&Vec::new(alloc), 0),
         },
-        None,
+        Vec::new(alloc),
     )
 }
 
@@ -181,6 +181,6 @@ pub(crate) fn line_of_listing(
             event: Event::Listed(failed),
             added: Added::since(&Vec::new(alloc), 0),
         },
-        None,
+        Vec::new(alloc),
     )
 }

@@ -1,6 +1,9 @@
-use Rattle.std.proofs.Common.{refl}
-use Rattle.sw_peer.specs.Sights.{is_wanting_read}
+use Rattle.std.proofs.Common.{refl, ap, Ok}
+use Rattle.sw_peer.proofs.Calls.{calls-moves, read-step}
+use Rattle.sw_peer.specs.Sights.{IsAt, IsRead, Moves, Nodes, is_wanting_read}
+use Rattle.sw_peer.specs.declared.link.Link.TheVariants.{Local}
 use Rattle.sw_core.proofs.Running.{made-read, tried, whole}
+use Rattle.sw_core.proofs.Wholes.{still-whole}
 use Rattle.sw_core.specs.Worlds.{sight_of}
 use Rattle.sw_core.proofs.run.read_at.Goals as goal
 
@@ -14,3 +17,11 @@ pub returns-clause-tried : goal.returns-clause-tried
 returns-clause-tried g c =
     let v = g.V.Volume in let s = sight_of v.tells v.holds v.faults c.args.world.now in let t = sight_of v.tells v.holds v.faults c.get.new.self in
     tried c.unless_wanting_read.result (is_wanting_read c.in-Ok.got) (made-read s t refl refl c.args.device c.args.name.now c.in-Ok.got c.in-Ok.ensures.read)
+
+pub returns-clause-whole : goal.returns-clause-whole
+returns-clause-whole g c =
+    let v = g.V.Volume in let s = sight_of v.tells v.holds v.faults c.args.world.now in let t = sight_of v.tells v.holds v.faults c.get.new.self in
+    let moves = calls-moves (Moves (IsAt c.args.device c.args.name.now.hash)) (IsRead Local c.args.device c.args.name.now)
+    (read-step Local c.args.device c.args.name.now) s Local (Ok c.in-Ok.got) t c.in-Ok.ensures.read in
+    still-whole c.args.world.now.lifted c.get.new.self.lifted c.args.device c.args.world.now.devices c.get.new.self.devices c.requires.whole c.requires.device
+    (ap (λ (n : Nodes). n.devices) moves.nodes)

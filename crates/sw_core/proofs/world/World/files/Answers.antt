@@ -18,6 +18,7 @@ invariant_of-self-2 g c =
       secrets = i.secrets;
       slots = i.slots.items;
       lines = i.lines.items;
+      asks = i.asks;
       lifted = i.lifted;
     } in
     let whole : i.lifted ≡ None = rw (sym c.self.view_is) at c.requires.whole in
@@ -37,6 +38,7 @@ returns-clause-listed g c =
       secrets = i.secrets;
       slots = i.slots.items;
       lines = i.lines.items;
+      asks = i.asks;
       lifted = i.lifted;
     } in
     let whole : i.lifted ≡ None = rw (sym c.self.view_is) at c.requires.whole in

@@ -13,6 +13,7 @@ lift_slots-requires-clause-are_open g c =
       secrets = i.secrets;
       slots = i.slots.items;
       lines = i.lines.items;
+      asks = i.asks;
       lifted = i.lifted;
     } in
     let whole : i.lifted ≡ None = rw (sym c.self.view_is) at c.requires.whole in
@@ -29,6 +30,7 @@ invariant_of-self-2 g c =
       secrets = i.secrets;
       slots = i.slots.items;
       lines = i.lines.items;
+      asks = i.asks;
       lifted = i.lifted;
     } in
     let whole : i.lifted ≡ None = rw (sym c.self.view_is) at c.requires.whole in

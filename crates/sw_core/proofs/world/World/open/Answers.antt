@@ -21,7 +21,7 @@ invariant_of-result g c =
     omega (arith, c.open_slots.ensures.count, same-count g c, c.args.parts.volumes.ok.0, c.len-count.ensures, c.in-Ok-with_capacity.ensures.capacity) in (
       opened-world c.in-Ok.secrets ring.power c.args.parts.volumes.items c.in-Ok-lifted_slots.slots.items c.open_slots.new.places.items (same-count g c)
           (all-out g c) c.open_slots.ensures (length c.as_slice.result.now) ring.lock_bits
-          c.new.result.items few ring.few_lock_bits ring.least_power greatest amount,
+          c.new.result.items 0 few ring.few_lock_bits ring.lock_bits_within_power ring.least_power greatest amount,
       record {
         empty = c.in-Ok-with_capacity.ensures.items;
         wide = wide;

@@ -13,6 +13,7 @@ invariant_of-self g c =
       secrets = i.secrets;
       slots = i.slots.items;
       lines = i.lines.items;
+      asks = i.asks;
       lifted = i.lifted;
     } in
     let out : i.lifted ≡ Some c.args.device = rw (sym c.self.view_is) at c.requires.lifted in

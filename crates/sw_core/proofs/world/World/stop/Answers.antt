@@ -13,6 +13,7 @@ returns-clause-gives g c =
       secrets = i.secrets;
       slots = i.slots.items;
       lines = i.lines.items;
+      asks = i.asks;
       lifted = i.lifted;
     } in
     rw (sym c.self.view_is) (gives w c.self.invariant.0 c.volumes_in.result.items c.volumes_in.ensures)

@@ -3,8 +3,8 @@ use Rattle.sw_core.specs.Listing.{is_failed}
 use Rattle.sw_core.proofs.world.slots.line_of_listing.Goals as goal
 use Rattle.sw_core.proofs.world.slots.line_of_listing.Goals.{in-Ok, in-Err-Failed, in-Err-NoMemory}
 
-pub new-requires-2 : goal.new-requires-2
-new-requires-2 c = rw (c.since.ensures [] [] refl c.new.ensures.items) refl
+pub new-requires-3 : goal.new-requires-3
+new-requires-3 c = rw (c.since.ensures [] [] refl c.new.ensures.items) c.new-2.ensures.items
 
 said : (c : goal.After-drop-new) → c.match-listed.failed ≡ is_failed c.args.listed.now
 said c = elim c.match-listed.branch [

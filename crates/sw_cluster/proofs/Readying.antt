@@ -1,0 +1,19 @@
+-- A world over the nodes of a ring is ready where its volumes are out.
+use Rattle.std.proofs.Common.{◌≡◌, ℕ, Bool, length, Option, None, sym, ◌∙◌, ap}
+use Rattle.sw_core.specs.Worlds.{AllNodes, nodes_of, shown}
+use Rattle.sw_peer.specs.Sights.{Nodes}
+use Rattle.sw_ring.specs.declared.ring.Ring.{Ring}
+use Rattle.sw_cluster.specs.Nodes.{IsReady, places_of}
+
+pub ready-of : {V S : Type 0} (out : S → ℕ → ℕ → Bool) (ring : Ring) (w : AllNodes V) (stores : S) → w.lifted ≡ None
+    → nodes_of (shown w.lifted w.devices) w.lock_bits w.power w.secrets ≡ nodes_of (length ring.devices) ring.lock_bits ring.power ring.secrets
+    → ((d s : ℕ) → out stores d s ≡ places_of ring d s) → IsReady out ring w stores
+ready-of out ring w stores whole nodes are_out = record {
+  whole = whole;
+  nodes = nodes;
+  devices = sym (ap (λ (o : Option ℕ). shown o w.devices) whole) ∙ ap (λ (n : Nodes). n.devices) nodes;
+  lock_bits = ap (λ (n : Nodes). n.lock_bits) nodes;
+  power = ap (λ (n : Nodes). n.power) nodes;
+  secrets = ap (λ (n : Nodes). n.secrets) nodes;
+  are_out = are_out;
+}

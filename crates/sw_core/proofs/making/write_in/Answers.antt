@@ -1,0 +1,17 @@
+use Rattle.std.proofs.Common.{◌≡◌, refl, sym, ◌∙◌, ap}
+use Rattle.sw_core.proofs.Settling.{all-briefed}
+use Rattle.sw_core.proofs.making.write_in.Goals as goal
+
+pub new-requires : goal.new-requires
+new-requires g c =
+    let k = c.args.dir.now in
+    let read = c.read_write-got.ensures.read.read in
+    let added : c.added_since.result ≡ read.added = c.added_since.ensures k.journal.entries read.added c.front-from.ensures.length (read.adds refl) in
+    rw added (all-briefed k.journal (c.read_write-got.new.self).journal read.added (read.adds refl) c.new-settled.result.items c.read_write-got.new.settled.items c.new-settled.ensures.items c.read_write-got.ensures.briefs)
+
+pub returns : goal.returns
+returns g c =
+    let k = c.args.dir.now in
+    let read = c.read_write-got.ensures.read.read in
+    let added : c.added_since.result ≡ read.added = c.added_since.ensures k.journal.entries read.added c.front-from.ensures.length (read.adds refl) in
+    record { step = c.read_write-got.ensures.read; line_is = c.new.ensures ∙ rw (c.of.ensures, added) refl }
