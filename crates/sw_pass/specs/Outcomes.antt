@@ -1,0 +1,61 @@
+-- What a pass came to, and what each event counts for. (This project's own.)
+use Rattle.std.specs.Prelude.{◌==◌, ℕ, Bool, true, false, Option, None, Some}
+use Rattle.sw_outside.specs.Counts.{raised}
+use Rattle.sw_peer.specs.declared.answer.Answer.{Answer}
+use Rattle.sw_peer.specs.declared.answer.Answer.TheVariants as answers
+use Rattle.sw_peer.specs.declared.dir_fault.DirFault.{DirFault}
+use Rattle.sw_peer.specs.declared.dir_fault.DirFault.TheVariants as faults
+use Rattle.sw_pass.specs.declared.hindrance.Hindrance.{Hindrance}
+use Rattle.sw_pass.specs.declared.hindrance.Hindrance.TheVariants.{Failed, JournalFull, Missing}
+use Rattle.sw_pass.specs.declared.outcome.Outcome.{Outcome}
+
+-- ---- hindrances
+
+abbrev pub status_of : Hindrance → ℕ
+status_of Missing = 404
+status_of JournalFull = 503
+status_of Failed = 507
+
+-- want of memory hinders no pass, but ends it
+abbrev pub fault_hindrance : DirFault → Option Hindrance
+fault_hindrance (faults.Damaged bad) = Some Failed
+fault_hindrance faults.Failed = Some Failed
+fault_hindrance faults.NoMemory = None
+
+-- answers that acknowledge a transfer hinder it neither. A node refuses none by another answer than a conflict
+abbrev pub answer_hindrance : Answer → Option Hindrance
+answer_hindrance (answers.Done front) = None
+answer_hindrance (answers.Buried front) = None
+answer_hindrance (answers.Conflict time) = None
+answer_hindrance (answers.NotFound time) = Some Missing
+answer_hindrance (answers.Mismatch second) = Some Missing
+answer_hindrance answers.Exists = Some Missing
+answer_hindrance answers.JournalFull = Some JournalFull
+answer_hindrance (answers.Damaged bad) = Some Failed
+answer_hindrance answers.Failed = Some Failed
+answer_hindrance answers.NoMemory = None
+
+-- ---- counts
+
+abbrev pub nothing_yet : Outcome
+nothing_yet = record { done = false; lost = 0; kept = None; asked = 0; sent = 0; left = 0 }
+
+abbrev pub asking : Outcome → Outcome
+asking o = record o { asked = raised o.asked }
+
+abbrev pub sending : Outcome → Outcome
+sending o = record o { sent = raised o.sent }
+
+abbrev pub losing : Outcome → Outcome
+losing o = record o { lost = raised o.lost; left = raised o.left }
+
+abbrev pub first_kept : Option Hindrance → Hindrance → Option Hindrance
+first_kept None hindrance = Some hindrance
+first_kept (Some kept) hindrance = Some kept
+
+abbrev pub hindered : Outcome → Hindrance → Outcome
+hindered o hindrance = record o { kept = first_kept o.kept hindrance; left = raised o.left }
+
+-- done exactly where nothing is left
+abbrev pub finished : Outcome → Outcome
+finished o = record o { done = (o.left == 0) }

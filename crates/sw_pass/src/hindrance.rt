@@ -1,0 +1,57 @@
+ghost use Rattle.std.specs.Prelude.{◌≡◌};
+ghost use Rattle.sw_pass.specs.Outcomes.{answer_hindrance, fault_hindrance, status_of};
+
+use sw_peer::{Answer, DirFault};
+
+/// An answer that hindered a pass.
+#[derive(Clone, Copy, Debug, PartialEq, Eq)]
+pub enum Hindrance {
+    /// What the pass asked for isn't there any more.
+    Missing,
+    /// A journal has no room.
+    JournalFull,
+    /// A call of a volume failed, or a file is damaged.
+    Failed,
+}
+
+impl Hindrance {
+    /// The status of HTTP by which an outcome tells it.
+    pub fn status(&self) -> u16
+        ensures { result ≡ status_of self.now }
+    {
+        match self {
+            Hindrance::Missing => 404,
+            Hindrance::JournalFull => 503,
+            Hindrance::Failed => 507,
+        }
+    }
+
+    /// How a read of a partition that gave nothing hinders. `None` for want of memory, which ends a pass.
+    pub fn of_fault(fault: &DirFault) -> Option<Hindrance>
+        ensures { result ≡ fault_hindrance fault.now }
+    {
+        match fault {
+            DirFault::Damaged(_) => Some(Hindrance::Failed),
+            DirFault::Failed => Some(Hindrance::Failed),
+            DirFault::NoMemory => None,
+        }
+    }
+
+    /// How the answer of a transfer hinders. `None` for want of memory, and for the answers that acknowledge it.
+    pub fn of_answer(answer: &Answer) -> Option<Hindrance>
+        ensures { result ≡ answer_hindrance answer.now }
+    {
+        match answer {
+            Answer::JournalFull => Some(Hindrance::JournalFull),
+            Answer::Damaged(_) => Some(Hindrance::Failed),
+            Answer::Failed => Some(Hindrance::Failed),
+            Answer::NotFound(_) => Some(Hindrance::Missing),
+            Answer::Mismatch(_) => Some(Hindrance::Missing),
+            Answer::Exists => Some(Hindrance::Missing),
+            Answer::Done(_) => None,
+            Answer::Buried(_) => None,
+            Answer::Conflict(_) => None,
+            Answer::NoMemory => None,
+        }
+    }
+}

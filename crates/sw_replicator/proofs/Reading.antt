@@ -1,0 +1,263 @@
+-- What the reads of a push tell, and where its calls move.
+use Rattle.std.proofs.Common.{◌≡◌, ℕ, Bool, true, false, List, [], ◌∷◌, ◌++◌, get_or, refl, sym, ◌∙◌, ap, subst, ◌⊎◌, inl, inr, Option, Result, Ok, Err, IsOk}
+use Rattle.std.proofs.Common.{rules}
+use Rattle.std.specs.Bool.{⊤}
+use Rattle.std.specs.List.{All}
+use Rattle.std.specs.declared.alloc.Global.{Global}
+use Rattle.std.specs.declared.vec.Vec.{Vec}
+use Rattle.sw_diskfile.specs.declared.file_name.FileName.{FileName}
+use Rattle.sw_hashpath.specs.HashParts.{suffix_of}
+use Rattle.sw_hashpath.specs.declared.name.Name.{Name}
+use Rattle.sw_peer.proofs.Calls.{IsStep, calls-moves, comes-moves, made-step, moves-refl, moves-trans, moves-wider, part-step, same-refl}
+use Rattle.sw_peer.specs.Histories.{Grows, History, stands}
+use Rattle.sw_peer.specs.Journals.{Hash}
+use Rattle.sw_peer.specs.Parts.{AreHashes, AreLines, IsFile, IsOfPart}
+use Rattle.sw_peer.specs.Sights.{Calls, Comes, HoldsAll, IsAt, IsFilesRead, IsHashesRead, IsInPart, IsMade, IsPartRead, IsSame, IsWriteRead, Moves}
+use Rattle.sw_peer.specs.Sights.{Nodes, PartMoves, Sight}
+use Rattle.sw_peer.specs.declared.answer.Answer.{Answer}
+use Rattle.sw_peer.specs.declared.change.Change.{Change}
+use Rattle.sw_peer.specs.declared.dir_fault.DirFault.{DirFault}
+use Rattle.sw_peer.specs.declared.link.Link.{Link}
+use Rattle.sw_peer.specs.declared.link.Link.TheVariants.{Local, Sent}
+use Rattle.sw_peer.specs.declared.link.Lost.{Lost}
+use Rattle.sw_peer.specs.declared.part_read.PartRead.{PartRead}
+use Rattle.sw_peer.specs.declared.part_read.PartRead.TheVariants.{Files, Hashes, Write}
+use Rattle.sw_peer.specs.declared.part_read.Stored.{Stored}
+use Rattle.sw_replicator.proofs.Taking.{grown-least}
+use Rattle.sw_replicator.specs.Meeting.{IsOfPair, PairMoves, known}
+use Rattle.sw_state.specs.States.{IsAtLeast}
+use Rattle.sw_state.specs.declared.state.State.{State}
+use Rattle.sw_suffix.specs.declared.dir_line.DirLine.{DirLine}
+use Rattle.sw_suffix.specs.declared.told.SuffixHash.{SuffixHash}
+
+-- ---- what is lost
+
+-- nothing is lost at the device itself
+pub local-heard : {A : Type 0} (step : Sight → A → Sight → Type 0) (s : Sight) (r : Result A Lost) (t : Sight) → Calls step s Local r t → IsOk r
+local-heard step s (Ok x) t p = search rules
+local-heard step s (Err lost) t p = absurd (apart p.0)
+  where
+    apart : Local ≡ Sent → ⊥
+    apart same = cc
+
+-- a call that was answered so
+pub heard : {A : Type 0} (step : Sight → A → Sight → Type 0) (s : Sight) (link : Link) (r q : Result A Lost) (t : Sight)
+    → r ≡ q → Calls step s link r t → Calls step s link q t
+heard {A} step s link r q t is p = subst (λ (y : Result A Lost). Calls step s link y t) is p
+
+-- ---- frames
+
+-- the device is one of the two
+abbrev pub IsOne : ℕ → ℕ → ℕ → Type 0
+IsOne from to device = (device ≡ from) ⊎ (device ≡ to)
+
+pub pair-same : (from to part : ℕ) (s t : Sight) → t ≡ s → PairMoves from to part s t
+pair-same from to part s t same = subst (λ (x : Sight). PairMoves from to part s x) (sym same) (moves-refl (IsOfPair s.nodes.power from to part) s)
+
+pub pair-trans : (from to part : ℕ) (a b c : Sight) → PairMoves from to part a b → PairMoves from to part b c → PairMoves from to part a c
+pair-trans from to part a b c p q =
+    moves-trans (IsOfPair a.nodes.power from to part) a b c p (subst (λ (n : Nodes). Moves (IsOfPair n.power from to part) b c) p.nodes q)
+
+-- a read at one of the two devices
+part-pair : (from to part device : ℕ) (at : Hash → Type 0) (s t : Sight) → IsOne from to device → PartMoves device part at s t → PairMoves from to part s t
+part-pair from to part device at s t one p =
+    moves-wider (IsInPart s.nodes.power device part at) (IsOfPair s.nodes.power from to part) s t (λ d hash is. (is.1, side d is.0 one)) p
+  where
+    side : (d : ℕ) → d ≡ device → IsOne from to device → IsOne from to d
+    side d same (inl own) = inl (same ∙ own)
+    side d same (inr their) = inr (same ∙ their)
+
+-- what is known of a device only grows
+pub later : (from to part device : ℕ) (a b : Sight) → PairMoves from to part a b → Grows (known a device part) (known b device part)
+later from to part device a b p =
+    subst (λ (n : Nodes). Grows (known a device part) (b.objects.seen (n.part_lock device part))) (sym p.nodes)
+    (p.objects.grows (a.nodes.part_lock device part))
+
+pub known-least : (from to part device : ℕ) (a b : Sight) (hash : Hash) → PairMoves from to part a b
+    → IsAtLeast (stands (known b device part) hash) (stands (known a device part) hash)
+known-least from to part device a b hash p = grown-least (known a device part) (known b device part) hash (later from to part device a b p)
+
+pub told-before : (from to part device : ℕ) (a b : Sight) → PairMoves from to part a b → (known b device part).told ≡ true → (known a device part).told ≡ true
+told-before from to part device a b p told = sym (later from to part device a b p).told ∙ told
+
+-- what a device holds under a hash that is not of the frame
+holds-trans : (a b c : Sight) → (c.alone ≡ true → b.alone ≡ true) → HoldsAll a b → HoldsAll b c → HoldsAll a c
+holds-trans a b c earlier p q alone d hash = q alone d hash ∙ p (earlier alone) d hash
+
+pub same-holds : (a b : Sight) → IsSame a b → HoldsAll a b
+same-holds a b p alone d hash = ap (λ (s : Sight). s.objects.holds d hash) p.same
+
+-- ---- the copy whose answer was heard
+
+module _ {A : Type 0} (step : Sight → A → Sight → Type 0) where
+  pub last : (s : Sight) (xs : List A) (x : A) (t : Sight) → Comes step s (xs ++ x ∷ []) t
+      → (m : Sight) × (n : Sight) × Comes step s xs m × step m x n × IsSame n t
+  last s [] x t p = (s, p.0, same-refl s, p.1, p.2)
+  last s (y ∷ ys) x t p = let r = last p.0 ys x t p.2 in (r.0, r.1, (p.0, p.1, r.2), r.3, r.4)
+
+-- ---- reads of the partition
+
+module _ {A : Type 0} (link : Link) (device part : ℕ) (at : Hash → Type 0) (damages : Bool) (reading : Nodes → Bool → (Hash → State) → A → Type 0)
+    (read : Result A DirFault → PartRead) where
+  abbrev Reads : Sight → Result A DirFault → Sight → Type 0
+  Reads = IsPartRead link device part at damages reading read
+
+  abbrev Frame : Sight → Sight → Type 0
+  Frame = PartMoves device part at
+
+  is_step : IsStep Frame Reads
+  is_step = part-step link device part at damages reading read
+
+  came-nodes : (s : Sight) (xs : List (Result A DirFault)) (t : Sight) → Comes Reads s xs t → t.nodes ≡ s.nodes
+  came-nodes s xs t p = (comes-moves Frame Reads is_step s xs t p).nodes
+
+  read-moves : (s : Sight) (r : Result (Result A DirFault) Lost) (t : Sight) → Calls Reads s link r t → Frame s t
+  read-moves s r t p = calls-moves Frame Reads is_step s link r t p
+
+  came-holds : (s : Sight) (xs : List (Result A DirFault)) (t : Sight) → Comes Reads s xs t → HoldsAll s t
+  came-holds s [] t p = same-holds s t p
+  came-holds s (x ∷ xs) t p =
+      holds-trans s p.0 t (comes-moves Frame Reads is_step p.0 xs t p.2).alone p.1.holds_all (came-holds p.0 xs t p.2)
+
+  read-holds : (s : Sight) (got : Result A DirFault) (t : Sight) → Calls Reads s link (Ok got) t → HoldsAll s t
+  read-holds s got t p = came-holds s (p.0 ++ got ∷ []) t p.2
+
+  abbrev Shown : Nodes → History → A → Type 0
+  Shown nodes h got = reading nodes h.told (stands h) got
+
+  -- what is read is told of what is known after it
+  read-told : (s : Sight) (got : A) (t : Sight) → Calls Reads s link (Ok (Ok got)) t
+      → reading s.nodes (known t device part).told (stands (known t device part)) got
+  read-told s got t p =
+      let r = last Reads s p.0 (Ok got) t p.2 in
+      let m : Sight = r.0 in
+      let n : Sight = r.1 in
+      let before : m.nodes ≡ s.nodes = came-nodes s p.0 m r.2 in
+      let after : n.nodes ≡ m.nodes = r.3.moves.nodes in
+      subst (λ (x : Sight). Shown s.nodes (known x device part) got) (sym r.4.same)
+      (subst (λ (k : Nodes). Shown s.nodes (n.objects.seen (k.part_lock device part)) got) (sym after)
+      (subst (λ (k : Nodes). Shown k (n.objects.seen (m.nodes.part_lock device part)) got) before r.3.step.shown))
+
+  -- and what is known is what the device holds
+  read-held : (s : Sight) (got : A) (t : Sight) → Calls Reads s link (Ok (Ok got)) t → t.alone ≡ true → (known t device part).told ≡ true
+      → (hash : Hash) → IsOfPart s.nodes.power part hash → at hash → stands (known t device part) hash ≡ t.objects.holds device hash
+  read-held s got t p alone told hash is at_is =
+      let r = last Reads s p.0 (Ok got) t p.2 in
+      let m : Sight = r.0 in
+      let n : Sight = r.1 in
+      let before : m.nodes ≡ s.nodes = came-nodes s p.0 m r.2 in
+      let after : n.nodes ≡ m.nodes = r.3.moves.nodes in
+      let same : t ≡ record n { faults = t.faults; asks = t.asks } = r.4.same in
+      let alone_n : n.alone ≡ true = sym (ap (λ (x : Sight). x.alone) same) ∙ alone in
+      let told_n : (n.objects.seen (m.nodes.part_lock device part)).told ≡ true =
+      subst (λ (k : Nodes). (n.objects.seen (k.part_lock device part)).told ≡ true) after
+      (sym (ap (λ (x : Sight). (known x device part).told) same) ∙ told) in
+      ap (λ (x : Sight). stands (known x device part) hash) same
+      ∙ (ap (λ (k : Nodes). stands (n.objects.seen (k.part_lock device part)) hash) after
+      ∙ (r.3.step.held alone_n told_n refl hash (subst (λ (k : Nodes). IsOfPart k.power part hash) (sym before) is, at_is)
+      ∙ ap (λ (x : Sight). x.objects.holds device hash) (sym same)))
+
+-- those of the files of a suffix
+module _ (link : Link) (device part suffix : ℕ) where
+  abbrev IsThere : Hash → Type 0
+  IsThere hash = suffix_of hash ≡ suffix
+
+  abbrev AreThere : Nodes → Bool → (Hash → State) → Vec DirLine Global → Type 0
+  AreThere nodes told s got = AreLines nodes.power part suffix told s got.items
+
+  abbrev as_files : Result (Vec DirLine Global) DirFault → PartRead
+  as_files got = Files part suffix got
+
+  pub files-move : (s : Sight) (r : Result (Result (Vec DirLine Global) DirFault) Lost) (t : Sight) → Calls (IsFilesRead link device part suffix) s link r t
+      → PartMoves device part IsThere s t
+  files-move = read-moves link device part IsThere false AreThere as_files
+
+  pub files-pair : (from to : ℕ) → IsOne from to device → (s : Sight) (r : Result (Result (Vec DirLine Global) DirFault) Lost) (t : Sight)
+      → Calls (IsFilesRead link device part suffix) s link r t → PairMoves from to part s t
+  files-pair from to one s r t p = part-pair from to part device IsThere s t one (files-move s r t p)
+
+  module _ (s : Sight) (v : Vec DirLine Global) (t : Sight) (p : Calls (IsFilesRead link device part suffix) s link (Ok (Ok v)) t) where
+    pub files-hold : HoldsAll s t
+    files-hold = read-holds link device part IsThere false AreThere as_files s (Ok v) t p
+
+    pub files-told : AreLines s.nodes.power part suffix (known t device part).told (stands (known t device part)) v.items
+    files-told = read-told link device part IsThere false AreThere as_files s v t p
+
+    pub files-held : (hash : Hash) → IsOfPart s.nodes.power part hash → suffix_of hash ≡ suffix → t.alone ≡ true → (known t device part).told ≡ true
+        → stands (known t device part) hash ≡ t.objects.holds device hash
+    files-held hash is there alone told = read-held link device part IsThere false AreThere as_files s v t p alone told hash is there
+
+    -- the lines are of hashes of the partition
+    pub lines-within : All (λ line. IsOfPart t.nodes.power part line.hash) v.items
+    lines-within k d within =
+        subst (λ (n : Nodes). IsOfPart n.power part (get_or v.items k d).hash) (sym (files-move s (Ok (Ok v)) t p).nodes)
+        (record { digest = (files-told.are.each k d within).digest; part_is = (files-told.within k d within).0 })
+
+-- and those of the hashes of all suffixes
+module _ (link : Link) (device part : ℕ) where
+  abbrev IsAny : Hash → Type 0
+  IsAny hash = ⊤
+
+  abbrev AreSuch : Nodes → Bool → (Hash → State) → Vec SuffixHash Global → Type 0
+  AreSuch nodes told s got = AreHashes nodes.power part told s got.items
+
+  abbrev as_hashes : Result (Vec SuffixHash Global) DirFault → PartRead
+  as_hashes got = Hashes part got
+
+  pub hashes-move : (s : Sight) (r : Result (Result (Vec SuffixHash Global) DirFault) Lost) (t : Sight) → Calls (IsHashesRead link device part) s link r t
+      → PartMoves device part IsAny s t
+  hashes-move = read-moves link device part IsAny false AreSuch as_hashes
+
+  pub hashes-pair : (from to : ℕ) → IsOne from to device → (s : Sight) (r : Result (Result (Vec SuffixHash Global) DirFault) Lost) (t : Sight)
+      → Calls (IsHashesRead link device part) s link r t → PairMoves from to part s t
+  hashes-pair from to one s r t p = part-pair from to part device IsAny s t one (hashes-move s r t p)
+
+  module _ (s : Sight) (v : Vec SuffixHash Global) (t : Sight) (p : Calls (IsHashesRead link device part) s link (Ok (Ok v)) t) where
+    pub hashes-hold : HoldsAll s t
+    hashes-hold = read-holds link device part IsAny false AreSuch as_hashes s (Ok v) t p
+
+    pub hashes-told : AreHashes s.nodes.power part (known t device part).told (stands (known t device part)) v.items
+    hashes-told = read-told link device part IsAny false AreSuch as_hashes s v t p
+
+    pub hashes-held : (hash : Hash) → IsOfPart s.nodes.power part hash → t.alone ≡ true → (known t device part).told ≡ true
+        → stands (known t device part) hash ≡ t.objects.holds device hash
+    hashes-held hash is alone told = read-held link device part IsAny false AreSuch as_hashes s v t p alone told hash is tt
+
+-- and that of a file
+module _ (device part : ℕ) (hash : Hash) (file : FileName) where
+  abbrev IsIt : Hash → Type 0
+  IsIt other = other ≡ hash
+
+  abbrev AsStored : Nodes → Bool → (Hash → State) → Option Stored → Type 0
+  AsStored nodes told s got = IsFile nodes.fits hash file told s got
+
+  abbrev as_write : Result (Option Stored) DirFault → PartRead
+  as_write got = Write part hash file got
+
+  pub write-move : (s : Sight) (r : Result (Result (Option Stored) DirFault) Lost) (t : Sight) → Calls (IsWriteRead Local device part hash file) s Local r t
+      → PartMoves device part IsIt s t
+  write-move = read-moves Local device part IsIt true AsStored as_write
+
+  pub write-pair : (from to : ℕ) → IsOne from to device → (s : Sight) (r : Result (Result (Option Stored) DirFault) Lost) (t : Sight)
+      → Calls (IsWriteRead Local device part hash file) s Local r t → PairMoves from to part s t
+  write-pair from to one s r t p = part-pair from to part device IsIt s t one (write-move s r t p)
+
+  module _ (s : Sight) (got : Option Stored) (t : Sight) (p : Calls (IsWriteRead Local device part hash file) s Local (Ok (Ok got)) t) where
+    pub write-holds : HoldsAll s t
+    write-holds = read-holds Local device part IsIt true AsStored as_write s (Ok got) t p
+
+    pub write-told : IsFile s.nodes.fits hash file (known t device part).told (stands (known t device part)) got
+    write-told = read-told Local device part IsIt true AsStored as_write s got t p
+
+    pub write-held : IsOfPart s.nodes.power part hash → t.alone ≡ true → (known t device part).told ≡ true
+        → stands (known t device part) hash ≡ t.objects.holds device hash
+    write-held is alone told = read-held Local device part IsIt true AsStored as_write s got t p alone told hash is refl
+
+-- ---- a write at the receiver
+
+pub made-pair : (from to part : ℕ) (name : Name) (change : Change) (s : Sight) (r : Result Answer Lost) (t : Sight) → IsOfPart s.nodes.power part name.hash
+    → Calls (IsMade Sent to name change) s Sent r t → PairMoves from to part s t
+made-pair from to part name change s r t is p =
+    moves-wider (IsAt to name.hash) (IsOfPair s.nodes.power from to part) s t
+    (λ d k at. (subst (λ (h : Hash). IsOfPart s.nodes.power part h) (sym at.1) is, inr at.0))
+    (calls-moves (Moves (IsAt to name.hash)) (IsMade Sent to name change) (made-step Sent to name change) s Sent r t p)

@@ -1,0 +1,4 @@
+pub mod Causes
+pub mod Meeting
+pub mod Pushing
+pub mod Routes
