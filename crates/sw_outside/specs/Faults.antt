@@ -1,7 +1,9 @@
 -- Counts of faults. (This project's own.)
-use Rattle.std.specs.Prelude.{◌≡◌, ℕ, ◌-◌, ◌^◌, ◌<◌, ◌≤◌, OnOk, OnErr, Result}
+use Rattle.std.specs.Prelude.{◌≡◌, ℕ, ◌-◌, ◌^◌, ◌<◌, ◌≤◌, OnOk, OnErr, Result, Ok, Err}
 use Rattle.std.proofs.Common.{◌⊎◌}
 use Rattle.sw_outside.specs.Counts.{raised}
+use Rattle.sw_outside.specs.declared.store_error.StoreError.{StoreError}
+use Rattle.sw_outside.specs.declared.store_error.StoreError.TheVariants as errors
 
 -- the count rose, or stands at its type's end
 abbrev pub HasRisen : ℕ → ℕ → Type 0
@@ -13,3 +15,9 @@ pub record HasCause {T E : Type 0} (before now : ℕ) (result : Result T E) : Ty
   pub kept : OnOk result (now ≡ before)
   pub later : before ≤ now
   pub risen : OnErr result (HasRisen before now)
+
+-- the count of faults after a call that may want memory: one more where it failed, and the same after an answer or want of memory
+abbrev pub faults_after : {T : Type 0} → ℕ → Result T StoreError → ℕ
+faults_after before (Ok value) = before
+faults_after before (Err errors.Failed) = raised before
+faults_after before (Err errors.NoMemory) = before

@@ -1,7 +1,9 @@
 pub mod Counts
+pub mod Doors
 pub mod Failing
 pub mod Faults
 pub mod Readings
+pub mod Rolls
 pub mod Store
 pub mod Supply
 pub mod Taken

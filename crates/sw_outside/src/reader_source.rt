@@ -22,6 +22,20 @@ impl<R: Read + Drop> ReaderSource<R> {
             calls: 0,
         }
     }
+
+    /// How many reads there were, failed ones too. The count stands still at 2^64 - 1.
+    pub fn calls(&self) -> u64
+        ensures { result ≡ self.now.calls }
+    {
+        self.calls
+    }
+
+    /// How many of them failed. The count stands still at 2^64 - 1.
+    pub fn faults(&self) -> u64
+        ensures { result ≡ self.now.faults }
+    {
+        self.faults
+    }
 }
 
 impl<R: Read + Drop> Source for ReaderSource<R> {

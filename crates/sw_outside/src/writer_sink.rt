@@ -22,6 +22,20 @@ impl<W: Write + Drop> WriterSink<W> {
             calls: 0,
         }
     }
+
+    /// How many puts there were, failed ones too. The count stands still at 2^64 - 1.
+    pub fn calls(&self) -> u64
+        ensures { result ≡ self.now.calls }
+    {
+        self.calls
+    }
+
+    /// How many of them failed. The count stands still at 2^64 - 1.
+    pub fn faults(&self) -> u64
+        ensures { result ≡ self.now.faults }
+    {
+        self.faults
+    }
 }
 
 impl<W: Write + Drop> Sink for WriterSink<W> {
