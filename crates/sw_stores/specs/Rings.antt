@@ -17,7 +17,7 @@ pub record StoresState : Type 0 where
   pub failing : List ℕ  -- the numbers of the calls that fail, counted from 0
   pub calls : ℕ  -- how many rings were read and volumes started, or tried
   pub faults : ℕ  -- how many of these calls failed
-  pub volumes : List Slot
+  pub volumes : List (Slot MemState)
 
 -- the text of the ring of a name
 abbrev pub text_in : List RingText → List ℕ → Option (List ℕ)

@@ -52,14 +52,11 @@ impl<R: Files + AllocGlobal> Stores for RingStores<'_, R> {
 
     fn ring(&mut self, _alloc: Global, name: &str) -> Result<Bytes, StoreError> {
         self.calls = self.calls.saturating_add(1);
-        match fs::read(self.rt, name) {
-            Ok(text) => Ok(Bytes::from(text)),
-            Err(error) if error.kind() == ErrorKind::OutOfMemory => Err(StoreError::NoMemory),
-            Err(_) => {
-                self.faults = self.faults.saturating_add(1);
-                Err(StoreError::Failed)
-            }
+        let text = host_ring(self.rt, name);
+        if let Err(StoreError::Failed) = text {
+            self.faults = self.faults.saturating_add(1);
         }
+        text
     }
 
     fn start(&mut self, alloc: Global, device: u8, stripe: u8) -> Result<MemVolume, StoreError> {
@@ -69,5 +66,14 @@ impl<R: Files + AllocGlobal> Stores for RingStores<'_, R> {
 
     fn give_back(&mut self, device: u8, stripe: u8, volume: MemVolume) {
         self.volumes.give_back(device, stripe, volume);
+    }
+}
+
+/// The text of the host's file of this path. It counts nothing.
+pub fn host_ring<R: Files + AllocGlobal>(rt: &R, path: &str) -> Result<Bytes, StoreError> {
+    match fs::read(rt, path) {
+        Ok(text) => Ok(Bytes::from(text)),
+        Err(error) if error.kind() == ErrorKind::OutOfMemory => Err(StoreError::NoMemory),
+        Err(_) => Err(StoreError::Failed),
     }
 }

@@ -1,0 +1,7 @@
+-- Where the host keeps the files of an object lock, which is a stripe of a device. (This project's own.)
+use Rattle.std.specs.Prelude.{ℕ, ◌/◌, ◌%◌, ◌++◌, List, codes}
+use Rattle.std.specs.Fmt.{decimal}
+
+-- the folder of the lock below a base: the device's number, and below that the stripe's, which is below 100, in two digits
+abbrev pub lock_folder : List ℕ → ℕ → ℕ → List ℕ
+lock_folder base device stripe = base ++ codes "/" ++ decimal device ++ codes "/" ++ decimal (stripe / 10) ++ decimal (stripe % 10)
