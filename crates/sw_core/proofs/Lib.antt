@@ -1,11 +1,11 @@
 pub mod Anew
+pub mod Copies
 pub mod Keeping
 pub mod Listed
 pub mod PartFacts
 pub mod Placed
 pub mod Reaching
 pub mod Recasts
-pub mod Running
 pub mod Sessions
 pub mod Settling
 pub mod Slots

@@ -1,7 +1,9 @@
 -- Why a run without failures reaches what its lines tell.
 use Rattle.std.proofs.Common.{◌≡◌, ◌≢◌, ℕ, ◌≤◌, Bool, true, false, ◌&&◌, nat_eq, List, [], ◌∷◌, ◌++◌, length, bytes_eq, refl, sym, ◌∙◌, ap, subst, arith, append_assoc, ◌⊎◌, inl, inr, if◌then◌else◌}
+use Rattle.std.proofs.Common.{Option, None, Some}
 use Rattle.std.proofs.lemmas.List.{append-nil, append_cancel_left}
 use Rattle.std.proofs.lemmas.Bool.{eq-eqb, eqb-true}
+use Rattle.std.specs.Option.{option_map}
 use Rattle.sw_hashpath.specs.declared.name.Name.{Name}
 use Rattle.sw_peer.specs.Histories.{History, OnlySettles, StepChanges, stands}
 use Rattle.sw_peer.specs.Journals.{Answers, Hash, Journal, Settles, with_entry, written}
@@ -21,7 +23,21 @@ use Rattle.sw_peer.specs.Sights.{Nodes}
 use Rattle.sw_core.proofs.PartFacts.{part-at, read-facts}
 use Rattle.sw_core.specs.PartReads.{part_in}
 use Rattle.sw_core.specs.Laws.{NoDoubts, NoneFailed, RunEnters, RunReaches, RunStands, RunsJoin, entered_by, has_failed, is_entered_at, is_failed, is_restart, told_by}
-use Rattle.sw_core.specs.Machine.{Came, Machine, MachineComes, MachineRestarts, RunLine, Runs, Went, made_writes, reached_with, state}
+use Rattle.sw_core.specs.Machine.{Came, Machine, MachineComes, MachineRestarts, RunLine, Runs, Went, came_in, made_writes, reached_with, state}
+
+-- ---- the lines that came
+
+pub came-append : (xs ys : List RunLine) → came_in (xs ++ ys) ≡ came_in xs ++ came_in ys
+came-append [] ys = refl
+came-append (Came line ∷ xs) ys = ap (λ (ls : List Line). line ∷ ls) (came-append xs ys)
+came-append (Went from message ∷ xs) ys = came-append xs ys
+
+-- none more were kept
+pub kept-none : (o : Option (List Line)) → o ≡ option_map (λ lines. lines ++ []) o
+kept-none None = refl
+kept-none (Some lines) = ap Some (sym (append-nil lines))
+
+-- ---- what reached
 
 empty : {A : Type 0} (xs : List A) → length xs ≤ 0 → xs ≡ []
 empty [] h = refl

@@ -1,18 +1,20 @@
 -- What a session knows of a door that is alone, call by call: the lines that the door kept are a run of the machine, and the door stands
 -- for the machine after it.
-use Rattle.std.proofs.Common.{◌≡◌, ℕ, Bool, true, List, [], ◌∷◌, ◌++◌, map, refl, sym, ◌∙◌, ap, subst, Result, Some, Ok, Err, ◌⊎◌, inl, inr}
-use Rattle.std.proofs.lemmas.List.{map-append}
+use Rattle.std.proofs.Common.{◌≡◌, ℕ, Bool, true, List, [], ◌∷◌, ◌++◌, refl, sym, ◌∙◌, ap, subst, Option, Result, Some, Ok, Err, ◌⊎◌, inl, inr}
 use Rattle.std.specs.Option.{option_map}
+use Rattle.sw_diskfile.specs.declared.file_name.FileName.{FileName}
 use Rattle.sw_hashpath.specs.declared.name.Name.{Name}
 use Rattle.sw_peer.specs.Journals.{Hash}
 use Rattle.std.specs.declared.alloc.Global.{Global}
 use Rattle.std.specs.declared.vec.Vec.{Vec}
 use Rattle.sw_peer.specs.Parts.{IsOfPart, is_wanting_part}
 use Rattle.sw_peer.specs.declared.dir_fault.DirFault.{DirFault}
-use Rattle.sw_peer.specs.declared.part_read.PartRead.TheVariants.{Files, Hashes}
+use Rattle.sw_peer.specs.declared.part_read.PartRead.TheVariants.{Files, Hashes, Write}
+use Rattle.sw_peer.specs.declared.part_read.Stored.{Stored}
 use Rattle.sw_suffix.specs.declared.dir_line.DirLine.{DirLine}
 use Rattle.sw_suffix.specs.declared.told.SuffixHash.{SuffixHash}
-use Rattle.sw_peer.specs.Sights.{Calls, Comes, IsFilesRead, IsHashesRead, IsListed, IsMade, IsRead, IsSame, Nodes, Restarts, Sight, is_wanting, is_wanting_read}
+use Rattle.sw_peer.specs.Sights.{Calls, Comes, IsFilesRead, IsHashesRead, IsListed, IsMade, IsRead, IsSame, IsWriteRead, Nodes, Restarts, Sight}
+use Rattle.sw_peer.specs.Sights.{is_wanting, is_wanting_read}
 use Rattle.sw_peer.specs.declared.answer.Answer.{Answer}
 use Rattle.sw_peer.specs.declared.change.Change.{Change}
 use Rattle.sw_peer.specs.declared.got.Got.{Got}
@@ -21,12 +23,12 @@ use Rattle.sw_peer.specs.declared.line.Line.{Line}
 use Rattle.sw_peer.specs.declared.link.Link.{Link}
 use Rattle.sw_peer.specs.declared.link.Link.TheVariants.{Local, Sent}
 use Rattle.sw_peer.specs.declared.link.Lost.{Lost}
-use Rattle.sw_core.proofs.Reaching.{joins, reaches}
-use Rattle.sw_core.proofs.Standing.{change_runs, files_runs, hashes_runs, listing_runs, read_runs, restart_runs}
+use Rattle.sw_core.proofs.Reaching.{came-append, joins, reaches}
+use Rattle.sw_core.proofs.Standing.{change_runs, files_runs, hashes_runs, listing_runs, read_runs, restart_runs, write_runs}
 use Rattle.sw_core.specs.Doors.{HasRun, StandsFor}
 use Rattle.sw_core.specs.Laws.{NoDoubts, NoneFailed, told_by}
 use Rattle.sw_state.specs.States.{state_of}
-use Rattle.sw_core.specs.Machine.{Came, Machine, MachineComes, RunLine, Runs}
+use Rattle.sw_core.specs.Machine.{Came, Machine, MachineComes, RunLine, Runs, Steps, came_in}
 
 -- a door that stands for a machine, and has kept no lines yet
 pub run-begins : (m : Machine) (s : Sight) → StandsFor s m → s.trail ≡ Some [] → HasRun m s
@@ -36,27 +38,42 @@ run-begins m s stands none = record { lines = []; kept = none; after = m; run = 
 pub stands-same : (s t : Sight) (m : Machine) → IsSame s t → StandsFor s m → StandsFor t m
 stands-same s t m p stands = subst (λ (x : Sight). StandsFor x m) (sym p.same) (record { states = stands.states; seen = stands.seen; told = stands.told })
 
-pub run-kept : (start : Machine) (s t : Sight) → IsSame s t → HasRun start s → HasRun start t
-run-kept start s t p has = record {
-  lines = has.lines;
-  kept = ap (λ (x : Sight). x.trail) p.same ∙ has.kept;
-  after = has.after;
-  run = subst (λ (n : Nodes). Runs n start (map Came has.lines) has.after) (sym (ap (λ (x : Sight). x.nodes) p.same)) has.run;
-  stands = stands-same s t has.after p has.stands;
-}
+-- the same run goes on, and so does what was sent in it
+pub run-same : (start : Machine) (s t : Sight) → IsSame s t → (has : HasRun start s) → (more : HasRun start t) × (more.after ≡ has.after)
+run-same start s t p has = (
+  record {
+    lines = has.lines;
+    kept = ap (λ (x : Sight). x.trail) p.same ∙ has.kept;
+    after = has.after;
+    run = subst (λ (n : Nodes). Runs n start has.lines has.after) (sym (ap (λ (x : Sight). x.nodes) p.same)) has.run;
+    stands = stands-same s t has.after p has.stands;
+  },
+  refl,
+)
 
--- one step more
+pub run-kept : (start : Machine) (s t : Sight) → IsSame s t → HasRun start s → HasRun start t
+run-kept start s t p has = (run-same start s t p has).0
+
+-- one line more: of a step that came, which was kept, or of a message that went
+pub one-line : (start : Machine) (s t : Sight) (line : RunLine) (has : HasRun start s) → t.nodes ≡ s.nodes
+    → t.trail ≡ option_map (λ lines. lines ++ came_in (line ∷ [])) s.trail
+    → (after : Machine) → Steps s.nodes has.after line after → StandsFor t after → (more : HasRun start t) × (more.after ≡ after)
+one-line start s t line has nodes trail after steps stands = (
+  record {
+    lines = has.lines ++ line ∷ [];
+    kept = trail ∙ (ap (option_map (λ (lines : List Line). lines ++ came_in (line ∷ []))) has.kept ∙ ap Some (sym (came-append has.lines (line ∷ []))));
+    after = after;
+    run = subst (λ (n : Nodes). Runs n start (has.lines ++ line ∷ []) after) (sym nodes)
+        (joins s.nodes start has.lines has.after (line ∷ []) after has.run (after, steps, refl));
+    stands = stands;
+  },
+  refl,
+)
+
+-- one step more that came
 one-more : (start : Machine) (s t : Sight) (line : Line) (has : HasRun start s) → t.nodes ≡ s.nodes → t.trail ≡ option_map (λ lines. lines ++ line ∷ []) s.trail
     → (after : Machine) → MachineComes s.nodes has.after line.link line.device line.event line.added after → StandsFor t after → HasRun start t
-one-more start s t line has nodes trail after comes stands = record {
-  lines = has.lines ++ line ∷ [];
-  kept = trail ∙ ap (option_map (λ (lines : List Line). lines ++ line ∷ [])) has.kept;
-  after = after;
-  run = subst (λ (n : Nodes). Runs n start (map Came (has.lines ++ line ∷ [])) after) (sym nodes)
-      (subst (λ (ls : List RunLine). Runs s.nodes start ls after) (sym (map-append Came has.lines (line ∷ [])))
-      (joins s.nodes start (map Came has.lines) has.after (Came line ∷ []) after has.run (after, comes, refl)));
-  stands = stands;
-}
+one-more start s t line has nodes trail after comes stands = (one-line start s t (Came line) has nodes trail after comes stands).0
 
 -- a step that may change something came to a device itself
 pub run-changed : (start : Machine) (device : ℕ) (name : Name) (change : Change) (s : Sight) (answer : Answer) (t : Sight) → t.alone ≡ true → IsMade Local device name change s answer t → HasRun start s → HasRun start t
@@ -112,6 +129,20 @@ run-files start link device part suffix s got t hash of_part alone read has = by
         one-more start s t line has read.moves.nodes kept runs.0 runs.1 runs.2
     by (inr none) = run-kept start s t none.1 has
 
+-- and of a file
+pub run-write : (start : Machine) (link : Link) (device part : ℕ) (k : Hash) (file : FileName) (s : Sight) (got : Result (Option Stored) DirFault) (t : Sight) (hash : Hash)
+    → IsOfPart s.nodes.power part hash → t.alone ≡ true → IsWriteRead link device part k file s got t → HasRun start s → HasRun start t
+run-write start link device part k file s got t hash of_part alone read has = by read.trail
+  where
+    line : Line
+    line = record { device = device; link = link; event = ReadPart (Write part k file got); added = read.step.added }
+
+    by : (t.trail ≡ option_map (λ lines. lines ++ line ∷ []) s.trail) ⊎ ((is_wanting_part got ≡ true) × IsSame s t) → HasRun start t
+    by (inl kept) =
+        let runs = write_runs link device part k file s got t has.after hash of_part has.stands alone read in
+        one-more start s t line has read.moves.nodes kept runs.0 runs.1 runs.2
+    by (inr none) = run-kept start s t none.1 has
+
 -- all files of a device were listed
 pub run-listed : (start : Machine) (device : ℕ) (failed : Bool) (s t : Sight) → IsListed device failed s t → HasRun start s → HasRun start t
 run-listed start device failed s t r has =
@@ -146,20 +177,6 @@ pub run-read-call : (start : Machine) (device : ℕ) (name : Name) (s : Sight) (
 run-read-call start device name s got t alone call has =
     let once = comes-once (IsRead Local device name) s got t call in
     run-kept start once.0 t once.2 (run-read start device name s got once.0 (sym (ap (λ (x : Sight). x.alone) once.2.same) ∙ alone) once.1 has)
-
-pub run-hashes-call : (start : Machine) (device part : ℕ) (s : Sight) (got : Result (Vec SuffixHash Global) DirFault) (t : Sight) (hash : Hash) → IsOfPart s.nodes.power part hash
-    → t.alone ≡ true → Calls (IsHashesRead Local device part) s Local (Ok got) t → HasRun start s → HasRun start t
-run-hashes-call start device part s got t hash of_part alone call has =
-    let once = comes-once (IsHashesRead Local device part) s got t call in
-    run-kept start once.0 t once.2
-    (run-hashes start Local device part s got once.0 hash of_part (sym (ap (λ (x : Sight). x.alone) once.2.same) ∙ alone) once.1 has)
-
-pub run-files-call : (start : Machine) (device part suffix : ℕ) (s : Sight) (got : Result (Vec DirLine Global) DirFault) (t : Sight) (hash : Hash) → IsOfPart s.nodes.power part hash
-    → t.alone ≡ true → Calls (IsFilesRead Local device part suffix) s Local (Ok got) t → HasRun start s → HasRun start t
-run-files-call start device part suffix s got t hash of_part alone call has =
-    let once = comes-once (IsFilesRead Local device part suffix) s got t call in
-    run-kept start once.0 t once.2
-    (run-files start Local device part suffix s got once.0 hash of_part (sym (ap (λ (x : Sight). x.alone) once.2.same) ∙ alone) once.1 has)
 
 -- the lines that such a call kept: one, or none where it wanted memory
 pub changed-lines : (device : ℕ) (name : Name) (change : Change) (s : Sight) (answer : Answer) (t : Sight) → Calls (IsMade Local device name change) s Local (Ok answer) t
@@ -196,6 +213,6 @@ run-taken start s t taken has =
     run-begins has.after t (subst (λ (x : Sight). StandsFor x has.after) (sym taken) (record { states = has.stands.states; seen = has.stands.seen; told = has.stands.told })) (ap (λ (x : Sight). x.trail) taken)
 
 -- where no step failed, each hash stands at each device for the state of what had reached and of what the lines tell
-pub run-holds : (start : Machine) (s : Sight) (has : HasRun start s) → NoDoubts s.nodes start → NoneFailed (map Came has.lines) → (device : ℕ) (hash : Hash)
-    → s.objects.holds device hash ≡ state_of (start.reached device hash ++ told_by (map Came has.lines) device hash)
-run-holds start s has none fine device hash = has.stands.states device hash ∙ ap state_of (reaches s.nodes start (map Came has.lines) has.after has.run none fine device hash)
+pub run-holds : (start : Machine) (s : Sight) (has : HasRun start s) → NoDoubts s.nodes start → NoneFailed has.lines → (device : ℕ) (hash : Hash)
+    → s.objects.holds device hash ≡ state_of (start.reached device hash ++ told_by has.lines device hash)
+run-holds start s has none fine device hash = has.stands.states device hash ∙ ap state_of (reaches s.nodes start has.lines has.after has.run none fine device hash)

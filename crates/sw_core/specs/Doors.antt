@@ -1,5 +1,5 @@
 -- How a door that is alone stands for the machine: each of its steps is one of the machine's. (This project's own.)
-use Rattle.std.specs.Prelude.{◌≡◌, ℕ, Bool, true, List, Option, Some, map, Result}
+use Rattle.std.specs.Prelude.{◌≡◌, ℕ, Bool, true, List, Option, Some, Result}
 use Rattle.std.specs.declared.alloc.Global.{Global}
 use Rattle.std.specs.declared.vec.Vec.{Vec}
 use Rattle.sw_diskfile.specs.declared.file_name.FileName.{FileName}
@@ -13,11 +13,10 @@ use Rattle.sw_peer.specs.declared.part_read.Stored.{Stored}
 use Rattle.sw_peer.specs.declared.answer.Answer.{Answer}
 use Rattle.sw_peer.specs.declared.change.Change.{Change}
 use Rattle.sw_peer.specs.declared.got.Got.{Got}
-use Rattle.sw_peer.specs.declared.line.Line.{Line}
 use Rattle.sw_peer.specs.declared.link.Link.{Link}
 use Rattle.sw_suffix.specs.declared.dir_line.DirLine.{DirLine}
 use Rattle.sw_suffix.specs.declared.told.SuffixHash.{SuffixHash}
-use Rattle.sw_core.specs.Machine.{Came, Machine, MachineLists, MachineMakes, MachineReads, MachineReadsPart, MachineRestarts, Runs, state}
+use Rattle.sw_core.specs.Machine.{Machine, MachineLists, MachineMakes, MachineReads, MachineReadsPart, MachineRestarts, RunLine, Runs, came_in, state}
 
 -- the devices hold what reached, and their journals are the machine's
 pub record StandsFor (s : Sight) (m : Machine) : Type 0 where
@@ -65,10 +64,11 @@ abbrev pub RestartRuns : Type 0
 RestartRuns = (device : ℕ) (s t : Sight) (m : Machine) → StandsFor s m → t.alone ≡ true → Restarts device s t
     → (after : Machine) × MachineRestarts s.nodes m device after × StandsFor t after
 
--- the lines that the door kept are a run of the machine from `start`, and the door stands for the machine after it
+-- The lines that the door kept are those of a run of the machine from `start`, and the door stands for the machine after it. A door keeps
+-- a line of what came, and none of the messages that went: those are what the run has beside them
 pub record HasRun (start : Machine) (s : Sight) : Type 0 where
-  pub lines : List Line
-  pub kept : s.trail ≡ Some lines
+  pub lines : List RunLine
+  pub kept : s.trail ≡ Some (came_in lines)
   pub after : Machine
-  pub run : Runs s.nodes start (map Came lines) after
+  pub run : Runs s.nodes start lines after
   pub stands : StandsFor s after

@@ -7,6 +7,5 @@ pub mod Listing
 pub mod Machine
 pub mod Making
 pub mod PartReads
-pub mod Stepping
 pub mod Stopping
 pub mod Worlds

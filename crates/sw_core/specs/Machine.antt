@@ -61,6 +61,12 @@ pub data RunLine : Type 0 where
   Came : (line : Line) → RunLine
   Went : (from : ℕ) (message : Message) → RunLine
 
+-- the lines of the steps that came
+abbrev pub came_in : List RunLine → List Line
+came_in [] = []
+came_in (Came line ∷ lines) = line ∷ came_in lines
+came_in (Went from message ∷ lines) = came_in lines
+
 module _ (nodes : Nodes) where
   -- a step that may change something: that of the lock's history, with what reached in place of what is held
   pub record MachineMakes (m : Machine) (device : ℕ) (name : Name) (change : Change) (answer : Answer) (added : List ObjEntry) (after : Machine) : Type 0 where

@@ -14,6 +14,7 @@ use Rattle.sw_hashpath.specs.declared.secrets.Secrets.{Secrets}
 use Rattle.sw_hashdir.specs.Places.{in_order}
 use Rattle.sw_hashdir.specs.Steps.{is_hashed}
 use Rattle.sw_objdir.specs.Directories.{Kept, held, history_of, is_told, started}
+use Rattle.sw_peer.specs.Carriage.{faithful}
 use Rattle.sw_peer.specs.Halves.{HistoryOf}
 use Rattle.sw_peer.specs.Histories.{History}
 use Rattle.sw_peer.specs.Journals.{Hash}
@@ -132,6 +133,7 @@ module _ {V : Type 0} (tells : V → Bool) (files : V → Folders) (faults : V �
     alone = true;
     faults = 0;
     asks = w.asks;
+    carriage = faithful;
     trail = Some w.lines;
   }
 

@@ -2,14 +2,15 @@
 //!
 //! A [`World`] is all nodes of all devices of a ring, each object lock an object directory (`sw_objdir`) over a volume of its own, and is a
 //! door (`sw_peer`): each call is one step at one device, and the world keeps a line of it. A device is restarted by [`World::lift`], which
-//! gives its volumes, and [`World::set_down`], which begins anew on them. [`run_steps`] makes a list of steps by the same calls.
-//! `specs/Machine.antt` has the machine: what reached each device, and what the journals of its locks have.
+//! gives its volumes, and [`World::set_down`], which begins anew on them. `specs/Machine.antt` has the machine: what reached each device, and
+//! what the journals of its locks have.
 //!
 //! What is promised: each step of the world is one of the machine, with calls that fail, full journals and restarts, so that the files of
 //! each hash at each device stand for the state of the writes that reached it; and where no step failed, the entries of the lines tell
 //! these writes.
 //!
-//! The next layer up is `sw_cluster`, which answers requests over the world and writes its trail.
+//! The next layers up are `sw_cluster`, which answers requests over the world and writes its trail, and `sw_steps`, which makes lists of steps
+//! and passes over it.
 #![tactic(auto)]
 
 pub mod laws;
@@ -17,15 +18,11 @@ mod limits;
 mod lines;
 mod making;
 mod parts;
-mod run;
 mod slot;
-mod step;
 mod trail;
 mod world;
 
 pub use lines::LineList;
 pub use parts::Parts;
-pub use run::run_steps;
-pub use step::Step;
 pub use trail::{MomentList, Trail};
 pub use world::World;

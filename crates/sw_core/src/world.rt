@@ -186,6 +186,14 @@ impl<V: Volume + Drop> World<V> {
         paths
     }
 
+    /// There are 2 to this power partitions, and so each of them has a hash.
+    pub fn power(&self) -> u8
+        ensures value { result ≡ self.now.power }
+        ensures most { result ≤ 32 }
+    {
+        self.power
+    }
+
     /// The device whose volumes are out.
     pub fn lifted(&self) -> Option<u8>
         ensures { result ≡ self.now.lifted }

@@ -1,7 +1,7 @@
 -- Steps that change nothing, over nodes of which nothing is known.
 use Rattle.std.proofs.Common.{◌≡◌, ℕ, true, false, [], None, refl, inl, Ok}
 use Rattle.sw_hashpath.specs.declared.name.Name.{Name}
-use Rattle.sw_peer.proofs.Calls.{calls-once, grows-refl, made-step, moves-refl, read-step}
+use Rattle.sw_peer.proofs.Calls.{calls-once, faithful-once, grows-refl, made-step, moves-refl, read-step}
 use Rattle.sw_peer.specs.Histories.{History}
 use Rattle.sw_peer.specs.Journals.{Answers}
 use Rattle.sw_peer.specs.Sights.{Calls, IsAt, IsMade, IsRead, Moves}
@@ -60,7 +60,7 @@ pub refused-call : (link : Link) (device : ℕ) (name : Name) (change : Change) 
     → Calls (IsMade link device name change) silent link (Ok a) silent
 refused-call link device name change a is =
     calls-once (Moves (IsAt device name.hash)) (IsMade link device name change) (made-step link device name change) silent silent link a
-    (refused-step link device name change a is)
+    (faithful-once link) (refused-step link device name change a is)
 
 missed-step : (link : Link) (device : ℕ) (name : Name) → IsRead link device name silent (gots.NotFound None) silent
 missed-step link device name = record {
@@ -82,4 +82,4 @@ missed-step link device name = record {
 pub missed-call : (link : Link) (device : ℕ) (name : Name) → Calls (IsRead link device name) silent link (Ok (gots.NotFound None)) silent
 missed-call link device name =
     calls-once (Moves (IsAt device name.hash)) (IsRead link device name) (read-step link device name) silent silent link (gots.NotFound None)
-    (missed-step link device name)
+    (faithful-once link) (missed-step link device name)

@@ -1,5 +1,6 @@
 -- A door over nodes of which nothing is known. (This project's own.)
 use Rattle.std.specs.Prelude.{Bool, true, false, [], None, refl}
+use Rattle.sw_peer.specs.Carriage.{faithful}
 use Rattle.sw_peer.specs.Halves.{HistoryOf}
 use Rattle.sw_peer.specs.Sights.{Nodes, Sight}
 use Rattle.sw_peer.specs.declared.answer.Answer.{Answer}
@@ -48,5 +49,6 @@ silent = record {
   alone = false;
   faults = 0;
   asks = 0;
+  carriage = faithful;
   trail = None;
 }

@@ -3,7 +3,7 @@ ghost use Rattle.sw_door_tests.specs.Silent.{is_refusal, silent};
 
 use std::alloc::Global;
 use sw_hashpath::Name;
-use sw_peer::{Answer, Change, Door, Got, Link, Lost, ObjectDoor};
+use sw_peer::{Answer, Change, Door, FaithfulDoor, Got, Link, Lost, ObjectDoor};
 
 /// A door that answers each change in the same way, which changes nothing, and finds no object. It counts the steps that come.
 #[derive(Drop)]
@@ -29,6 +29,12 @@ impl Refusing {
 
 impl Door for Refusing {
     ghost sight = { λ _. silent };
+}
+
+impl FaithfulDoor for Refusing {
+    ghost use Rattle.std.specs.Prelude.{refl};
+
+    ghost carries = { λ _. refl };
 }
 
 impl ObjectDoor for Refusing {

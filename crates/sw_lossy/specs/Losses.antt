@@ -1,6 +1,7 @@
 -- What becomes of the messages through a door that loses and repeats them. (This project's own.)
-use Rattle.std.specs.Prelude.{◌≡◌, ℕ, ◌+◌, ◌==◌, Bool, true, false, Option, None, Some, if◌then◌else◌, Result, Ok, IsErr}
+use Rattle.std.specs.Prelude.{◌≡◌, ℕ, zero, suc, ◌+◌, ◌==◌, Bool, true, false, Option, None, Some, if◌then◌else◌, Result, Ok, IsErr}
 use Rattle.sw_outside.specs.Counts.{raised}
+use Rattle.sw_peer.specs.Carriage.{Carriage, Delivery}
 use Rattle.sw_peer.specs.Sights.{Calls, Sight, asked}
 use Rattle.sw_peer.specs.declared.answer.Answer.{Answer}
 use Rattle.sw_peer.specs.declared.answer.Answer.TheVariants as answers
@@ -10,11 +11,6 @@ use Rattle.sw_peer.specs.declared.link.Lost.{Lost}
 use Rattle.sw_lossy.specs.declared.acts.Acts.{Acts}
 use Rattle.sw_lossy.specs.declared.acts.Fate.{Fate}
 use Rattle.sw_lossy.specs.declared.acts.Fate.TheVariants.{Goes, IsLost, LosesReply, ComesTwice}
-
--- a door around another shows the other, with its own losses beside those of the other. It counts the messages that ask by itself, since
--- one that is lost never comes to the other, and one that comes twice counts there twice
-abbrev pub around : Sight → ℕ → ℕ → Sight
-around s faults asks = record s { faults = s.faults + faults; asks = asks }
 
 -- ---- which message
 
@@ -57,6 +53,34 @@ asked_inside link Goes asks = asked asks link
 asked_inside link IsLost asks = asks
 asked_inside link LosesReply asks = asked asks link
 asked_inside link ComesTwice asks = asked (asked asks link) link
+
+-- ---- the messages to come
+
+-- how a message is delivered, where the door inside delivers each once
+abbrev pub delivered : Fate → Delivery
+delivered Goes = record { copies = 1; is_heard = true }
+delivered IsLost = record { copies = 0; is_heard = false }
+delivered LosesReply = record { copies = 1; is_heard = false }
+delivered ComesTwice = record { copies = 2; is_heard = true }
+
+-- how each message is delivered that comes after so many
+abbrev pub delivery_at : Acts → ℕ → ℕ → Delivery
+delivery_at acts messages zero = delivered (fate_of_message acts (raised messages))
+delivery_at acts messages (suc n) = delivery_at acts (raised messages) n
+
+abbrev pub carried_by : Acts → ℕ → Carriage
+carried_by acts messages = Some (delivery_at acts messages)
+
+-- ---- what its user knows
+
+-- A door around another shows the other, with its own losses beside those of the other, and its own messages to come. It counts the
+-- messages that ask by itself, since one that is lost never comes to the other, and one that comes twice counts there twice
+abbrev pub around : Sight → Acts → ℕ → ℕ → ℕ → Sight
+around s acts messages faults asks = record s { faults = s.faults + faults; asks = asks; carriage = carried_by acts messages }
+
+-- a door through which no message was sent yet
+abbrev pub begun : Acts → Sight → Sight
+begun acts s = around s acts 0 0 0
 
 -- ---- what comes to the door inside, and what is heard
 

@@ -10,7 +10,9 @@ use std::alloc::Global;
 use sw_diskfile::FileName;
 use sw_hashpath::Name;
 use sw_outside::NoMemory;
-use sw_peer::{Answer, Change, DirFault, Door, Got, Link, Lost, ObjectDoor, ReplicaDoor, Stored};
+use sw_peer::{
+    Answer, Change, DirFault, Door, FaithfulDoor, Got, Link, Lost, ObjectDoor, ReplicaDoor, Stored,
+};
 use sw_suffix::{DirLine, SuffixHash};
 
 /// A door around another, which loses and repeats messages. A step that is said at the device itself goes through.
@@ -43,6 +45,20 @@ impl<D: Drop> Lossy<D> {
             faults: 0,
             asks: 0,
         }
+    }
+
+    /// Begins anew with these acts, as if no message had been sent yet. The door inside stays as it is.
+    pub fn begin(&mut self, acts: Acts)
+        ensures door { self.new.door ≡ self.old.door }
+        ensures acts { self.new.acts ≡ acts }
+        ensures messages { self.new.messages ≡ 0 }
+        ensures faults { self.new.faults ≡ 0 }
+        ensures asks { self.new.asks ≡ 0 }
+    {
+        self.acts = acts;
+        self.messages = 0;
+        self.faults = 0;
+        self.asks = 0;
     }
 
     /// The door inside.
@@ -119,10 +135,10 @@ fn faults_with(fate: Fate, faults: u64) -> u64
 }
 
 impl<D: Door + Drop> Door for Lossy<D> {
-    ghost sight = { λ w. around (D.sight w.door) w.faults w.asks };
+    ghost sight = { λ w. around (D.sight w.door) w.acts w.messages w.faults w.asks };
 }
 
-impl<D: ObjectDoor + Drop> ObjectDoor for Lossy<D> {
+impl<D: ObjectDoor + FaithfulDoor + Drop> ObjectDoor for Lossy<D> {
     /// A message that is to come twice is copied first. Where the copy finds no memory the answer is [`Answer::NoMemory`], and none is sent.
     fn change(
         &mut self,
@@ -134,7 +150,7 @@ impl<D: ObjectDoor + Drop> ObjectDoor for Lossy<D> {
     ) -> Result<Answer, Lost>
         requires device { device < (D.sight self.old.door).nodes.devices }
         requires fits { (D.sight self.old.door).nodes.fits name.now ≡ true }
-        ensures made { Calls (IsMade link device name.now change) (around (D.sight self.old.door) self.old.faults self.old.asks) link result (around (D.sight self.new.door) self.new.faults self.new.asks) }
+        ensures made { Calls (IsMade link device name.now change) (around (D.sight self.old.door) self.old.acts self.old.messages self.old.faults self.old.asks) link result (around (D.sight self.new.door) self.new.acts self.new.messages self.new.faults self.new.asks) }
         ensures asks { self.new.asks ≡ self.old.asks }
         ensures inside { (D.sight self.new.door).asks ≡ (D.sight self.old.door).asks }
         ensures happens { let fate = fate_of self.old.acts link self.old.messages in
@@ -164,7 +180,7 @@ impl<D: ObjectDoor + Drop> ObjectDoor for Lossy<D> {
     fn get(&mut self, alloc: Global, link: Link, device: u8, name: &Name) -> Result<Got, Lost>
         requires device { device < (D.sight self.old.door).nodes.devices }
         requires fits { (D.sight self.old.door).nodes.fits name.now ≡ true }
-        ensures read { Calls (IsRead link device name.now) (around (D.sight self.old.door) self.old.faults self.old.asks) link result (around (D.sight self.new.door) self.new.faults self.new.asks) }
+        ensures read { Calls (IsRead link device name.now) (around (D.sight self.old.door) self.old.acts self.old.messages self.old.faults self.old.asks) link result (around (D.sight self.new.door) self.new.acts self.new.messages self.new.faults self.new.asks) }
         ensures asks { self.new.asks ≡ self.old.asks }
         ensures inside { (D.sight self.new.door).asks ≡ (D.sight self.old.door).asks }
         ensures happens { Happens D.sight (IsRead link device name.now) link (fate_of self.old.acts link self.old.messages) self.old.door result self.new.door }
@@ -187,7 +203,7 @@ impl<D: ObjectDoor + Drop> ObjectDoor for Lossy<D> {
     }
 }
 
-impl<D: ReplicaDoor + Drop> ReplicaDoor for Lossy<D> {
+impl<D: ReplicaDoor + FaithfulDoor + Drop> ReplicaDoor for Lossy<D> {
     fn hashes(
         &mut self,
         alloc: Global,
@@ -197,7 +213,7 @@ impl<D: ReplicaDoor + Drop> ReplicaDoor for Lossy<D> {
     ) -> Result<Result<Vec<SuffixHash>, DirFault>, Lost>
         requires device { device < (D.sight self.old.door).nodes.devices }
         requires part { part < 2 ^ (D.sight self.old.door).nodes.power }
-        ensures read { Calls (IsHashesRead link device part) (around (D.sight self.old.door) self.old.faults self.old.asks) link result (around (D.sight self.new.door) self.new.faults self.new.asks) }
+        ensures read { Calls (IsHashesRead link device part) (around (D.sight self.old.door) self.old.acts self.old.messages self.old.faults self.old.asks) link result (around (D.sight self.new.door) self.new.acts self.new.messages self.new.faults self.new.asks) }
         ensures asks { self.new.asks ≡ asked self.old.asks link }
         ensures inside { (D.sight self.new.door).asks ≡ asked_inside link (fate_of self.old.acts link self.old.messages) (D.sight self.old.door).asks }
         ensures happens { Happens D.sight (IsHashesRead link device part) link (fate_of self.old.acts link self.old.messages) self.old.door result self.new.door }
@@ -230,7 +246,7 @@ impl<D: ReplicaDoor + Drop> ReplicaDoor for Lossy<D> {
         requires device { device < (D.sight self.old.door).nodes.devices }
         requires part { part < 2 ^ (D.sight self.old.door).nodes.power }
         requires suffix { suffix < 4096 }
-        ensures read { Calls (IsFilesRead link device part suffix) (around (D.sight self.old.door) self.old.faults self.old.asks) link result (around (D.sight self.new.door) self.new.faults self.new.asks) }
+        ensures read { Calls (IsFilesRead link device part suffix) (around (D.sight self.old.door) self.old.acts self.old.messages self.old.faults self.old.asks) link result (around (D.sight self.new.door) self.new.acts self.new.messages self.new.faults self.new.asks) }
         ensures asks { self.new.asks ≡ asked self.old.asks link }
         ensures inside { (D.sight self.new.door).asks ≡ asked_inside link (fate_of self.old.acts link self.old.messages) (D.sight self.old.door).asks }
         ensures happens { Happens D.sight (IsFilesRead link device part suffix) link (fate_of self.old.acts link self.old.messages) self.old.door result self.new.door }
@@ -264,7 +280,7 @@ impl<D: ReplicaDoor + Drop> ReplicaDoor for Lossy<D> {
         requires device { device < (D.sight self.old.door).nodes.devices }
         requires part { part < 2 ^ (D.sight self.old.door).nodes.power }
         requires within { IsOfPart (D.sight self.old.door).nodes.power part hash.now }
-        ensures read { Calls (IsWriteRead link device part hash.now file.now) (around (D.sight self.old.door) self.old.faults self.old.asks) link result (around (D.sight self.new.door) self.new.faults self.new.asks) }
+        ensures read { Calls (IsWriteRead link device part hash.now file.now) (around (D.sight self.old.door) self.old.acts self.old.messages self.old.faults self.old.asks) link result (around (D.sight self.new.door) self.new.acts self.new.messages self.new.faults self.new.asks) }
         ensures asks { self.new.asks ≡ self.old.asks }
         ensures inside { (D.sight self.new.door).asks ≡ (D.sight self.old.door).asks }
         ensures happens { Happens D.sight (IsWriteRead link device part hash.now file.now) link (fate_of self.old.acts link self.old.messages) self.old.door result self.new.door }

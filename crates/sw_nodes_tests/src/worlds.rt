@@ -1,12 +1,17 @@
 //! Steps of a world, by the list.
 
-ghost use Rattle.std.specs.Prelude.{◌≡◌, IfOk, length};
+ghost use Rattle.std.specs.Prelude.{◌≡◌, All, IfOk, length};
+ghost use Rattle.sw_steps.specs.Stepping.{MayBeMade};
 
+use crate::asked::{Asked, change_of, name_under};
+use crate::obj_dirs::O;
 use std::alloc::Global;
 use std::test::Fail;
-use sw_core::{Parts, Step, World, run_steps};
-use sw_peer::{Event, KeptLine};
+use sw_core::{Parts, World};
+use sw_lossy::{Acts, Lossy};
+use sw_peer::{Event, KeptLine, Line, Link, PartRead};
 use sw_ring::{Ring, read};
+use sw_steps::{Step, run_steps};
 use sw_stores::volumes::start_range;
 use sw_stores::{MemStores, VolumeShelf};
 use sw_volume::MemVolume;
@@ -14,6 +19,68 @@ use sw_volume::MemVolume;
 /// A ring of two devices, each of two locks.
 const RING: &[u8] =
     br#"{"devices":["sda","sdb"],"part_power":2,"lock_bits":1,"replicas":2,"hash_prefix":"","hash_suffix":"endcap","object":[[0,1],[1,0],[0,1],[1,0]],"container":[[0,1],[1,0],[0,1],[1,0]]}"#;
+
+/// Each message comes once.
+const FAITHFUL: Acts = Acts {
+    lose: None,
+    lose_reply: None,
+    repeat: None,
+};
+
+/// The first message is lost.
+const LOSES_FIRST: Acts = Acts {
+    lose: Some(1),
+    lose_reply: None,
+    repeat: None,
+};
+
+/// What came to a device, and how it was said.
+#[derive(Clone, Copy, Debug, PartialEq, Eq)]
+enum Came {
+    Changes(u8, Link),
+    Hashes(u8, Link),
+    Files(u8, Link),
+    Write(u8, Link),
+    Listing(u8),
+    Restart(u8),
+    Other,
+}
+
+/// A listing of the first device, a restart of the other one, and its listing.
+const LISTED: &[Came] = &[Came::Listing(0), Came::Restart(1), Came::Listing(1)];
+
+/// A put at the first device. A push to the other one, of which the first message is lost: it asks for hashes. Then one that is done.
+const PUSHED: &[Came] = &[
+    Came::Changes(0, Link::Local),
+    Came::Hashes(0, Link::Local),
+    Came::Hashes(0, Link::Local),
+    Came::Hashes(1, Link::Sent),
+    Came::Files(1, Link::Sent),
+    Came::Files(0, Link::Local),
+    Came::Write(0, Link::Local),
+    Came::Changes(1, Link::Sent),
+];
+
+fn told(line: &Line) -> Came {
+    match &line.event {
+        Event::Changed(_, _, _) => Came::Changes(line.device, line.link),
+        Event::ReadPart(PartRead::Hashes(_, _)) => Came::Hashes(line.device, line.link),
+        Event::ReadPart(PartRead::Files(_, _, _)) => Came::Files(line.device, line.link),
+        Event::ReadPart(PartRead::Write(_, _, _, _)) => Came::Write(line.device, line.link),
+        Event::Listed(false) => Came::Listing(line.device),
+        Event::Restarted => Came::Restart(line.device),
+        Event::Listed(true) | Event::Read(_, _) => Came::Other,
+    }
+}
+
+/// Whether the lines tell this, and no more.
+fn are_told(lines: &[KeptLine], wanted: &[Came]) -> bool {
+    lines.len() == wanted.len()
+        && lines
+            .iter()
+            .zip(wanted)
+            .all(|(line, came)| told(line.line()) == *came)
+}
 
 /// Empty volumes for both locks of both devices.
 fn four_volumes(alloc: Global) -> Result<Parts<MemVolume>, Fail>
@@ -27,42 +94,69 @@ fn four_volumes(alloc: Global) -> Result<Parts<MemVolume>, Fail>
     }
 }
 
-fn is_restart(line: &KeptLine, device: u8) -> bool {
-    line.line().device == device && matches!(line.line().event, Event::Restarted)
-}
-
-fn is_listing(line: &KeptLine, device: u8) -> bool {
-    line.line().device == device && matches!(line.line().event, Event::Listed(false))
-}
-
-/// Whether the lines are of a listing of the first device, a restart of the other one, and its listing.
-fn are_told(lines: &[KeptLine]) -> bool {
-    match lines {
-        [one, two, three] => is_listing(one, 0) && is_restart(two, 1) && is_listing(three, 1),
-        _ => false,
-    }
-}
-
-fn ran(alloc: Global, ring: &Ring) -> Result<bool, Fail> {
+/// Whether the lines of these steps tell what came.
+fn ran(alloc: Global, ring: &Ring, steps: &[Step], wanted: &[Came]) -> Result<bool, Fail>
+    requires { All (MayBeMade (length ring.now.devices) ring.now.power ring.now.secrets) steps.now }
+{
     if ring.devices.as_slice().len() != 2 || ring.lock_bits != 1 {
         return Ok(false);
     }
-    let Ok(mut world) = World::open(alloc, ring, four_volumes(alloc)?) else {
+    let Ok(world) = World::open(alloc, ring, four_volumes(alloc)?) else {
         return Ok(false);
     };
+    let mut door = Lossy::new(world, FAITHFUL);
+    run_steps(alloc, &mut door, steps)?;
+    Ok(are_told(door.door.lines(), wanted))
+}
+
+fn lists_and_restarts(alloc: Global, ring: &Ring) -> Result<bool, Fail> {
+    if ring.devices.as_slice().len() != 2 {
+        return Ok(false);
+    }
     let steps = [
         Step::List { device: 0 },
         Step::Restart { device: 1 },
         Step::List { device: 1 },
     ];
-    run_steps(alloc, &mut world, &steps)?;
-    Ok(are_told(world.lines()))
+    ran(alloc, ring, &steps, LISTED)
+}
+
+/// The partition of the object is the first one.
+fn pushes(alloc: Global, ring: &Ring) -> Result<bool, Fail> {
+    if ring.devices.as_slice().len() != 2 {
+        return Ok(false);
+    }
+    let name = name_under(alloc, &ring.secrets, O)?;
+    let Some(change) = change_of(alloc, Asked::Put(20))? else {
+        return Ok(false);
+    };
+    let steps = [
+        Step::Change {
+            device: 0,
+            name,
+            change,
+        },
+        Step::Push {
+            from: 0,
+            to: 1,
+            part: 0,
+            acts: LOSES_FIRST,
+        },
+        Step::Push {
+            from: 0,
+            to: 1,
+            part: 0,
+            acts: FAITHFUL,
+        },
+    ];
+    ran(alloc, ring, &steps, PUSHED)
 }
 
 #[test]
 fn steps_leave_their_lines(rt: HostRuntime) -> Result<(), Fail> {
     let alloc = rt.alloc();
     let ring = read(alloc, RING)?;
-    assert!(rt; ran(alloc, &ring)?);
+    assert!(rt; lists_and_restarts(alloc, &ring)?);
+    assert!(rt; pushes(alloc, &ring)?);
     Ok(())
 }

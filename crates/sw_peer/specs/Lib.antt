@@ -1,4 +1,5 @@
 pub mod Briefs
+pub mod Carriage
 pub mod Halves
 pub mod Histories
 pub mod Journals

@@ -2,7 +2,7 @@
 --
 -- What was seen of a lock only grows, and is known over every door: by one that is alone, one that loses and repeats messages, and one
 -- that shares the nodes with others. What the devices hold is known only where the door is alone.
-use Rattle.std.specs.Prelude.{◌≡◌, ◌≢◌, ⊤, ℕ, ◌≤◌, Bool, true, false, List, [], ◌∷◌, ◌++◌, Option, ◌⊎◌, Result, Ok, Err}
+use Rattle.std.specs.Prelude.{◌≡◌, ◌≢◌, ⊤, ℕ, ◌≤◌, Bool, true, false, List, [], ◌∷◌, ◌++◌, length, suc, Option, ◌⊎◌, Result, Ok, Err}
 use Rattle.std.specs.Option.{option_map}
 use Rattle.std.specs.declared.alloc.Global.{Global}
 use Rattle.std.specs.declared.vec.Vec.{Vec}
@@ -16,6 +16,7 @@ use Rattle.sw_outside.specs.Faults.{HasRisen}
 use Rattle.sw_state.specs.declared.state.State.{State}
 use Rattle.sw_suffix.specs.declared.dir_line.DirLine.{DirLine}
 use Rattle.sw_suffix.specs.declared.told.SuffixHash.{SuffixHash}
+use Rattle.sw_peer.specs.Carriage.{Carriage, Carries}
 use Rattle.sw_peer.specs.Halves.{Half, HalfMoves}
 use Rattle.sw_peer.specs.Histories.{StepChanges, StepReads}
 use Rattle.sw_peer.specs.Journals.{Hash}
@@ -54,6 +55,7 @@ pub record Sight : Type 0 where
   pub alone : Bool  -- whether nobody else changes the nodes
   pub faults : ℕ  -- how many messages or answers were lost
   pub asks : ℕ  -- how many messages asked for hashes or files
+  pub carriage : Carriage  -- what becomes of the messages to come, where that is known
   pub trail : Option (List Line)  -- the steps that were made, where the door keeps them
 
 -- ---- what every call keeps
@@ -70,9 +72,9 @@ pub record Moves (at : ℕ → Hash → Type 0) (old new : Sight) : Type 0 where
 abbrev pub IsAt : ℕ → Hash → ℕ → Hash → Type 0
 IsAt device name d hash = (d ≡ device) × (hash ≡ name)
 
--- only counts of the door changed
+-- only counts of the door changed, and which messages are to come
 pub record IsSame (old new : Sight) : Type 0 where
-  pub same : new ≡ record old { faults = new.faults; asks = new.asks }
+  pub same : new ≡ record old { faults = new.faults; asks = new.asks; carriage = new.carriage }
   pub faults : old.faults ≤ new.faults
 
 -- the trail has one line more; that of a step that wanted memory may be missing, and then the step changed nothing
@@ -161,10 +163,15 @@ abbrev pub Comes : {A : Type 0} → (Sight → A → Sight → Type 0) → Sight
 Comes step old [] new = IsSame old new
 Comes step old (answer ∷ answers) new = (mid : Sight) × step old answer mid × Comes step mid answers new
 
--- what a call makes: at the device itself its step comes once; in a message the last answer is heard, or no answer is
+-- What a call makes: at the device itself its step comes once; in a message the last answer is heard, or no answer is. Where it was known how the
+-- message would be delivered, it comes as often as that says, and is heard or not by it
 abbrev pub Calls : {A : Type 0} → (Sight → A → Sight → Type 0) → Sight → Link → Result A Lost → Sight → Type 0
-Calls {A} step old link (Ok answer) new = (earlier : List A) × (link ≡ Local → earlier ≡ []) × Comes step old (earlier ++ answer ∷ []) new
-Calls {A} step old link (Err lost) new = (link ≡ Sent) × HasRisen old.faults new.faults × ((unheard : List A) × Comes step old unheard new)
+Calls {A} step old link (Ok answer) new =
+    (earlier : List A) × (link ≡ Local → earlier ≡ []) × Comes step old (earlier ++ answer ∷ []) new
+    × Carries old.carriage link (suc (length earlier)) true new.carriage
+Calls {A} step old link (Err lost) new =
+    (link ≡ Sent) × HasRisen old.faults new.faults
+    × ((unheard : List A) × Comes step old unheard new × Carries old.carriage link (length unheard) false new.carriage)
 
 -- ---- what the keeper of all nodes does with a device, which is no call of a door
 

@@ -32,7 +32,7 @@ mod seen;
 pub use answer::Answer;
 pub use change::{Change, StepKind};
 pub use dir_fault::DirFault;
-pub use door::{Door, ObjectDoor, ReplicaDoor};
+pub use door::{Door, FaithfulDoor, ObjectDoor, ReplicaDoor};
 pub use entry::{Added, Brief, ObjEntry};
 pub use got::Got;
 pub use kept_line::KeptLine;

@@ -1,6 +1,6 @@
 -- What equal MD5s tell of the lines of a suffix, and which suffixes differ.
 use Rattle.std.proofs.Common.{◌≡◌, ◌≢◌, ℕ, Bool, true, false, not, ◌==◌, List, [], ◌∷◌, map, filter, refl, sym, ◌∙◌, ap, ◌⊎◌, inl, inr}
-use Rattle.std.proofs.Common.{Option, Some, if◌then◌else◌}
+use Rattle.std.proofs.Common.{Option, Some, None, if◌then◌else◌}
 use Rattle.md5.specs.Md5.{md5}
 use Rattle.std.proofs.lemmas.Bool.Decides.{Decides-eqb}
 use Rattle.std.proofs.lemmas.Cmp.{nat_list_cmp_total, tied_itself}
@@ -8,17 +8,21 @@ use Rattle.std.proofs.lemmas.Slice.Eq.{bytes_eq-Decides}
 use Rattle.std.specs.Cmp.Lexicographic.{slice_cmp}
 use Rattle.std.specs.List.{AllByRecursion}
 use Rattle.std.specs.List.Sorted.{IsStrictlySortedBy}
+use Rattle.std.specs.Option.{option_to_list}
 use Rattle.std.specs.Ordering.{nat_cmp}
 use Rattle.std.specs.Str.{bytes_eq}
 use Rattle.std.specs.declared.cmp.Ordering.TheVariants.{Less, Equal}
+use Rattle.sw_diskfile.specs.StateFiles.{picked_of}
+use Rattle.sw_diskfile.specs.declared.file_name.FileName.{FileName}
 use Rattle.sw_diskfile.specs.declared.picking.Picked.{Picked}
 use Rattle.sw_peer.proofs.Hashes.{hash-other, hash-same}
 use Rattle.sw_peer.specs.Journals.{Hash}
-use Rattle.sw_peer.specs.Parts.{md5_in, nothing_picked, picked_in, suffix_md5}
+use Rattle.sw_peer.specs.Parts.{Counts, md5_in, nothing_picked, picked_in, suffix_md5}
 use Rattle.sw_replicator.specs.Pushing.{differing, is_same_md5}
 use Rattle.sw_suffix.proofs.Lines.{lines_from_text}
 use Rattle.sw_suffix.specs.SuffixLines.{AreSuffixLines}
-use Rattle.sw_suffix.specs.SuffixTexts.{suffix_text}
+use Rattle.sw_state.specs.declared.state.State.{State}
+use Rattle.sw_suffix.specs.SuffixTexts.{files, suffix_text}
 use Rattle.sw_suffix.specs.declared.dir_line.DirLine.{DirLine}
 use Rattle.sw_suffix.specs.declared.told.SuffixHash.{SuffixHash}
 
@@ -70,6 +74,20 @@ own-lines hash (line ∷ lines) sorted = (λ same. own same, more lines sorted.0
         → AllByRecursion (IsPicked hash (line ∷ lines)) xs
     more [] less is = tt
     more (x ∷ xs) less is = (behind x less.0 is.0, more xs less.1 is.1)
+
+-- the files of what is picked of a state count in it
+pub files-count : (s : State) (p : Picked) → p ≡ picked_of s → AllByRecursion (Counts s) (files p)
+files-count s p is =
+    by p.base p.meta (λ f same. sym (ap (λ (x : Picked). x.base) is) ∙ same) (λ f same. sym (ap (λ (x : Picked). x.meta) is) ∙ same)
+  where
+    metas : (m : Option FileName) → ((f : FileName) → m ≡ Some f → (picked_of s).meta ≡ Some f) → AllByRecursion (Counts s) (option_to_list m)
+    metas None of_meta = tt
+    metas (Some f) of_meta = (inr (of_meta f refl), tt)
+
+    by : (b m : Option FileName) → ((f : FileName) → b ≡ Some f → (picked_of s).base ≡ Some f)
+        → ((f : FileName) → m ≡ Some f → (picked_of s).meta ≡ Some f) → AllByRecursion (Counts s) (files (record { base = b; meta = m }))
+    by None m of_base of_meta = metas m of_meta
+    by (Some f) m of_base of_meta = (inl (of_base f refl), metas m of_meta)
 
 -- ---- suffixes that differ
 

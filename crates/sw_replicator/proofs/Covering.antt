@@ -1,8 +1,7 @@
 -- Where each call of a push was answered and what was sent was acknowledged, the receiver has at least what the sender had.
-use Rattle.std.proofs.Common.{◌≡◌, ℕ, ◌<◌, true, false, List, [], ◌∷◌, refl, sym, ◌∙◌, ap, subst, arith, ◌⊎◌, inl, inr, Option, Some, None, Ok}
+use Rattle.std.proofs.Common.{◌≡◌, ℕ, ◌<◌, true, false, List, [], ◌∷◌, refl, sym, ◌∙◌, ap, subst, arith, ◌⊎◌, inl, inr, Ok}
 use Rattle.std.proofs.lemmas.List.Elements.{recursion_from_All}
 use Rattle.std.specs.List.{AllByRecursion}
-use Rattle.std.specs.Option.{option_to_list}
 use Rattle.sw_diskfile.specs.StateFiles.{picked_of}
 use Rattle.sw_diskfile.specs.declared.file_name.FileName.{FileName}
 use Rattle.sw_diskfile.specs.declared.picking.Picked.{Picked}
@@ -12,7 +11,7 @@ use Rattle.sw_peer.specs.Journals.{Hash}
 use Rattle.sw_peer.specs.Parts.{AreHashes, AreLines, Counts, IsOfPart, md5_in, picked_in, suffix_md5}
 use Rattle.sw_peer.specs.Sights.{HoldsAll, Nodes, Sight}
 use Rattle.sw_peer.specs.declared.link.Link.TheVariants.{Local, Sent}
-use Rattle.sw_replicator.proofs.Compared.{Among, IsPicked, Verdict, all-both, all-map, compared, own-lines, picked-at}
+use Rattle.sw_replicator.proofs.Compared.{Among, IsPicked, Verdict, all-both, all-map, compared, files-count, own-lines, picked-at}
 use Rattle.sw_replicator.proofs.Going.{AllGo, FileGoes, LineGoes, Passes, RunGoes, SuffixGoes}
 use Rattle.sw_replicator.proofs.Reading.{IsOne, files-held, files-hold, files-pair, files-told, hashes-held, hashes-hold, hashes-pair, hashes-told, later}
 use Rattle.sw_replicator.proofs.Taking.{Covers, alike-least, files-least, least-keeps, unwanted-keeps}
@@ -104,19 +103,6 @@ module _ (from to part : ℕ) (hash : Hash) (Sure : Sight → Type 0) (V : ℕ �
       (w.join a mid c p.0 q.0, λ sure. (own sure, q.1 sure))
 
   -- ---- a suffix
-
-  files-count : (s : State) (p : Picked) → p ≡ picked_of s → AllByRecursion (Counts s) (files p)
-  files-count s p is =
-      by p.base p.meta (λ f same. sym (ap (λ (x : Picked). x.base) is) ∙ same) (λ f same. sym (ap (λ (x : Picked). x.meta) is) ∙ same)
-    where
-      metas : (m : Option FileName) → ((f : FileName) → m ≡ Some f → (picked_of s).meta ≡ Some f) → AllByRecursion (Counts s) (option_to_list m)
-      metas None of_meta = tt
-      metas (Some f) of_meta = (inr (of_meta f refl), tt)
-
-      by : (b m : Option FileName) → ((f : FileName) → b ≡ Some f → (picked_of s).base ≡ Some f)
-          → ((f : FileName) → m ≡ Some f → (picked_of s).meta ≡ Some f) → AllByRecursion (Counts s) (files (record { base = b; meta = m }))
-      by None m of_base of_meta = metas m of_meta
-      by (Some f) m of_base of_meta = (inl (of_base f refl), metas m of_meta)
 
   module _ (one : SuffixHash) (a c : Sight) (g : SuffixGoes from to part one a c) where
     abbrev IsOurs : Hash → Type 0

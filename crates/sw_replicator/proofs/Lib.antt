@@ -1,6 +1,7 @@
 mod Asking
-mod Compared
+pub mod Compared
 mod Covering
+pub mod Exchanging
 mod Going
 mod Joining
 pub mod Keeping
@@ -8,7 +9,7 @@ mod Making
 pub mod Meeting
 mod Passing
 pub mod Reaching
-mod Reading
+pub mod Reading
 mod Searching
 mod Taking
 pub mod Turns

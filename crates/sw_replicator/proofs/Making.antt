@@ -147,7 +147,7 @@ module _ (to : ℕ) (name : Name) (w : Write) where
       let m : Sight = r.0 in
       let n : Sight = r.1 in
       let before : m.nodes ≡ s.nodes = (comes-moves (Moves (IsAt to name.hash)) Makes (made-step Sent to name (Receive w)) s p.0 m r.2).nodes in
-      let same : t ≡ record n { faults = t.faults; asks = t.asks } = r.4.same in
+      let same : t ≡ record n { faults = t.faults; asks = t.asks; carriage = t.carriage } = r.4.same in
       let told_n : (known n to part).told ≡ true = sym (ap (λ (x : Sight). (known x to part).told) same) ∙ told in
       let told_l : (n.objects.seen (m.nodes.lock to name.hash)).told ≡ true =
       lock_told part m n (subst (λ (k : Nodes). IsOfPart k.power part name.hash) (sym before) is) r.3.moves.nodes told_n in

@@ -147,7 +147,7 @@ module _ {A : Type 0} (link : Link) (device part : ℕ) (at : Hash → Type 0) (
       let n : Sight = r.1 in
       let before : m.nodes ≡ s.nodes = came-nodes s p.0 m r.2 in
       let after : n.nodes ≡ m.nodes = r.3.moves.nodes in
-      let same : t ≡ record n { faults = t.faults; asks = t.asks } = r.4.same in
+      let same : t ≡ record n { faults = t.faults; asks = t.asks; carriage = t.carriage } = r.4.same in
       let alone_n : n.alone ≡ true = sym (ap (λ (x : Sight). x.alone) same) ∙ alone in
       let told_n : (n.objects.seen (m.nodes.part_lock device part)).told ≡ true =
       subst (λ (k : Nodes). (n.objects.seen (k.part_lock device part)).told ≡ true) after

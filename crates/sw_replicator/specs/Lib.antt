@@ -1,4 +1,5 @@
 pub mod Causes
+pub mod Laws
 pub mod Meeting
 pub mod Pushing
 pub mod Routes

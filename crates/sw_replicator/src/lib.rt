@@ -5,11 +5,12 @@
 //! had, and where nobody else changed the two, exactly the join of both. Two pushes, there and back, leave both with that join.
 //!
 //! `specs/Pushing` has the calls of a push in their order, `specs/Meeting` what a push that is done leaves, and `specs/Causes` how often it asks
-//! and why it isn't done.
+//! and why it isn't done. `specs/Laws` has what two pushes leave, there and back ([`laws`]).
 #![tactic(auto)]
 
 mod comparing;
 mod counting;
+pub mod laws;
 mod offering;
 mod pushing;
 mod route;

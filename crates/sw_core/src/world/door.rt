@@ -9,7 +9,9 @@ use crate::world::World;
 use std::alloc::Global;
 use sw_diskfile::FileName;
 use sw_hashpath::Name;
-use sw_peer::{Answer, Change, DirFault, Door, Got, Link, Lost, ObjectDoor, ReplicaDoor, Stored};
+use sw_peer::{
+    Answer, Change, DirFault, Door, FaithfulDoor, Got, Link, Lost, ObjectDoor, ReplicaDoor, Stored,
+};
 use sw_suffix::{DirLine, SuffixHash};
 use sw_volume::Volume;
 
@@ -17,6 +19,12 @@ use sw_volume::Volume;
 /// and has no line.
 impl<V: Volume + Drop> Door for World<V> {
     ghost sight = { sight_of V.tells V.holds V.faults };
+}
+
+impl<V: Volume + Drop> FaithfulDoor for World<V> {
+    ghost use Rattle.std.specs.Prelude.{refl};
+
+    ghost carries = { λ w. refl };
 }
 
 impl<V: Volume + Drop> ObjectDoor for World<V> {

@@ -1,7 +1,7 @@
 use Rattle.std.proofs.Common.{◌≡◌, true, [], ◌∷◌, ◌++◌, Some, None, refl, sym, ◌∙◌, ap}
 use Rattle.std.proofs.lemmas.List.{length-set}
 use Rattle.std.specs.List.{slice_get}
-use Rattle.sw_peer.proofs.Calls.{calls-once, made-step}
+use Rattle.sw_peer.proofs.Calls.{calls-once, faithful-once, made-step}
 use Rattle.sw_peer.specs.Sights.{IsAt, IsMade, Moves}
 use Rattle.sw_peer.specs.declared.line.Event.TheVariants.{Changed}
 use Rattle.sw_peer.specs.declared.line.Line.{Line}
@@ -92,6 +92,7 @@ returns-clause-made g c =
     rw (sym c.self.view_is, c.lock-place.ensures.lock)
     (calls-once (Moves (IsAt c.args.device c.args.name.now.hash)) (IsMade c.args.link c.args.device c.args.name.now c.args.change) (made-step c.args.link c.args.device c.args.name.now c.args.change)
     (sight_of v.tells v.holds v.faults w) (sight_of v.tells v.holds v.faults (after v.tells v.holds v.faults w c.args.device c.args.name.now d x at c.push_reserved.new.self.items)) c.args.link c.change_in-answer.result.0
+    (faithful-once c.args.link)
     (world-made v.tells v.holds v.faults w c.args.device c.args.name.now d x at c.push_reserved.new.self.items c.args.link c.args.change c.change_in-answer.result.0 step.others step.made items))
 
 pub push_reserved-requires : goal.push_reserved-requires

@@ -1,7 +1,7 @@
 use Rattle.std.proofs.Common.{◌≡◌, true, [], ◌∷◌, ◌++◌, Some, None, refl, sym, ◌∙◌, ap}
 use Rattle.std.proofs.lemmas.List.{length-set}
 use Rattle.std.specs.List.{slice_get}
-use Rattle.sw_peer.proofs.Calls.{calls-once, read-step}
+use Rattle.sw_peer.proofs.Calls.{calls-once, faithful-once, read-step}
 use Rattle.sw_peer.specs.Sights.{IsAt, IsRead, Moves}
 use Rattle.sw_peer.specs.declared.line.Event.TheVariants.{Read}
 use Rattle.sw_peer.specs.declared.line.Line.{Line}
@@ -85,6 +85,7 @@ returns-clause-read g c =
     rw (sym c.self.view_is, c.lock-place.ensures.lock)
     (calls-once (Moves (IsAt c.args.device c.args.name.now.hash)) (IsRead c.args.link c.args.device c.args.name.now) (read-step c.args.link c.args.device c.args.name.now)
     (sight_of v.tells v.holds v.faults w) (sight_of v.tells v.holds v.faults (after v.tells v.holds v.faults w c.args.device c.args.name.now d x at c.push_reserved.new.self.items)) c.args.link c.get_in-got.result.0
+    (faithful-once c.args.link)
     (world-read v.tells v.holds v.faults w c.args.device c.args.name.now d x at c.push_reserved.new.self.items c.args.link c.get_in-got.result.0 step.all step.read items))
 
 pub push_reserved-requires : goal.push_reserved-requires

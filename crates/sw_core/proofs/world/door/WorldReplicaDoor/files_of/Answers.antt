@@ -5,7 +5,7 @@ use Rattle.std.specs.List.{slice_get}
 use Rattle.sw_hashpath.specs.HashParts.{suffix_of}
 use Rattle.sw_hashdir.specs.Steps.{is_hashed}
 use Rattle.sw_objdir.specs.Directories.{Kept}
-use Rattle.sw_peer.proofs.Calls.{calls-once, files-step}
+use Rattle.sw_peer.proofs.Calls.{calls-once, faithful-once, files-step}
 use Rattle.sw_peer.specs.Journals.{Hash}
 use Rattle.sw_peer.specs.Parts.{AreHashes, AreLines, IsFile, IsOfPart}
 use Rattle.sw_peer.specs.Sights.{IsFilesRead, PartMoves}
@@ -80,5 +80,6 @@ returns-clause-read g c =
     (sight_of v.tells v.holds v.faults w)
     (sight_of v.tells v.holds v.faults (part_after v.tells v.holds v.faults w c.args.device c.args.part d x here c.push_reserved.new.self.items c.asked_after-self-inside.result (λ hash. suffix_of hash ≡ c.args.suffix) (λ k. IsOfPart d.power c.args.part k × (suffix_of k ≡ c.args.suffix)) false (λ nodes told s got. AreLines nodes.power c.args.part c.args.suffix told s got.items) (λ told s got. AreLines d.power c.args.part c.args.suffix told s got.items) (λ got. Files c.args.part c.args.suffix got)))
     c.args.link c.files_in-got.result.0
+    (faithful-once c.args.link)
     (world-part v.tells v.holds v.faults w c.args.device c.args.part d x here c.push_reserved.new.self.items c.asked_after-self-inside.result (λ hash. suffix_of hash ≡ c.args.suffix) (λ k. IsOfPart d.power c.args.part k × (suffix_of k ≡ c.args.suffix)) false (λ nodes told s got. AreLines nodes.power c.args.part c.args.suffix told s got.items) (λ told s got. AreLines d.power c.args.part c.args.suffix told s got.items) (λ got. Files c.args.part c.args.suffix got)
     c.args.link c.files_in-got.result.0 hash of (of-suffix i.power c.args.part c.args.suffix c.requires.suffix) (λ k is. (subst (λ (n : _). IsOfPart n c.args.part k) (sym power) is.0, is.1)) (λ b s y is. subst (λ (n : _). AreLines n c.args.part c.args.suffix b s y.items) power is) step items))

@@ -5,7 +5,7 @@ use Rattle.std.specs.List.{slice_get}
 use Rattle.sw_hashpath.specs.HashParts.{suffix_of}
 use Rattle.sw_hashdir.specs.Steps.{is_hashed}
 use Rattle.sw_objdir.specs.Directories.{Kept}
-use Rattle.sw_peer.proofs.Calls.{calls-once, hashes-step}
+use Rattle.sw_peer.proofs.Calls.{calls-once, faithful-once, hashes-step}
 use Rattle.sw_peer.specs.Journals.{Hash}
 use Rattle.sw_peer.specs.Parts.{AreHashes, AreLines, IsFile, IsOfPart}
 use Rattle.sw_peer.specs.Sights.{IsHashesRead, PartMoves}
@@ -80,5 +80,6 @@ returns-clause-read g c =
     (sight_of v.tells v.holds v.faults w)
     (sight_of v.tells v.holds v.faults (part_after v.tells v.holds v.faults w c.args.device c.args.part d x here c.push_reserved.new.self.items c.asked_after-self-inside.result (λ hash. ⊤) (λ k. IsOfPart d.power c.args.part k × ⊤) false (λ nodes told s got. AreHashes nodes.power c.args.part told s got.items) (λ told s got. AreHashes d.power c.args.part told s got.items) (λ got. Hashes c.args.part got)))
     c.args.link c.hashes_in-got.result.0
+    (faithful-once c.args.link)
     (world-part v.tells v.holds v.faults w c.args.device c.args.part d x here c.push_reserved.new.self.items c.asked_after-self-inside.result (λ hash. ⊤) (λ k. IsOfPart d.power c.args.part k × ⊤) false (λ nodes told s got. AreHashes nodes.power c.args.part told s got.items) (λ told s got. AreHashes d.power c.args.part told s got.items) (λ got. Hashes c.args.part got)
     c.args.link c.hashes_in-got.result.0 hash of tt (λ k is. (subst (λ (n : _). IsOfPart n c.args.part k) (sym power) is.0, tt)) (λ b s y is. subst (λ (n : _). AreHashes n c.args.part b s y.items) power is) step items))

@@ -5,7 +5,7 @@ use Rattle.std.specs.List.{slice_get}
 use Rattle.sw_hashpath.specs.HashParts.{suffix_of}
 use Rattle.sw_hashdir.specs.Steps.{is_hashed}
 use Rattle.sw_objdir.specs.Directories.{Kept}
-use Rattle.sw_peer.proofs.Calls.{calls-once, write-step}
+use Rattle.sw_peer.proofs.Calls.{calls-once, faithful-once, write-step}
 use Rattle.sw_peer.specs.Journals.{Hash}
 use Rattle.sw_peer.specs.Parts.{AreHashes, AreLines, IsFile, IsOfPart}
 use Rattle.sw_peer.specs.Sights.{IsWriteRead, PartMoves}
@@ -79,6 +79,7 @@ returns-clause-read g c =
     (sight_of v.tells v.holds v.faults w)
     (sight_of v.tells v.holds v.faults (part_after v.tells v.holds v.faults w c.args.device c.args.part d x here c.push_reserved.new.self.items i.asks (λ other. other ≡ c.args.hash.now) (λ k. IsOfPart d.power c.args.part k × (k ≡ c.args.hash.now)) true (λ nodes told s got. IsFile nodes.fits c.args.hash.now c.args.file.now told s got) (λ told s got. IsFile (is_hashed d.secrets) c.args.hash.now c.args.file.now told s got) (λ got. Write c.args.part c.args.hash.now c.args.file.now got)))
     c.args.link c.write_in-got.result.0
+    (faithful-once c.args.link)
     (world-part v.tells v.holds v.faults w c.args.device c.args.part d x here c.push_reserved.new.self.items i.asks (λ other. other ≡ c.args.hash.now) (λ k. IsOfPart d.power c.args.part k × (k ≡ c.args.hash.now)) true (λ nodes told s got. IsFile nodes.fits c.args.hash.now c.args.file.now told s got) (λ told s got. IsFile (is_hashed d.secrets) c.args.hash.now c.args.file.now told s got) (λ got. Write c.args.part c.args.hash.now c.args.file.now got)
     c.args.link c.write_in-got.result.0 hash of refl (λ k is. (subst (λ (n : _). IsOfPart n c.args.part k) (sym power) is.0, is.1)) (λ b s y is. subst (λ (q : _). IsFile (is_hashed q) c.args.hash.now c.args.file.now b s y) secrets is) step items))
 

@@ -1,0 +1,5 @@
+use Rattle.sw_replicator.proofs.Exchanging as proofs
+use Rattle.sw_replicator.proofs.laws.exchange_agrees.Goals as goal
+
+pub returns : goal.returns
+returns c = proofs.exchange_agrees

@@ -1,0 +1,53 @@
+-- What is promised of two pushes of a partition, there and back. (This project's own.)
+use Rattle.std.specs.Prelude.{◌≡◌, ◌≢◌, ℕ, true, ◌++◌, ◌⊎◌, Ok}
+use Rattle.sw_hashpath.specs.HashParts.{suffix_of}
+use Rattle.sw_pass.specs.declared.outcome.Outcome.{Outcome}
+use Rattle.sw_peer.specs.Journals.{Hash}
+use Rattle.sw_peer.specs.Parts.{IsOfPart}
+use Rattle.sw_peer.specs.Sights.{Sight}
+use Rattle.sw_replicator.specs.Meeting.{Collides, known}
+use Rattle.sw_replicator.specs.Pushing.{IsPush}
+use Rattle.sw_state.specs.States.{Agree, state_of, together, writes_of}
+
+-- both devices tell what they have of the partition
+abbrev pub BothTell : ℕ → ℕ → ℕ → Sight → Type 0
+BothTell a b part s = ((known s a part).told ≡ true) × ((known s b part).told ≡ true)
+
+-- A push from a to b that is done, from the sight s to m, and later one from b to a that is done, from n to t. Nobody else changes the nodes
+-- during either of them
+pub record IsExchange (a b part : ℕ) (s m n t : Sight) : Type 0 where
+  pub apart : a ≢ b
+  pub there : Outcome
+  pub pushes : IsPush a b part s (Ok there) m
+  pub there_done : there.done ≡ true
+  pub alone : m.alone ≡ true
+  pub told : BothTell a b part s
+  pub nodes : n.nodes ≡ s.nodes
+  pub back : Outcome
+  pub pushes_back : IsPush b a part n (Ok back) t
+  pub back_done : back.done ≡ true
+  pub alone_after : t.alone ≡ true
+  pub told_then : BothTell a b part n
+
+-- what both hold of the hash is the same at both sights
+abbrev pub HoldSame : ℕ → ℕ → Hash → Sight → Sight → Type 0
+HoldSame a b hash m n = (n.objects.holds a hash ≡ m.objects.holds a hash) × (n.objects.holds b hash ≡ m.objects.holds b hash)
+
+-- the texts of the hash's suffix collided in one of the two pushes
+abbrev pub CollidesOnce : ℕ → ℕ → ℕ → Hash → Sight → Sight → Sight → Sight → Type 0
+CollidesOnce a b part hash s m n t = Collides a b part (suffix_of hash) s m ⊎ Collides b a part (suffix_of hash) n t
+
+-- Where nothing else changed a hash of the partition in between, both then hold the join of what both held
+abbrev pub ExchangeMeets : Type 0
+ExchangeMeets = (a b part : ℕ) (s m n t : Sight) → IsExchange a b part s m n t → (hash : Hash) → IsOfPart s.nodes.power part hash → HoldSame a b hash m n
+    → ((t.objects.holds b hash ≡ together (s.objects.holds b hash) (s.objects.holds a hash))
+    × (t.objects.holds a hash ≡ together (s.objects.holds a hash) (t.objects.holds b hash)))
+    ⊎ CollidesOnce a b part hash s m n t
+
+-- Where moreover the writes of what both held at the start agree, both then hold one state: that of the writes of both
+abbrev pub ExchangeAgrees : Type 0
+ExchangeAgrees = (a b part : ℕ) (s m n t : Sight) → IsExchange a b part s m n t → (hash : Hash) → IsOfPart s.nodes.power part hash → HoldSame a b hash m n
+    → Agree (writes_of (s.objects.holds a hash) ++ writes_of (s.objects.holds b hash))
+    → ((t.objects.holds a hash ≡ state_of (writes_of (s.objects.holds a hash) ++ writes_of (s.objects.holds b hash)))
+    × (t.objects.holds b hash ≡ state_of (writes_of (s.objects.holds a hash) ++ writes_of (s.objects.holds b hash))))
+    ⊎ CollidesOnce a b part hash s m n t

@@ -1,0 +1,213 @@
+-- A push and a later one back, in a list of steps that was made.
+use Rattle.std.proofs.Common.{◌≡◌, ◌≢◌, ℕ, Bool, true, false, nat_eq, List, [], ◌∷◌, ◌++◌, refl, sym, ◌∙◌, ap, subst, ◌⊎◌, inl, inr, Result, Ok}
+use Rattle.std.proofs.lemmas.Bool.{eq-eqb, eqb-true}
+use Rattle.sw_core.proofs.PartFacts.{part-at}
+use Rattle.sw_hashpath.specs.HashParts.{suffix_of}
+use Rattle.sw_lossy.specs.Losses.{begun}
+use Rattle.sw_lossy.specs.declared.acts.Acts.{Acts}
+use Rattle.sw_outside.specs.declared.errors.NoMemory.{NoMemory}
+use Rattle.sw_pass.specs.declared.outcome.Outcome.{Outcome}
+use Rattle.sw_peer.proofs.Calls.{calls-moves, made-step, read-step}
+use Rattle.sw_peer.specs.Histories.{History}
+use Rattle.sw_peer.specs.Journals.{Hash}
+use Rattle.sw_peer.specs.Parts.{IsOfPart}
+use Rattle.sw_peer.specs.Sights.{IsAt, IsMade, IsRead, Moves, Nodes, Restarts, Sight}
+use Rattle.sw_peer.specs.declared.link.Link.TheVariants.{Local}
+use Rattle.sw_replicator.proofs.Exchanging.{exchange_meets}
+use Rattle.sw_replicator.specs.Laws.{CollidesOnce, HoldSame}
+use Rattle.sw_replicator.specs.Meeting.{Collides, IsOfPair}
+use Rattle.sw_state.specs.States.{together}
+use Rattle.sw_steps.proofs.Running.{over-moves, sight_after}
+use Rattle.sw_steps.specs.Exchanging.{Exchanges, HasExchange, HoldBoth}
+use Rattle.sw_steps.specs.Laws.{StepsMeet}
+use Rattle.sw_steps.specs.Passing.{IsPushedOver}
+use Rattle.sw_steps.specs.Stepping.{AreMade, IsStepMade}
+use Rattle.sw_steps.specs.declared.step.Step.{Step}
+use Rattle.sw_steps.specs.declared.step.Step.TheVariants as steps
+
+split-made : (xs ys : List Step) (s t : Sight) → AreMade (xs ++ ys) s t → (mid : Sight) × AreMade xs s mid × AreMade ys mid t
+split-made [] ys s t made = (s, refl, made)
+split-made (x ∷ xs) ys s t made = let rest = split-made xs ys made.0 t made.2 in (rest.0, (made.0, made.1, rest.1), rest.2)
+
+-- ---- what stays along steps: that locks tell what they have
+
+module _ (hash : Hash) where
+  abbrev Tells : Sight → ℕ → Type 0
+  Tells s d = (s.objects.seen (s.nodes.lock d hash)).told ≡ true
+
+  pub record Stays (s t : Sight) : Type 0 where
+    pub nodes : t.nodes ≡ s.nodes
+    pub alone : t.alone ≡ true → s.alone ≡ true
+    pub tells : (d : ℕ) → Tells s d → Tells t d
+
+  told-still : (s t : Sight) (d : ℕ) → t.nodes ≡ s.nodes → (t.objects.seen (s.nodes.lock d hash)).told ≡ true → Tells t d
+  told-still s t d nodes told = subst (λ (n : Nodes). (t.objects.seen (n.lock d hash)).told ≡ true) (sym nodes) told
+
+  stays-moved : (at : ℕ → Hash → Type 0) (s t : Sight) → Moves at s t → Stays s t
+  stays-moved at s t p = record {
+    nodes = p.nodes;
+    alone = p.alone;
+    tells = λ d told. told-still s t d p.nodes ((p.objects.grows (s.nodes.lock d hash)).told ∙ told);
+  }
+
+  stays-restarted : (device : ℕ) (s t : Sight) → Restarts device s t → Stays s t
+  stays-restarted device s t r = record {
+    nodes = r.nodes;
+    alone = λ alone. sym r.alone ∙ alone;
+    tells = λ d told. told-still s t d r.nodes (by d (nat_eq d device) refl told);
+  }
+    where
+      by : (d : ℕ) (b : Bool) → nat_eq d device ≡ b → Tells s d → (t.objects.seen (s.nodes.lock d hash)).told ≡ true
+      by d true is told =
+          let at : d ≡ device = eqb-true d device is in
+          subst (λ (e : ℕ). (t.objects.seen (s.nodes.lock e hash)).told ≡ true) (sym at)
+          (r.told hash (subst (λ (e : ℕ). (s.objects.seen (s.nodes.lock e hash)).told ≡ true) at told))
+      by d false is told = ap (λ (h : History). h.told) (r.others d hash apart) ∙ told
+        where
+          apart : d ≢ device
+          apart equal = let yes_match : nat_eq d device ≡ true = eq-eqb d device equal in cc
+
+  step-stays : (step : Step) (s t : Sight) → IsStepMade step s t → Stays s t
+  step-stays (steps.Change device name change) s t made =
+      stays-moved (IsAt device name.hash) s t
+      (calls-moves (Moves (IsAt device name.hash)) (IsMade Local device name change) (made-step Local device name change) s Local (Ok made.0) t made.2)
+  step-stays (steps.Read device name) s t made =
+      stays-moved (IsAt device name.hash) s t
+      (calls-moves (Moves (IsAt device name.hash)) (IsRead Local device name) (read-step Local device name) s Local (Ok made.0) t made.2)
+  step-stays (steps.List device) s t made = record {
+    nodes = made.1.nodes;
+    alone = λ alone. sym made.1.alone ∙ alone;
+    tells = λ d told. told-still s t d made.1.nodes (ap (λ (h : History). h.told) (made.1.same (s.nodes.lock d hash)) ∙ told);
+  }
+  step-stays (steps.Restart device) s t made = stays-restarted device s t made
+  step-stays (steps.Push from to part acts) s t made =
+      let p =
+      stays-moved (IsOfPair s.nodes.power from to part) (begun acts s) (sight_after made.1)
+      (over-moves from to part acts s (Ok made.0) t made.1) in
+      record { nodes = p.nodes; alone = p.alone; tells = p.tells }
+
+  stays-trans : (a b c : Sight) → Stays a b → Stays b c → Stays a c
+  stays-trans a b c p q = record {
+    nodes = q.nodes ∙ p.nodes;
+    alone = λ alone. p.alone (q.alone alone);
+    tells = λ d told. q.tells d (p.tells d told);
+  }
+
+  made-stays : (all : List Step) (s t : Sight) → AreMade all s t → Stays s t
+  made-stays [] s t made = subst (λ (x : Sight). Stays s x) (sym made) (record { nodes = refl; alone = λ alone. alone; tells = λ d told. told })
+  made-stays (step ∷ all) s t made = stays-trans s made.0 t (step-stays step s made.0 made.1) (made-stays all made.0 t made.2)
+
+-- ---- the exchange
+
+-- a collision doesn't depend on what a door around counts
+pub collides-out : (from to part suffix : ℕ) (acts : Acts) (s : Sight) (result : Result Outcome NoMemory) (t : Sight) (over : IsPushedOver from to part acts s result t)
+    → Collides from to part suffix (begun acts s) (sight_after over) → Collides from to part suffix s t
+collides-out from to part suffix acts s result t over c = record {
+  ours = c.ours;
+  theirs = c.theirs;
+  our_history = c.our_history;
+  their_history = c.their_history;
+  ours_were = record { after = c.ours_were.after; before = c.ours_were.before };
+  theirs_were = record { after = c.theirs_were.after; before = c.theirs_were.before };
+  ours_are = c.ours_are;
+  theirs_are = c.theirs_are;
+  differ = c.differ;
+  collide = c.collide;
+}
+
+module _ (a b part : ℕ) (all : List Step) (has : HasExchange a b part all) (s t : Sight) (made : AreMade all s t) where
+  -- up to the first of the two pushes, and the rest
+  one : (mid : Sight) × AreMade has.before s mid × AreMade (steps.Push a b part has.there ∷ (has.between ++ steps.Push b a part has.back ∷ has.behind)) mid t
+  one =
+      split-made has.before (steps.Push a b part has.there ∷ (has.between ++ steps.Push b a part has.back ∷ has.behind)) s t
+      (subst (λ (l : List Step). AreMade l s t) has.all_are made)
+
+  -- up to the second one
+  two : (mid : Sight) × AreMade has.between one.2.0 mid × AreMade (steps.Push b a part has.back ∷ has.behind) mid t
+  two = split-made has.between (steps.Push b a part has.back ∷ has.behind) one.2.0 t one.2.2
+
+  exchanges : Exchanges a b part all has s t
+  exchanges = record {
+    first = one.0;
+    made_before = one.1;
+    there = one.2.1.0;
+    second = one.2.0;
+    pushed = one.2.1.1;
+    third = two.0;
+    made_between = two.1;
+    back = two.2.1.0;
+    fourth = two.2.0;
+    pushed_back = two.2.1.1;
+    made_behind = two.2.2;
+  }
+
+pub steps_meet : StepsMeet
+steps_meet all s t made alone a b part has apart told hash is = (e, meets)
+  where
+    e : Exchanges a b part all has s t
+    e = exchanges a b part all has s t made
+
+    to_first : Stays hash s e.first
+    to_first = made-stays hash has.before s e.first e.made_before
+
+    to_second : Stays hash e.first e.second
+    to_second = step-stays hash (steps.Push a b part has.there) e.first e.second (e.there, e.pushed)
+
+    to_third : Stays hash e.second e.third
+    to_third = made-stays hash has.between e.second e.third e.made_between
+
+    to_fourth : Stays hash e.third e.fourth
+    to_fourth = step-stays hash (steps.Push b a part has.back) e.third e.fourth (e.back, e.pushed_back)
+
+    to_last : Stays hash e.fourth t
+    to_last = made-stays hash has.behind e.fourth t e.made_behind
+
+    part-kept : (x y : Sight) → y.nodes ≡ x.nodes → IsOfPart x.nodes.power part hash → IsOfPart y.nodes.power part hash
+    part-kept x y nodes there = subst (λ (n : Nodes). IsOfPart n.power part hash) (sym nodes) there
+
+    at_first : IsOfPart e.first.nodes.power part hash
+    at_first = part-kept s e.first to_first.nodes is
+
+    to_third_nodes : e.third.nodes ≡ e.first.nodes
+    to_third_nodes = to_third.nodes ∙ to_second.nodes
+
+    at_third : IsOfPart e.third.nodes.power part hash
+    at_third = part-kept e.first e.third to_third_nodes at_first
+
+    tells-first : (d : ℕ) → (s.objects.seen (s.nodes.part_lock d part)).told ≡ true → Tells hash e.first d
+    tells-first d known = to_first.tells d (subst (λ (l : ℕ). (s.objects.seen l).told ≡ true) (sym (part-at s.nodes d part hash is)) known)
+
+    tells-third : (d : ℕ) → (s.objects.seen (s.nodes.part_lock d part)).told ≡ true → Tells hash e.third d
+    tells-third d known = to_third.tells d (to_second.tells d (tells-first d known))
+
+    known-in : (x : Sight) (d : ℕ) → IsOfPart x.nodes.power part hash → Tells hash x d → (x.objects.seen (x.nodes.part_lock d part)).told ≡ true
+    known-in x d there tells = subst (λ (l : ℕ). (x.objects.seen l).told ≡ true) (part-at x.nodes d part hash there) tells
+
+    alone-fourth : e.fourth.alone ≡ true
+    alone-fourth = to_last.alone alone
+
+    meets : e.there.done ≡ true → e.back.done ≡ true → HoldSame a b hash e.second e.third → HoldBoth a b part hash e.first e.second e.third e.fourth
+    meets there_done back_done same =
+        by (exchange_meets a b part (begun has.there e.first) (sight_after e.pushed) (begun has.back e.third)
+        (sight_after e.pushed_back) (record {
+          apart = apart;
+          there = e.there;
+          pushes = e.pushed.pushes;
+          there_done = there_done;
+          alone = to_third.alone (to_fourth.alone alone-fourth);
+          told = (known-in e.first a at_first (tells-first a told.0), known-in e.first b at_first (tells-first b told.1));
+          nodes = to_third_nodes;
+          back = e.back;
+          pushes_back = e.pushed_back.pushes;
+          back_done = back_done;
+          alone_after = alone-fourth;
+          told_then = (known-in e.third a at_third (tells-third a told.0), known-in e.third b at_third (tells-third b told.1));
+        }) hash at_first same)
+      where
+        by : ((e.fourth.objects.holds b hash ≡ together (e.first.objects.holds b hash) (e.first.objects.holds a hash))
+            × (e.fourth.objects.holds a hash ≡ together (e.first.objects.holds a hash) (e.fourth.objects.holds b hash)))
+            ⊎ CollidesOnce a b part hash (begun has.there e.first) (sight_after e.pushed) (begun has.back e.third)
+            (sight_after e.pushed_back) → HoldBoth a b part hash e.first e.second e.third e.fourth
+        by (inl joined) = inl joined
+        by (inr (inl collides)) = inr (inl (collides-out a b part (suffix_of hash) has.there e.first (Ok e.there) e.second e.pushed collides))
+        by (inr (inr collides)) = inr (inr (collides-out b a part (suffix_of hash) has.back e.third (Ok e.back) e.fourth e.pushed_back collides))

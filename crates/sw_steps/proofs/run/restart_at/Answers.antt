@@ -1,0 +1,21 @@
+use Rattle.std.proofs.Common.{refl}
+use Rattle.sw_core.proofs.Anew.{restarts}
+use Rattle.sw_core.proofs.Sessions.{run-restarted}
+use Rattle.sw_core.specs.Worlds.{sight_of}
+use Rattle.sw_steps.proofs.run.restart_at.Goals as goal
+
+pub returns-clause-made : goal.returns-clause-made
+returns-clause-made g c =
+    let v = g.V.Volume in
+    restarts v.tells v.holds v.faults c.args.world.now c.lift.new.self c.set_down.new.self c.args.device c.in_ok-parts.parts.volumes.items c.requires.whole
+    c.requires.device c.in_ok-parts.ensures.ok c.set_down.ensures
+
+pub returns-clause-runs : goal.returns-clause-runs
+returns-clause-runs g c =
+    let v = g.V.Volume in
+    let w = c.args.world.now in
+    let n = c.set_down.new.self in
+    λ start has.
+    run-restarted start c.args.device (sight_of v.tells v.holds v.faults w) (sight_of v.tells v.holds v.faults n) refl
+    (restarts v.tells v.holds v.faults w c.lift.new.self n c.args.device c.in_ok-parts.parts.volumes.items c.requires.whole c.requires.device
+    c.in_ok-parts.ensures.ok c.set_down.ensures) has

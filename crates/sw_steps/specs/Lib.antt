@@ -1,0 +1,4 @@
+pub mod Exchanging
+pub mod Laws
+pub mod Passing
+pub mod Stepping

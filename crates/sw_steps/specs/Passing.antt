@@ -1,0 +1,17 @@
+-- A pass through a door that loses and repeats messages. (This project's own.)
+use Rattle.std.specs.Prelude.{ℕ, Result}
+use Rattle.sw_lossy.specs.Losses.{around, begun}
+use Rattle.sw_lossy.specs.declared.acts.Acts.{Acts}
+use Rattle.sw_outside.specs.declared.errors.NoMemory.{NoMemory}
+use Rattle.sw_pass.specs.declared.outcome.Outcome.{Outcome}
+use Rattle.sw_peer.specs.Sights.{Sight}
+use Rattle.sw_replicator.specs.Pushing.{IsPush}
+
+-- A push through such a door, around nodes that were seen so before it, and so after it. The door counts from 0 and delivers the messages of
+-- the push as the acts say; what it says of messages behind the push tells nothing
+pub record IsPushedOver (from to part : ℕ) (acts : Acts) (s : Sight) (result : Result Outcome NoMemory) (t : Sight) : Type 0 where
+  pub acts_behind : Acts
+  pub messages : ℕ
+  pub faults : ℕ
+  pub asks : ℕ
+  pub pushes : IsPush from to part (begun acts s) result (around t acts_behind messages faults asks)

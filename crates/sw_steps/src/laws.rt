@@ -1,0 +1,13 @@
+//! Laws of steps and passes. Each function does nothing: its clause is the law.
+
+ghost use Rattle.sw_steps.specs.Laws.{PushingRuns, StepsMeet};
+
+/// A push at nodes that nobody else changes is a run of the machine, whatever comes of it.
+pub fn pushing_runs()
+    ensures { PushingRuns }
+{}
+
+/// A push that is done and a later one back, in a list of steps, leave both devices with the join of what both held.
+pub fn steps_meet()
+    ensures { StepsMeet }
+{}

@@ -1,0 +1,29 @@
+ghost use Rattle.std.specs.Prelude.{◌≢◌, ◌<◌, ◌^◌};
+ghost use Rattle.sw_steps.specs.Passing.{IsPushedOver};
+
+use std::alloc::Global;
+use sw_lossy::{Acts, Lossy};
+use sw_outside::NoMemory;
+use sw_pass::Outcome;
+use sw_peer::{FaithfulDoor, ReplicaDoor};
+use sw_replicator::push;
+
+/// Pushes a partition through a door that loses and repeats messages; `acts` says which, by their numbers in this push, from 1. The door
+/// inside delivers each message once.
+pub fn push_over<D: ReplicaDoor + FaithfulDoor + Drop>(
+    alloc: Global,
+    door: &mut Lossy<D>,
+    from: u8,
+    to: u8,
+    part: u32,
+    acts: Acts,
+) -> Result<Outcome, NoMemory>
+    requires from { from < (D.sight door.old.door).nodes.devices }
+    requires to { to < (D.sight door.old.door).nodes.devices }
+    requires apart { from ≢ to }
+    requires part { part < 2 ^ (D.sight door.old.door).nodes.power }
+    ensures { IsPushedOver from to part acts (D.sight door.old.door) result (D.sight door.new.door) }
+{
+    door.begin(acts);
+    push(alloc, door, from, to, part)
+}
