@@ -1,2 +1,5 @@
 mod Growing
-mod OneControl
+pub mod OneControl
+mod OneReplication
+mod Refusals
+pub mod ToldOutcomes

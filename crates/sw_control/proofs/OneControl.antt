@@ -1,52 +1,70 @@
--- A control request asks for one thing: no words are in two rows of the table, and no name is that of two devices.
-use Rattle.std.proofs.Common.{◌≡◌, ℕ, List, Some, refl, ap}
-use Rattle.sw_ring.proofs.Repeats.{one_place}
+-- A control request asks for one thing: no words are in two rows of the table, and no name is that of two devices, and no text that of two partitions.
+use Rattle.std.proofs.Common.{◌≡◌, ℕ, List, refl, ap}
+use Rattle.sw_message.specs.declared.fields.Field.{Field}
 use Rattle.sw_ring.specs.declared.ring.Ring.{Ring}
-use Rattle.sw_object_server.specs.Places.{IsDevice}
+use Rattle.sw_control.proofs.OneReplication.{one_device, one_replication}
 use Rattle.sw_control.specs.Asking.{AsksFor, IsAsked, words_of}
 use Rattle.sw_control.specs.Laws.{AsksForOne}
 use Rattle.sw_control.specs.declared.asking.Control.{Control}
-use Rattle.sw_control.specs.declared.asking.Control.TheVariants.{Trail, Files, Restart, Refused}
+use Rattle.sw_control.specs.declared.asking.Control.TheVariants.{Trail, Files, Restart, Replicate, Refused}
 
-one_device : (ring : Ring) (name other : List ℕ) (i j : ℕ) → name ≡ other → IsDevice ring name (Some i) → IsDevice ring other (Some j) → i ≡ j
-one_device ring name other i j same p q = one_place name ring.devices i j ring.distinct_names p (rw (← same) at q)
-
-one_row : (ring : Ring) (words : List (List ℕ)) (a b : Control) → AsksFor ring words a → AsksFor ring words b → a ≡ b
-one_row ring words Trail Trail p q = refl
-one_row ring words Trail (Files j) p (other, known, q) = cc
-one_row ring words Trail (Restart j) p (other, known, q) = cc
-one_row ring words (Files i) Trail (name, here, p) q = cc
-one_row ring words (Files i) (Files j) (name, here, p) (other, known, q) =
+one_row : (ring : Ring) (words : List (List ℕ)) (fields : List Field) (a b : Control) → AsksFor ring words fields a → AsksFor ring words fields b → a ≡ b
+one_row ring words fields Trail Trail p q = refl
+one_row ring words fields Trail (Files j) p (other, known, q) = cc
+one_row ring words fields Trail (Restart j) p (other, known, q) = cc
+one_row ring words fields Trail (Replicate b) p (from', to', part', known, q) = cc
+one_row ring words fields (Files i) Trail (name, here, p) q = cc
+one_row ring words fields (Files i) (Files j) (name, here, p) (other, known, q) =
     let same : name ≡ other = cc in
     ap Files (one_device ring name other i j same here known)
-one_row ring words (Files i) (Restart j) (name, here, p) (other, known, q) = cc
-one_row ring words (Restart i) Trail (name, here, p) q = cc
-one_row ring words (Restart i) (Files j) (name, here, p) (other, known, q) = cc
-one_row ring words (Restart i) (Restart j) (name, here, p) (other, known, q) =
+one_row ring words fields (Files i) (Restart j) (name, here, p) (other, known, q) = cc
+one_row ring words fields (Files i) (Replicate b) (name, here, p) (from', to', part', known, q) = cc
+one_row ring words fields (Restart i) Trail (name, here, p) q = cc
+one_row ring words fields (Restart i) (Files j) (name, here, p) (other, known, q) = cc
+one_row ring words fields (Restart i) (Restart j) (name, here, p) (other, known, q) =
     let same : name ≡ other = cc in
     ap Restart (one_device ring name other i j same here known)
-one_row ring words Trail Refused p q = elim q [ ]
-one_row ring words (Files i) Refused p q = elim q [ ]
-one_row ring words (Restart i) Refused p q = elim q [ ]
-one_row ring words Refused b p q = elim p [ ]
+one_row ring words fields (Restart i) (Replicate b) (name, here, p) (from', to', part', known, q) = cc
+one_row ring words fields (Replicate a) Trail (from, to, part, here, p) q = cc
+one_row ring words fields (Replicate a) (Files j) (from, to, part, here, p) (other, known, q) = cc
+one_row ring words fields (Replicate a) (Restart j) (from, to, part, here, p) (other, known, q) = cc
+one_row ring words fields (Replicate a) (Replicate b) (from, to, part, here, p) (from', to', part', known, q) =
+    let same_from : from ≡ from' = cc in
+    let same_to : to ≡ to' = cc in
+    let same_part : part ≡ part' = cc in
+    ap Replicate (one_replication ring from to part from' to' part' fields a b same_from same_to same_part here known)
+one_row ring words fields Trail Refused p q = elim q [ ]
+one_row ring words fields (Files i) Refused p q = elim q [ ]
+one_row ring words fields (Restart i) Refused p q = elim q [ ]
+one_row ring words fields (Replicate a) Refused p q = elim q [ ]
+one_row ring words fields Refused b p q = elim p [ ]
 
-one_asked : (ring : Ring) (words : List (List ℕ)) (a b : Control) → IsAsked ring words a → IsAsked ring words b → a ≡ b
-one_asked ring words Trail Trail p q = refl
-one_asked ring words Trail (Files j) p q = one_row ring words Trail (Files j) p q
-one_asked ring words Trail (Restart j) p q = one_row ring words Trail (Restart j) p q
-one_asked ring words Trail Refused p q = absurd (q Trail p)
-one_asked ring words (Files i) Trail p q = one_row ring words (Files i) Trail p q
-one_asked ring words (Files i) (Files j) p q = one_row ring words (Files i) (Files j) p q
-one_asked ring words (Files i) (Restart j) p q = one_row ring words (Files i) (Restart j) p q
-one_asked ring words (Files i) Refused p q = absurd (q (Files i) p)
-one_asked ring words (Restart i) Trail p q = one_row ring words (Restart i) Trail p q
-one_asked ring words (Restart i) (Files j) p q = one_row ring words (Restart i) (Files j) p q
-one_asked ring words (Restart i) (Restart j) p q = one_row ring words (Restart i) (Restart j) p q
-one_asked ring words (Restart i) Refused p q = absurd (q (Restart i) p)
-one_asked ring words Refused Trail p q = absurd (p Trail q)
-one_asked ring words Refused (Files j) p q = absurd (p (Files j) q)
-one_asked ring words Refused (Restart j) p q = absurd (p (Restart j) q)
-one_asked ring words Refused Refused p q = refl
+one_asked : (ring : Ring) (words : List (List ℕ)) (fields : List Field) (a b : Control) → IsAsked ring words fields a → IsAsked ring words fields b → a ≡ b
+one_asked ring words fields Trail Trail p q = refl
+one_asked ring words fields Trail (Files j) p q = one_row ring words fields Trail (Files j) p q
+one_asked ring words fields Trail (Restart j) p q = one_row ring words fields Trail (Restart j) p q
+one_asked ring words fields Trail (Replicate b) p q = one_row ring words fields Trail (Replicate b) p q
+one_asked ring words fields Trail Refused p q = absurd (q Trail p)
+one_asked ring words fields (Files i) Trail p q = one_row ring words fields (Files i) Trail p q
+one_asked ring words fields (Files i) (Files j) p q = one_row ring words fields (Files i) (Files j) p q
+one_asked ring words fields (Files i) (Restart j) p q = one_row ring words fields (Files i) (Restart j) p q
+one_asked ring words fields (Files i) (Replicate b) p q = one_row ring words fields (Files i) (Replicate b) p q
+one_asked ring words fields (Files i) Refused p q = absurd (q (Files i) p)
+one_asked ring words fields (Restart i) Trail p q = one_row ring words fields (Restart i) Trail p q
+one_asked ring words fields (Restart i) (Files j) p q = one_row ring words fields (Restart i) (Files j) p q
+one_asked ring words fields (Restart i) (Restart j) p q = one_row ring words fields (Restart i) (Restart j) p q
+one_asked ring words fields (Restart i) (Replicate b) p q = one_row ring words fields (Restart i) (Replicate b) p q
+one_asked ring words fields (Restart i) Refused p q = absurd (q (Restart i) p)
+one_asked ring words fields (Replicate a) Trail p q = one_row ring words fields (Replicate a) Trail p q
+one_asked ring words fields (Replicate a) (Files j) p q = one_row ring words fields (Replicate a) (Files j) p q
+one_asked ring words fields (Replicate a) (Restart j) p q = one_row ring words fields (Replicate a) (Restart j) p q
+one_asked ring words fields (Replicate a) (Replicate b) p q = one_row ring words fields (Replicate a) (Replicate b) p q
+one_asked ring words fields (Replicate a) Refused p q = absurd (q (Replicate a) p)
+one_asked ring words fields Refused Trail p q = absurd (p Trail q)
+one_asked ring words fields Refused (Files j) p q = absurd (p (Files j) q)
+one_asked ring words fields Refused (Restart j) p q = absurd (p (Restart j) q)
+one_asked ring words fields Refused (Replicate b) p q = absurd (p (Replicate b) q)
+one_asked ring words fields Refused Refused p q = refl
 
 pub asks_for_one : AsksForOne
-asks_for_one ring r a b p q = one_asked ring (words_of r) a b p q
+asks_for_one ring r a b p q = one_asked ring (words_of r) r.fields a b p q

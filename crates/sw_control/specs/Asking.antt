@@ -1,14 +1,16 @@
 -- The control requests, which are of no node: they look at the whole cluster, or act on it. (This project's own.)
-use Rattle.std.specs.Prelude.{◌≡◌, ⊤, ℕ, ◌<◌, Bool, List, [], ◌∷◌, length, drop, map, codes, nat_eq, ◌&&◌, Some}
+use Rattle.std.specs.Prelude.{◌≡◌, ◌≢◌, ⊤, ℕ, ◌^◌, ◌<◌, Bool, List, [], ◌∷◌, length, drop, map, codes, nat_eq, ◌&&◌, Some}
 use Rattle.std.specs.List.{slice_split, starts_with}
 use Rattle.std.specs.Str.{bytes_eq}
 use Rattle.percent_encoding.specs.Percent.{percent_decode}
+use Rattle.sw_message.specs.declared.fields.Field.{Field}
 use Rattle.sw_message.specs.declared.request.Request.{Request}
 use Rattle.sw_object_server.specs.Places.{IsDevice}
 use Rattle.sw_object_server.specs.Targets.{behind_segment, first_segment, is_slash}
 use Rattle.sw_ring.specs.declared.ring.Ring.{Ring}
+use Rattle.sw_control.specs.Replications.{IsReplication}
 use Rattle.sw_control.specs.declared.asking.Control.{Control}
-use Rattle.sw_control.specs.declared.asking.Control.TheVariants.{Trail, Files, Restart, Refused}
+use Rattle.sw_control.specs.declared.asking.Control.TheVariants.{Trail, Files, Restart, Replicate, Refused}
 
 -- whether the path's first segment is that of control requests
 abbrev pub is_control : List ℕ → Bool
@@ -22,25 +24,29 @@ segments_of path = map percent_decode (slice_split is_slash (behind_segment (dro
 abbrev pub words_of : Request → List (List ℕ)
 words_of r = r.method ∷ segments_of r.path
 
--- The requests that are known, each with the words that ask for it. A device is asked for by its name
-abbrev pub AsksFor : Ring → List (List ℕ) → Control → Type 0
-AsksFor ring words Trail = words ≡ codes "GET" ∷ codes "trail" ∷ []
-AsksFor ring words (Files device) = (name : List ℕ) × IsDevice ring name (Some device) × (words ≡ codes "GET" ∷ codes "files" ∷ name ∷ [])
-AsksFor ring words (Restart device) = (name : List ℕ) × IsDevice ring name (Some device) × (words ≡ codes "POST" ∷ codes "restart" ∷ name ∷ [])
-AsksFor ring words Refused = ⊥
+-- The requests that are known, each with the words that ask for it. A device is asked for by its name, and a push by fields as well
+abbrev pub AsksFor : Ring → List (List ℕ) → List Field → Control → Type 0
+AsksFor ring words fields Trail = words ≡ codes "GET" ∷ codes "trail" ∷ []
+AsksFor ring words fields (Files device) = (name : List ℕ) × IsDevice ring name (Some device) × (words ≡ codes "GET" ∷ codes "files" ∷ name ∷ [])
+AsksFor ring words fields (Restart device) = (name : List ℕ) × IsDevice ring name (Some device) × (words ≡ codes "POST" ∷ codes "restart" ∷ name ∷ [])
+AsksFor ring words fields (Replicate asked) = (from : List ℕ) × (to : List ℕ) × (part : List ℕ) × IsReplication ring from to part fields asked
+    × (words ≡ codes "POST" ∷ codes "replicate" ∷ from ∷ to ∷ part ∷ [])
+AsksFor ring words fields Refused = ⊥
 
--- what these words ask for. They are refused exactly where they ask for nothing that is known
-abbrev pub IsAsked : Ring → List (List ℕ) → Control → Type 0
-IsAsked ring words Refused = (known : Control) → ¬ AsksFor ring words known
-IsAsked ring words asked = AsksFor ring words asked
+-- what these words and fields ask for. They are refused exactly where they ask for nothing that is known
+abbrev pub IsAsked : Ring → List (List ℕ) → List Field → Control → Type 0
+IsAsked ring words fields Refused = (known : Control) → ¬ AsksFor ring words fields known
+IsAsked ring words fields asked = AsksFor ring words fields asked
 
 -- what a control request asks for
 abbrev pub IsControl : Ring → Request → Control → Type 0
-IsControl ring r asked = IsAsked ring (words_of r) asked
+IsControl ring r asked = IsAsked ring (words_of r) r.fields asked
 
--- a device that is asked for is one of the ring's
+-- the devices that are asked for are among the ring's, and so is the partition; a push is from one device to another
 abbrev pub IsPlaced : Ring → Control → Type 0
 IsPlaced ring Trail = ⊤
 IsPlaced ring (Files device) = device < length ring.devices
 IsPlaced ring (Restart device) = device < length ring.devices
+IsPlaced ring (Replicate asked) = (asked.from < length ring.devices) × (asked.to < length ring.devices) × (asked.from ≢ asked.to)
+    × (asked.part < 2 ^ ring.power)
 IsPlaced ring Refused = ⊤

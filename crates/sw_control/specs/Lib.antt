@@ -1,5 +1,7 @@
 pub mod Asking
 pub mod Growth
 pub mod Laws
+pub mod OutcomeText
+pub mod Replications
 pub mod Texts
 pub mod TrailText

@@ -1,10 +1,12 @@
-ghost use Rattle.std.specs.Prelude.{◌≡◌, ◌∷◌, [], drop, map, IfOk};
+ghost use Rattle.std.specs.Prelude.{◌≡◌, List, ◌∷◌, [], codes, drop, map, IfOk};
 ghost use Rattle.std.specs.List.{slice_split};
+ghost use Rattle.sw_message.specs.declared.fields.Field.{Field};
 ghost use Rattle.sw_object_server.specs.Targets.{is_slash};
 ghost use Rattle.sw_control.specs.Asking.{IsAsked, IsControl, IsPlaced, is_control as is_control_path, segments_of};
 
+use crate::replication::{Replication, replication_of};
 use std::alloc::{AllocError, Global};
-use sw_message::Request;
+use sw_message::{FieldList, Request};
 use sw_object_server::{at_slash, decoded};
 use sw_outside::{Bytes, NoMemory};
 use sw_ring::Ring;
@@ -18,6 +20,8 @@ pub enum Control {
     Files(u8),
     /// A restart of a device.
     Restart(u8),
+    /// A push of a partition from one device to another.
+    Replicate(Replication),
     /// Nothing that is known: a 400.
     Refused,
 }
@@ -41,24 +45,35 @@ pub fn read_control(alloc: Global, ring: &Ring, request: &Request) -> Result<Con
     ensures placed { IfOk result (IsPlaced ring.now) }
 {
     let words = words_of(alloc, request.path.as_slice())?;
-    Ok(asked(ring, request.method.as_str(), &words))
+    Ok(asked(ring, request, &words))
 }
 
-/// What a method and the words behind it ask for.
-fn asked(ring: &Ring, method: &str, words: &[Bytes]) -> Control
-    ensures asked { IsAsked ring.now (method.now ∷ words.now) result }
+/// What a request with these words behind its method asks for.
+fn asked(ring: &Ring, request: &Request, words: &[Bytes]) -> Control
+    ensures asked { IsAsked ring.now (request.now.method ∷ words.now) request.now.fields result }
     ensures placed { IsPlaced ring.now result }
 {
+    let method = request.method.as_str();
     match words {
         [word] if method == "GET" && word.as_slice() == b"trail".as_slice() => Control::Trail,
         [word, device] => of_device(ring, method, word.as_slice(), device.as_slice()),
+        [word, from, to, part] if method == "POST" && word.as_slice() == b"replicate".as_slice() =>
+            {
+                of_push(
+                    ring,
+                    from.as_slice(),
+                    to.as_slice(),
+                    part.as_slice(),
+                    &request.fields,
+                )
+            }
         _ => Control::Refused,
     }
 }
 
 /// What a word and the name of a device ask for.
 fn of_device(ring: &Ring, method: &str, word: &[u8], device: &[u8]) -> Control
-    ensures asked { IsAsked ring.now (method.now ∷ word.now ∷ device.now ∷ []) result }
+    ensures asked { (fields : List Field) → IsAsked ring.now (method.now ∷ word.now ∷ device.now ∷ []) fields result }
     ensures placed { IsPlaced ring.now result }
 {
     let Some(device) = ring.device(device) else {
@@ -70,6 +85,17 @@ fn of_device(ring: &Ring, method: &str, word: &[u8], device: &[u8]) -> Control
         Control::Restart(device)
     } else {
         Control::Refused
+    }
+}
+
+/// What the names of two devices, the number of a partition and the fields ask for behind the words of a push.
+fn of_push(ring: &Ring, from: &[u8], to: &[u8], part: &[u8], fields: &FieldList) -> Control
+    ensures asked { IsAsked ring.now (codes "POST" ∷ codes "replicate" ∷ from.now ∷ to.now ∷ part.now ∷ []) fields.now result }
+    ensures placed { IsPlaced ring.now result }
+{
+    match replication_of(ring, from, to, part, fields) {
+        Some(replication) => Control::Replicate(replication),
+        None => Control::Refused,
     }
 }
 

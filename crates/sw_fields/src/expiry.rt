@@ -75,8 +75,8 @@ fn path_size(name: &Name) -> usize
     place.saturating_add(name.object.as_slice().len())
 }
 
-/// The second that a text is: 1 to 10 digits.
-fn second_of(text: &[u8]) -> Option<u64>
+/// The second that a text is: 1 to 10 digits. `None` where it is none.
+pub fn second_of(text: &[u8]) -> Option<u64>
     ensures value { result ≡ second_of_text text.now }
     ensures bound { IfSome result (λ second. second ≤ 9999999999) }
 {

@@ -1,5 +1,5 @@
 -- Where a name is in a ring. (OpenStack Swift's object server.)
-use Rattle.std.specs.Prelude.{◌≡◌, ⊤, ℕ, ◌<◌, Bool, List, length, Option, None, Some, Contains, decimal, slice_get}
+use Rattle.std.specs.Prelude.{◌≡◌, ◌≢◌, ⊤, ℕ, ◌^◌, ◌<◌, Bool, List, length, Option, None, Some, Contains, decimal, slice_get}
 use Rattle.std.specs.Str.{bytes_eq}
 use Rattle.sw_hashpath.specs.BadNames.{bad_name}
 use Rattle.sw_hashpath.specs.HashParts.{partition_of}
@@ -33,6 +33,11 @@ IsHashed ring name = (name.hash ≡ hash_of ring.secrets name.account (Some name
 abbrev pub IsDevice : Ring → List ℕ → Option ℕ → Type 0
 IsDevice ring name None = ¬ (Contains ring.devices name)
 IsDevice ring name (Some device) = slice_get ring.devices device ≡ Some name
+
+-- the partition that a text names, by its decimal number, where the ring has it
+abbrev pub IsPartition : Ring → List ℕ → Option ℕ → Type 0
+IsPartition ring text None = (part : ℕ) → part < 2 ^ ring.power → text ≢ decimal part
+IsPartition ring text (Some part) = (part < 2 ^ ring.power) × (text ≡ decimal part)
 
 -- whether a text is the number of the name's partition
 abbrev pub is_partition_of : Ring → Name → List ℕ → Bool

@@ -6,7 +6,8 @@
 //!
 //! The body of a PUT is moved into the content that is written, and the body of what a GET finds into its reply: neither is copied.
 //!
-//! What single fields say, and the metadata that they give an object, are read by `sw_fields`.
+//! What single fields say, and the metadata that they give an object, are read by `sw_fields`. Paths of other servers are read by the same
+//! functions as those of objects: [`at_slash`], [`decoded`], [`partition_named`].
 //!
 //! The next layers up are `sw_cluster`, which routes requests to this server, and the jobs that serve connections.
 #![tactic(auto)]
@@ -14,6 +15,7 @@
 mod asked;
 pub mod laws;
 mod making;
+mod partitions;
 mod posting;
 mod putting;
 mod reading;
@@ -25,8 +27,9 @@ mod verb;
 mod verdict;
 
 pub use asked::Asked;
+pub use partitions::partition_named;
 pub use reading::read_request;
-pub use replies::{bare, made_reply, reply_to};
+pub use replies::{bare, damaged, made_reply, reply_to};
 pub use serving::answer;
 pub use showing::shown;
 pub use target::{at_slash, decoded, slash_count};

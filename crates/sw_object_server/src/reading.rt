@@ -1,17 +1,16 @@
-ghost use Rattle.std.specs.Prelude.{◌≡◌, decimal, IfOk};
-ghost use Rattle.std.specs.Str.{bytes_eq};
+ghost use Rattle.std.specs.Prelude.{IfOk};
 ghost use Rattle.sw_object_server.specs.Targets.{parts_of as parts_of_path};
 ghost use Rattle.sw_object_server.specs.Asking.{IsAsked};
 ghost use Rattle.sw_object_server.specs.Reading.{AsksDevice, AsksName, Deletes, IsTimed, IsVerdict, Posts, Puts};
 ghost use Rattle.sw_object_server.specs.Places.{IsHashed, IsPlaced};
 
 use crate::asked::Asked;
+use crate::partitions::has_number;
 use crate::posting::{read_delete, read_post};
 use crate::putting::read_put;
 use crate::target::{Parts, is_for_objects, parts_of};
 use crate::verb::{Verb, verb_of};
 use crate::verdict::Verdict;
-use itoa::Buffer;
 use std::alloc::Global;
 use sw_fields::time_of;
 use sw_hashpath::{Name, NameError, partition};
@@ -130,12 +129,4 @@ fn timed_delete(request: &Request) -> Verdict
         Some(time) => read_delete(time, request),
         None => Verdict::Refused(400),
     }
-}
-
-/// Whether the text is the decimal form of the number.
-fn has_number(text: &[u8], number: u32) -> bool
-    ensures { result ≡ bytes_eq text.now (decimal number) }
-{
-    let mut buffer = Buffer::new();
-    text == buffer.format(number).as_bytes()
 }

@@ -91,7 +91,7 @@ fn at_time(alloc: Global, status: u16, time: Timestamp) -> Result<Response, NoMe
 }
 
 /// The reply over a damaged file: 507 with the number of what is wrong with it.
-pub(crate) fn damaged(alloc: Global, bad: BadFile) -> Result<Response, NoMemory>
+pub fn damaged(alloc: Global, bad: BadFile) -> Result<Response, NoMemory>
     ensures { IfOk result (λ response. response ≡ damaged_reply bad) }
 {
     let mut buffer = Buffer::new();

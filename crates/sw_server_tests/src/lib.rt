@@ -1,10 +1,12 @@
-//! Tests of the object server over its public calls. What the contracts say is proved for every request, so these show what no contract
-//! can: that the worked values are the ones that were meant, what the replies look like on the wire, and that a call succeeds while there is
-//! memory.
+//! Tests of the object server and of the replication server over their public calls. What the contracts say is proved for every request, so
+//! these show what no contract can: that the worked values are the ones that were meant, what the replies look like on the wire, and that a
+//! call succeeds while there is memory.
 #![tactic(auto)]
 
 #[cfg(test)]
 mod asking;
+#[cfg(test)]
+mod replicas;
 #[cfg(test)]
 mod replies;
 #[cfg(test)]

@@ -1,0 +1,46 @@
+-- The pushes that control requests ask for. (This project's own.)
+use Rattle.std.specs.Prelude.{◌≡◌, ◌≢◌, ℕ, ◌≤◌, List, length, codes, Option, None, Some, IsTrue}
+use Rattle.std.specs.Char.{is_ascii_digit}
+use Rattle.std.specs.List.{list_all}
+use Rattle.std.specs.Str.Parse.{digits_value}
+use Rattle.sw_lossy.specs.declared.acts.Acts.{Acts}
+use Rattle.sw_message.specs.Fields.{field_value_of}
+use Rattle.sw_message.specs.declared.fields.Field.{Field}
+use Rattle.sw_object_server.specs.Places.{IsDevice, IsPartition}
+use Rattle.sw_ring.specs.declared.ring.Ring.{Ring}
+use Rattle.sw_control.specs.declared.replication.Replication.{Replication}
+
+-- ---- which messages fail
+
+-- a text is the number of a message, which are counted from 1: 1 to 9 digits that aren't all 0
+pub record IsNumber (text : List ℕ) (number : ℕ) : Type 0 where
+  pub least : 1 ≤ length text
+  pub most : length text ≤ 9
+  pub digits : IsTrue (list_all is_ascii_digit text)
+  pub value : number ≡ digits_value 10 text
+  pub counted : number ≢ 0
+
+-- the message that the last field of this name names; none where there is no such field
+abbrev pub IsMessage : List Field → List ℕ → Option ℕ → Type 0
+IsMessage fields name None = field_value_of name fields ≡ None
+IsMessage fields name (Some number) = (text : List ℕ) × (field_value_of name fields ≡ Some text) × IsNumber text number
+
+-- the messages that fields name
+pub record AreActs (fields : List Field) (acts : Acts) : Type 0 where
+  pub lose : IsMessage fields (codes "x-swc-lose") acts.lose
+  pub lose_reply : IsMessage fields (codes "x-swc-lose-reply") acts.lose_reply
+  pub repeat : IsMessage fields (codes "x-swc-repeat") acts.repeat
+
+-- ---- what is pushed
+
+-- two devices have these names
+pub record AreApart (ring : Ring) (from to : List ℕ) (i j : ℕ) : Type 0 where
+  pub sender : IsDevice ring from (Some i)
+  pub receiver : IsDevice ring to (Some j)
+  pub apart : i ≢ j
+
+-- a push from one device to another, of a partition, is asked for by their names, by its number and by fields
+pub record IsReplication (ring : Ring) (from to part : List ℕ) (fields : List Field) (asked : Replication) : Type 0 where
+  pub devices : AreApart ring from to asked.from asked.to
+  pub partition : IsPartition ring part (Some asked.part)
+  pub acts : AreActs fields asked.acts

@@ -1,0 +1,9 @@
+mod Decided
+mod Digits
+mod Held
+mod Members
+mod Named
+mod OneAsking
+mod Order
+mod Several
+mod Telling

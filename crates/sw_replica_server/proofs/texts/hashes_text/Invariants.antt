@@ -1,0 +1,8 @@
+use Rattle.std.proofs.Common.{◌≡◌, ◌∷◌, map, take}
+use Rattle.std.specs.List.{join_with_byte}
+use Rattle.sw_replica_server.specs.ReplicaText.{hash_member}
+use Rattle.sw_replica_server.proofs.texts.hashes_text.Given as goal
+
+-- the members of the hashes before the place
+abbrev pub invariant-loop-place : goal.invariant-loop-place
+invariant-loop-place l = l.text.items ≡ 123 ∷ join_with_byte 44 (map hash_member (take l.place l.hashes))
