@@ -1,4 +1,4 @@
-//! Tests of containers' rows, keepers and listings over their public calls. What the contracts say is proved for every
+//! Tests of containers' rows, keepers, listings, steps and locks over their public calls. What the contracts say is proved for every
 //! input, so these show what no contract can: that the worked values are the ones that were meant, and that a call succeeds
 //! while there is memory.
 #![tactic(auto)]
@@ -8,6 +8,10 @@ mod keeper;
 #[cfg(test)]
 mod listing;
 #[cfg(test)]
+mod locks;
+#[cfg(test)]
 mod making;
 #[cfg(test)]
 mod rows;
+#[cfg(test)]
+mod steps;

@@ -1,0 +1,58 @@
+-- What a commit of the batch of a step makes, told by the tables that were read before it.
+use Rattle.std.proofs.Common.{◌≡◌, ◌≢◌, ℕ, List, [], Option, None, IsSome, sym, ◌∙◌, ap, subst, ◌⊎◌, inl, inr}
+use Rattle.sw_hashpath.specs.declared.place.Place.{Place}
+use Rattle.sw_rows.specs.declared.tables.Tables.{Tables}
+use Rattle.sw_keeper.specs.Changes.{IsBatch, all_changed}
+use Rattle.sw_keeper.specs.Keeping.{Changes, Holdings, IsSame, MayChange}
+use Rattle.sw_keeper.specs.declared.batch.Change.{Change}
+use Rattle.sw_container_steps.specs.Entries.{all_entered}
+use Rattle.sw_container_steps.specs.Laws.{sign_of}
+use Rattle.sw_container_steps.specs.Steps.{cont_refusal, entries_for}
+use Rattle.sw_container_steps.specs.declared.cont_change.ContChange.{ContChange}
+use Rattle.sw_container_steps.specs.declared.cont_entry.ContEntry.{ContEntry}
+use Rattle.sw_container_steps.proofs.Placing.{entries-are-of-the-place}
+use Rattle.sw_container_steps.proofs.Seeing.{entries-are-seen, steps-hold}
+use Rattle.sw_container_db.proofs.Placed.{IsOf}
+
+-- the keeper takes the batch
+pub takes : (read held after : Option Tables) (place : Place) (change : ContChange) (entries : List ContEntry) (batch : List Change)
+    → cont_refusal read place change ≡ None → entries ≡ entries_for read place change → after ≡ all_entered read entries → (IsSome after → IsBatch read batch) → read ≡ held → IsBatch held batch
+takes read held after place change entries batch allowed are left fits is =
+    let here : after ≡ all_entered read (entries_for read place change) = left ∙ ap (all_entered read) are in
+    subst (λ (t : Option Tables). IsBatch t batch) is (fits (subst IsSome (sym here) (steps-hold read place change allowed)))
+
+pub makes-entries : (read after : Option Tables) (entries given : List ContEntry) (batch : List Change) → all_changed read batch ≡ after → after ≡ all_entered read given → given ≡ entries → all_changed read batch ≡ all_entered read entries
+makes-entries read after entries given batch makes left same = makes ∙ (left ∙ ap (all_entered read) same)
+
+-- the batch was made
+pub made-there : (before old new : Holdings) (place : Place) (batch : List Change) (read : Option Tables) (entries : List ContEntry)
+    → IsSame before old → read ≡ before place → all_changed read batch ≡ all_entered read entries → Changes old new place batch → new place ≡ all_entered (before place) entries
+made-there before old new place batch read entries same is makes changes =
+    changes.there ∙ (ap (λ (t : Option Tables). all_changed t batch) (same place ∙ sym is) ∙ (makes ∙ ap (λ (t : Option Tables). all_entered t entries) is))
+
+pub made-elsewhere : (before old new : Holdings) (place : Place) (batch : List Change) → IsSame before old → Changes old new place batch → (p : Place) → p ≢ place → new p ≡ before p
+made-elsewhere before old new place batch same changes p away = changes.elsewhere p away ∙ same p
+
+-- the batch was made, or wasn't
+pub may-there : (before old new : Holdings) (place : Place) (batch : List Change) (read : Option Tables) (entries : List ContEntry)
+    → IsSame before old → read ≡ before place → all_changed read batch ≡ all_entered read entries → MayChange old new place batch → (new place ≡ before place) ⊎ (new place ≡ all_entered (before place) entries)
+may-there before old new place batch read entries same is makes (inl kept) = inl (kept place ∙ same place)
+may-there before old new place batch read entries same is makes (inr changes) = inr (made-there before old new place batch read entries same is makes changes)
+
+pub may-elsewhere : (before old new : Holdings) (place : Place) (batch : List Change) → IsSame before old → MayChange old new place batch → (p : Place) → p ≢ place → new p ≡ before p
+may-elsewhere before old new place batch same (inl kept) p away = kept p ∙ same p
+may-elsewhere before old new place batch same (inr changes) p away = made-elsewhere before old new place batch same changes p away
+
+pub both-same : (before old new : Holdings) → IsSame before old → IsSame old new → IsSame before new
+both-same before old new same again p = again p ∙ same p
+
+-- all entries are of the place
+pub of-place : (read : Option Tables) (place : Place) (change : ContChange) (entries : List ContEntry) → entries ≡ entries_for read place change → IsOf place entries
+of-place read place change entries are = subst (IsOf place) (sym are) (entries-are-of-the-place read place change)
+
+-- the sign tells that they were made
+pub seen : (read held : Option Tables) (place : Place) (change : ContChange) (entries : List ContEntry) (sign : Option (ℕ × Option ℕ × ℕ))
+    → cont_refusal read place change ≡ None → entries ≡ entries_for read place change → entries ≢ [] → sign ≡ sign_of read → read ≡ held → sign_of (all_entered held entries) ≢ sign
+seen read held place change entries sign allowed are full tells is same =
+    entries-are-seen read place change allowed (λ none. full (are ∙ none))
+    (ap (λ (e : List ContEntry). sign_of (all_entered read e)) (sym are) ∙ (ap (λ (t : Option Tables). sign_of (all_entered t entries)) is ∙ (same ∙ tells)))

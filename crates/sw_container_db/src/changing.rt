@@ -1,0 +1,118 @@
+ghost use Rattle.std.specs.Prelude.{◌≡◌, ◌≢◌, ◌+◌, ◌<◌, ◌≤◌, ◌^◌, true, [], ◌++◌, length, vec_len, vec_capacity, nat_le, ◌&&◌};
+ghost use Rattle.sw_container_db.specs.Calling.{Called};
+ghost use Rattle.sw_container_db.specs.ContDirs.{cont_history_of};
+ghost use Rattle.sw_container_db.specs.Stepping.{IsStep};
+ghost use Rattle.sw_container_steps.specs.Histories.{ContStepChanges};
+ghost use Rattle.sw_hashpath.specs.declared.place.Place.{Place};
+
+use crate::cont_dir::ContDir;
+use crate::sign::{Doubt, sign_of};
+use std::alloc::Global;
+use sw_container_steps::{
+    ContAnswer, ContChange, ContEntry, Decision, batch_of, decide, has_numbers, made_answer,
+};
+use sw_hashpath::Place;
+use sw_keeper::{Keeper, KeeperError};
+use sw_outside::NoMemory;
+
+impl<K: Keeper + Drop> ContDir<K> {
+    /// Makes a step that may change the container.
+    ///
+    /// It settles the doubt where there is one, and loads the container's tables. What stands refuses the step, or the journal has no room for its
+    /// entries, or their batch is committed. A step that has nothing to change commits nothing.
+    ///
+    /// [`ContAnswer::Failed`] comes only where a call of the keeper failed: after a load nothing was done, and after the commit the entries are in
+    /// doubt. [`ContAnswer::NoMemory`] leaves all tables as they are.
+    pub fn change(&mut self, alloc: Global, place: &Place, change: &ContChange) -> ContAnswer
+        ensures made { IsStep K.tells K.holds K.faults self.old place.now change.now result self.new }
+        ensures called { Called K.tells K.holds K.faults K.calls self.old place.now change.now result self.new }
+    {
+        match self.settle(alloc) {
+            Ok(()) => self.make(alloc, place, change),
+            Err(KeeperError::Failed) => ContAnswer::Failed,
+            Err(KeeperError::NoMemory) => ContAnswer::NoMemory,
+        }
+    }
+
+    /// The same, with no doubt left. Room for the entries, and for a doubt of them, is taken before the commit.
+    fn make(&mut self, alloc: Global, place: &Place, change: &ContChange) -> ContAnswer
+        requires doubt { self.old.journal.doubts ≡ [] }
+        ensures began { self.new.began ≡ self.old.began }
+        ensures told { K.tells self.new.keeper ≡ K.tells self.old.keeper }
+        ensures others { K.tells self.old.keeper ≡ true → (p : Place) → p ≢ place.now → K.holds self.new.keeper p ≡ K.holds self.old.keeper p }
+        ensures made { ContStepChanges true (cont_history_of K.tells K.holds K.faults self.old) (K.holds self.old.keeper place.now) place.now change.now
+            result (cont_history_of K.tells K.holds K.faults self.new) (K.holds self.new.keeper place.now) }
+        ensures called { Called K.tells K.holds K.faults K.calls self.old place.now change.now result self.new }
+    {
+        let tables = match self.keeper.load(alloc, place) {
+            Ok(tables) => tables,
+            Err(KeeperError::Failed) => return ContAnswer::Failed,
+            Err(KeeperError::NoMemory) => return ContAnswer::NoMemory,
+        };
+        let entries = match decide(alloc, &tables, place, change) {
+            Ok(Decision::Refused(answer)) => return answer,
+            Ok(Decision::Makes(entries)) => entries,
+            Err(NoMemory) => return ContAnswer::NoMemory,
+        };
+        let mut batch: Vec<ContEntry> = entries.into();
+        let count = count_of(&self.entries);
+        let more = count_of(&batch);
+        let answer = made_answer(&tables, change, count + more);
+        if more == 0 {
+            return answer;
+        }
+        if !has_room(count, more, self.max_entries, has_numbers(&tables, &batch)) {
+            return ContAnswer::JournalFull;
+        }
+        if self.entries.reserve(batch.len()).is_err() {
+            return ContAnswer::NoMemory;
+        }
+        let Ok(at) = place.copy(alloc) else {
+            return ContAnswer::NoMemory;
+        };
+        let sign = sign_of(&tables);
+        let Ok(made) = batch_of(alloc, tables, &batch) else {
+            return ContAnswer::NoMemory;
+        };
+        match self.keeper.commit(alloc, place, &made.batch) {
+            Ok(()) => {
+                join(&mut self.entries, &mut batch);
+                answer
+            }
+            Err(KeeperError::NoMemory) => ContAnswer::NoMemory,
+            Err(KeeperError::Failed) => {
+                self.doubt = Some(Doubt {
+                    place: at,
+                    batch,
+                    sign,
+                });
+                ContAnswer::Failed
+            }
+        }
+    }
+}
+
+/// How many entries there are.
+fn count_of(entries: &Vec<ContEntry>) -> u64
+    ensures length { result ≡ length entries.now.items }
+    ensures within { result < 2 ^ 63 }
+{
+    entries.len() as u64
+}
+
+/// Whether there is room for so many entries more.
+fn has_room(count: u64, more: u64, max_entries: u64, numbers: bool) -> bool
+    requires count { count < 2 ^ 63 }
+    requires more { more < 2 ^ 63 }
+    ensures { result ≡ (nat_le (count + more) max_entries && numbers) }
+{
+    count + more <= max_entries && numbers
+}
+
+/// Moves the batch behind the entries, where there is room for it.
+fn join(entries: &mut Vec<ContEntry>, batch: &mut Vec<ContEntry>)
+    requires room { vec_len entries.old + vec_len batch.old ≤ vec_capacity entries.old }
+    ensures items { entries.new.items ≡ entries.old.items ++ batch.old.items }
+{
+    let _ = entries.append(batch);
+}

@@ -1,0 +1,76 @@
+ghost use Rattle.std.specs.Prelude.{◌≡◌, true, [], length};
+ghost use Rattle.sw_container_db.specs.ContDirs.{Fits, cont_history_of};
+ghost use Rattle.sw_container_steps.specs.Entries.{about};
+ghost use Rattle.sw_container_steps.specs.Histories.{cont_stands};
+ghost use Rattle.sw_hashpath.specs.declared.place.Place.{Place};
+
+use crate::sign::Doubt;
+use std::alloc::Global;
+use std::marker::Model;
+use std::snapshot::Snapshot;
+use sw_container_steps::ContEntry;
+use sw_keeper::Keeper;
+
+/// What one container lock holds: a keeper, what was entered since the lock began, and the entries of a step that failed in
+/// its commit, if one did and isn't settled.
+#[derive(Drop)]
+pub struct ContDir<K: Keeper + Drop> {
+    pub(crate) keeper: K,
+    opening: Snapshot<K>,
+    pub(crate) entries: Vec<ContEntry>,
+    pub(crate) doubt: Option<Doubt>,
+    pub(crate) max_entries: u64,
+}
+
+impl<K: Keeper + Drop> Model for ContDir<K> {
+    ghost use Rattle.sw_container_db.specs.ContDirs.{ContKept, IsContDir, batch_in};
+
+    ghost Value = { ContKept K };
+
+    ghost view = { λ n. record {
+      keeper = n.keeper;
+      began = n.opening.value;
+      journal = record { entries = n.entries.items; doubts = batch_in n.doubt; max_entries = n.max_entries; max_bytes = 0 };
+    } };
+
+    ghost invariant = { λ n. IsContDir K.tells K.holds K.faults (record {
+      keeper = n.keeper;
+      began = n.opening.value;
+      journal = record { entries = n.entries.items; doubts = batch_in n.doubt; max_entries = n.max_entries; max_bytes = 0 };
+    }) n.doubt };
+}
+
+impl<K: Keeper + Drop> ContDir<K> {
+    /// Begins over a keeper, with an empty journal that has room for so many entries. It takes no memory.
+    pub fn start(alloc: Global, keeper: K, max_entries: u64) -> ContDir<K>
+        ensures keeper { result.keeper ≡ keeper }
+        ensures began { result.began ≡ keeper }
+        ensures journal { result.journal ≡ record { entries = []; doubts = []; max_entries = max_entries; max_bytes = 0 } }
+    {
+        ContDir {
+            opening: Snapshot::of(&keeper),
+            keeper,
+            entries: Vec::new(alloc),
+            doubt: None,
+            max_entries,
+        }
+    }
+
+    /// The front: how many entries the journal has.
+    pub fn front(&self) -> u64
+        ensures { result ≡ length self.now.journal.entries }
+    {
+        self.entries.len() as u64
+    }
+
+    /// Ends it, and gives the keeper back. Who begins anew on it has every batch that was entered, and the one in doubt whole or not at all. It
+    /// takes no memory.
+    pub fn into_keeper(self) -> K
+        ensures same { result ≡ self.keeper }
+        ensures told { K.tells result ≡ K.tells self.began }
+        ensures stands { K.tells self.began ≡ true → (place : Place)
+            → Fits (about place self.journal.doubts) (K.holds result place) (cont_stands (cont_history_of K.tells K.holds K.faults self) place) }
+    {
+        self.keeper
+    }
+}

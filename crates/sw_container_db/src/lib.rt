@@ -1,0 +1,20 @@
+//! Containers of one lock, over any keeper.
+//!
+//! A [`ContDir`] loads the tables of a container at each step, answers from them, and commits what the step enters as one batch. It keeps no copy
+//! of them, only the journal: the entries that were made since it began, and those of the one step that failed in its commit, of which all were
+//! made or none. Whatever step comes next first loads the doubted place, and by the times of the container and the greatest number that it gave
+//! out it finds whether they were made.
+//!
+//! Each step is one of the relations that `sw_container_steps` has for every door. `specs/ContDirs` says what contracts see of a lock,
+//! `specs/Stepping` what a step is, and `specs/Calling` which calls of the keeper it makes and what each leaves where it is the one that failed.
+#![tactic(auto)]
+
+mod changing;
+mod cont_dir;
+mod naming;
+mod reading;
+mod settling;
+mod sign;
+mod steps;
+
+pub use cont_dir::ContDir;

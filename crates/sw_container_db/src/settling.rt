@@ -1,0 +1,68 @@
+ghost use Rattle.std.specs.Prelude.{◌≡◌, ◌≢◌, true, false, [], IfOk, OnOk, OnErr};
+ghost use Rattle.sw_container_db.specs.Calling.{call_for, raised_by};
+ghost use Rattle.sw_container_db.specs.ContDirs.{cont_history_of};
+ghost use Rattle.sw_container_steps.specs.Histories.{OnlySettlesCont};
+ghost use Rattle.sw_container_steps.specs.Laws.{sign_of};
+ghost use Rattle.sw_hashpath.specs.declared.place.Place.{Place};
+ghost use Rattle.sw_keeper.specs.Keeping.{HasCause};
+ghost use Rattle.sw_outside.specs.Counts.{raised};
+ghost use Rattle.sw_peer.specs.Halves.{GrowsOf};
+
+use crate::cont_dir::ContDir;
+use crate::sign::{Doubt, is_same_sign, sign_of};
+use std::alloc::Global;
+use std::mem;
+use sw_keeper::{Keeper, KeeperError};
+
+impl<K: Keeper + Drop> ContDir<K> {
+    /// Settles the doubt, where there is one: its entries are entered where they were made, and it goes.
+    pub(crate) fn settle(&mut self, alloc: Global) -> Result<(), KeeperError>
+        ensures began { self.new.began ≡ self.old.began }
+        ensures grows { GrowsOf (cont_history_of K.tells K.holds K.faults self.old) (cont_history_of K.tells K.holds K.faults self.new) }
+        ensures settles { OnlySettlesCont (cont_history_of K.tells K.holds K.faults self.old) (cont_history_of K.tells K.holds K.faults self.new) }
+        ensures same { K.tells self.old.keeper ≡ true → (p : Place) → K.holds self.new.keeper p ≡ K.holds self.old.keeper p }
+        ensures told { K.tells self.new.keeper ≡ K.tells self.old.keeper }
+        ensures tied { K.tells self.old.keeper ≡ K.tells self.old.began }
+        ensures none { OnOk result (self.new.journal.doubts ≡ []) }
+        ensures unsettled { OnErr result (self.new.journal ≡ self.old.journal) }
+        ensures in_doubt { OnErr result (call_for self.old.journal.doubts ≡ 1) }
+        ensures cause { HasCause (K.faults self.old.keeper) (K.faults self.new.keeper) result }
+        ensures calls { K.calls self.new.keeper ≡ raised_by (call_for self.old.journal.doubts) (K.calls self.old.keeper) }
+    {
+        let Some(doubt) = mem::replace(&mut self.doubt, None) else {
+            return Ok(());
+        };
+        match was_made(alloc, &mut self.keeper, &doubt) {
+            Ok(true) => {
+                let Doubt {
+                    place,
+                    mut batch,
+                    sign,
+                } = doubt;
+                if self.entries.append(&mut batch).is_err() {
+                    self.doubt = Some(Doubt { place, batch, sign });
+                    return Err(KeeperError::NoMemory);
+                }
+                Ok(())
+            }
+            Ok(false) => Ok(()),
+            Err(error) => {
+                self.doubt = Some(doubt);
+                Err(error)
+            }
+        }
+    }
+}
+
+/// Whether the entries of a doubt were made: the sign of its tables isn't what it was.
+fn was_made<K: Keeper>(alloc: Global, keeper: &mut K, doubt: &Doubt) -> Result<bool, KeeperError>
+    ensures made { IfOk result (λ made. K.tells keeper.old ≡ true → made ≡ true → sign_of (K.holds keeper.old doubt.now.place) ≢ doubt.now.sign) }
+    ensures unmade { IfOk result (λ made. K.tells keeper.old ≡ true → made ≡ false → sign_of (K.holds keeper.old doubt.now.place) ≡ doubt.now.sign) }
+    ensures same { K.tells keeper.old ≡ true → (p : Place) → K.holds keeper.new p ≡ K.holds keeper.old p }
+    ensures told { K.tells keeper.new ≡ K.tells keeper.old }
+    ensures cause { HasCause (K.faults keeper.old) (K.faults keeper.new) result }
+    ensures calls { K.calls keeper.new ≡ raised (K.calls keeper.old) }
+{
+    let tables = keeper.load(alloc, &doubt.place)?;
+    Ok(!is_same_sign(&sign_of(&tables), &doubt.sign))
+}

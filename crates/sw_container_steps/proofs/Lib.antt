@@ -1,0 +1,5 @@
+pub mod Batches
+pub mod Leaving
+pub mod Over
+pub mod Placing
+pub mod Seeing

@@ -1,0 +1,63 @@
+-- Entries of the journal of a container lock, and what they leave. (This project's own.)
+use Rattle.std.specs.Prelude.{ℕ, Bool, true, false, ◌&&◌, if◌then◌else◌, List, [], ◌∷◌, count_by, Option, None, Some}
+use Rattle.std.specs.Str.{bytes_eq}
+use Rattle.sw_hashpath.specs.declared.place.Place.{Place}
+use Rattle.sw_keeper.specs.Changes.{begun}
+use Rattle.sw_rows.specs.Rows.{Listed, merged, no_rows}
+use Rattle.sw_rows.specs.declared.tables.Tables.{Tables}
+use Rattle.sw_container_steps.specs.declared.cont_entry.ContEntry.{ContEntry}
+use Rattle.sw_container_steps.specs.declared.cont_entry.ContEntry.TheVariants.{Created, Removed, Merged}
+
+-- the rows of a container, none where it was never created
+abbrev pub rows_of : Option Tables → Listed
+rows_of None = no_rows
+rows_of (Some t) = t.rows
+
+-- the greatest number (ROWID) given out
+abbrev pub top_of : Option Tables → ℕ
+top_of t = (rows_of t).top
+
+-- ---- what entries leave
+
+-- what one entry leaves. Where nothing is held only a creation leaves anything
+abbrev pub entered : Option Tables → ContEntry → Option Tables
+entered None (Created place time) = Some (begun time None)
+entered None (Removed place time) = None
+entered None (Merged place row) = None
+entered (Some t) (Created place time) = Some (record t { put_time = time })
+entered (Some t) (Removed place time) = Some (record t { delete_time = Some time })
+entered (Some t) (Merged place row) = Some (record t { rows = merged t.rows row })
+
+-- what entries leave, one after the other
+abbrev pub all_entered : Option Tables → List ContEntry → Option Tables
+all_entered t [] = t
+all_entered t (entry ∷ entries) = all_entered (entered t entry) entries
+
+-- ---- entries of one place
+
+abbrev pub place_in : ContEntry → Place
+place_in (Created place time) = place
+place_in (Removed place time) = place
+place_in (Merged place row) = place
+
+-- whether two places are one, in all that they have
+abbrev pub is_same_place : Place → Place → Bool
+is_same_place a b = bytes_eq a.hash b.hash && (bytes_eq a.account b.account && bytes_eq a.container b.container)
+
+-- the entries of a place, in order
+abbrev pub about : Place → List ContEntry → List ContEntry
+about place [] = []
+about place (entry ∷ entries) = if is_same_place (place_in entry) place then entry ∷ about place entries else about place entries
+
+-- ---- how many rows entries put in
+
+abbrev pub is_merge : ContEntry → Bool
+is_merge (Created place time) = false
+is_merge (Removed place time) = false
+is_merge (Merged place row) = true
+
+abbrev pub row_count : ContEntry → ℕ
+row_count entry = if is_merge entry then 1 else 0
+
+abbrev pub rows_in : List ContEntry → ℕ
+rows_in entries = count_by is_merge entries

@@ -1,0 +1,55 @@
+-- What is promised of the definitions on steps at containers. (This project's own.)
+use Rattle.std.specs.Prelude.{◌≡◌, ◌≢◌, ℕ, true, false, List, [], fold, Option, None, Some, IsSome}
+use Rattle.sw_hashpath.specs.declared.place.Place.{Place}
+use Rattle.sw_rows.specs.Rows.{merged}
+use Rattle.sw_rows.specs.declared.row.Row.{Row}
+use Rattle.sw_rows.specs.declared.tables.Tables.{Tables}
+use Rattle.sw_container_steps.specs.Entries.{about, all_entered, rows_of}
+use Rattle.sw_container_steps.specs.Presence.{is_present}
+use Rattle.sw_container_steps.specs.Steps.{cont_refusal, entries_for}
+use Rattle.sw_container_steps.specs.declared.cont_change.ContChange.{ContChange}
+use Rattle.sw_container_steps.specs.declared.cont_change.ContChange.TheVariants.{Create, Remove, MergeRow, MergeRows}
+
+-- what a step that isn't refused leaves
+abbrev pub left : Option Tables → Place → ContChange → Option Tables
+left t place change = all_entered t (entries_for t place change)
+
+-- a container whose creation isn't refused is there, and has the rows that it had
+abbrev pub CreatedIsThere : Type 0
+CreatedIsThere = (t : Option Tables) (place : Place) (time : ℕ) → cont_refusal t place (Create time) ≡ None
+    → (is_present (left t place (Create time)) ≡ true) × (rows_of (left t place (Create time)) ≡ rows_of t)
+
+-- a container whose deletion isn't refused is absent, and its rows stay
+abbrev pub RemovedIsAbsent : Type 0
+RemovedIsAbsent = (t : Option Tables) (place : Place) (time : ℕ) → cont_refusal t place (Remove time) ≡ None
+    → (is_present (left t place (Remove time)) ≡ false) × (rows_of (left t place (Remove time)) ≡ rows_of t)
+
+-- rows that aren't refused are merged one by one, in their order, and the container is there
+abbrev pub RowsAreMerged : Type 0
+RowsAreMerged = (t : Option Tables) (place : Place) (rows : List Row) → cont_refusal t place (MergeRows rows) ≡ None
+    → (is_present (left t place (MergeRows rows)) ≡ true) × (rows_of (left t place (MergeRows rows)) ≡ fold merged (rows_of t) rows)
+
+-- one row is merged as a list of it is
+abbrev pub RowIsMerged : Type 0
+RowIsMerged = (t : Option Tables) (place : Place) (row : Row) → cont_refusal t place (MergeRow row) ≡ None
+    → (is_present (left t place (MergeRow row)) ≡ true) × (rows_of (left t place (MergeRow row)) ≡ merged (rows_of t) row)
+
+-- all entries of a step are of its place
+abbrev pub EntriesAreOfThePlace : Type 0
+EntriesAreOfThePlace = (t : Option Tables) (place : Place) (change : ContChange)
+    → (about place (entries_for t place change) ≡ entries_for t place change)
+    × ((other : Place) → other ≢ place → about other (entries_for t place change) ≡ [])
+
+-- what a step that isn't refused leaves is held; so a keeper takes its batch
+abbrev pub StepsHold : Type 0
+StepsHold = (t : Option Tables) (place : Place) (change : ContChange) → cont_refusal t place change ≡ None → IsSome (left t place change)
+
+-- the times of a container, and the greatest number given out
+abbrev pub sign_of : Option Tables → Option (ℕ × Option ℕ × ℕ)
+sign_of None = None
+sign_of (Some t) = Some (t.put_time, t.delete_time, t.rows.top)
+
+-- a step that isn't refused and has entries changes these; so they tell whether it was made
+abbrev pub EntriesAreSeen : Type 0
+EntriesAreSeen = (t : Option Tables) (place : Place) (change : ContChange) → cont_refusal t place change ≡ None
+    → entries_for t place change ≢ [] → sign_of (left t place change) ≢ sign_of t

@@ -1,0 +1,9 @@
+pub mod Batches
+pub mod Deciding
+pub mod Entries
+pub mod Histories
+pub mod Journals
+pub mod Laws
+pub mod Presence
+pub mod Reads
+pub mod Steps

@@ -1,0 +1,30 @@
+-- What is read of a container. (The container server of OpenStack Swift tells the same; what is told of a deleted one is this project's
+-- own.)
+use Rattle.std.specs.Prelude.{ℕ, if◌then◌else◌, List, Option, None, Some, Result, Ok, Err}
+use Rattle.std.specs.Option.{option_map}
+use Rattle.sw_listing.specs.Listing.{listing}
+use Rattle.sw_listing.specs.declared.entry.Entry.{Entry}
+use Rattle.sw_listing.specs.declared.query.Query.{Query}
+use Rattle.sw_rows.specs.Sums.{bytes_of, count_of, hash_of}
+use Rattle.sw_rows.specs.declared.tables.Tables.{Tables}
+use Rattle.sw_container_steps.specs.Presence.{deletion_after, is_no_time}
+use Rattle.sw_container_steps.specs.declared.cont_answer.ContAnswer.{ContAnswer}
+use Rattle.sw_container_steps.specs.declared.cont_answer.ContAnswer.TheVariants as answers
+use Rattle.sw_container_steps.specs.declared.info.Info.{Info}
+
+-- what is told of a container that is there, else `Absent`
+abbrev pub where_present : {A : Type 0} → Option Tables → (Tables → A) → Result A ContAnswer
+where_present None told = Err answers.Absent
+where_present (Some t) told = if is_no_time (deletion_after t.put_time t.delete_time) then Ok (told t) else Err answers.Absent
+
+-- put time and delete time, also of a container that is deleted
+abbrev pub times_of : Option Tables → ℕ → Result (Option (ℕ × Option ℕ)) ContAnswer
+times_of t front = Ok (option_map (λ t. (t.put_time, t.delete_time)) t)
+
+abbrev pub info_of : Option Tables → ℕ → Result Info ContAnswer
+info_of t front =
+    where_present t
+    (λ t. record { put_time = t.put_time; count = count_of t.rows.list; bytes = bytes_of t.rows.list; hash = hash_of t.rows.list; front = front })
+
+abbrev pub listing_of : Query → Option Tables → ℕ → Result (List Entry) ContAnswer
+listing_of query t front = where_present t (λ t. listing query t.rows.list)

@@ -1,0 +1,103 @@
+-- What a step makes of a container, and what it is answered. (OpenStack Swift's container server. That a row of an account that begins
+-- with `.` creates its container is Swift's auto-create; the answers are this project's own.)
+use Rattle.std.specs.Prelude.{ℕ, zero, suc, Bool, true, false, not, max, nat_lt, if◌then◌else◌, List, [], ◌∷◌, ◌++◌, find, Option, None, Some}
+use Rattle.std.specs.Option.{option_map_or}
+use Rattle.sw_hashpath.specs.declared.place.Place.{Place}
+use Rattle.sw_rows.specs.Rows.{Listed, find_named, fits, merged}
+use Rattle.sw_rows.specs.Sums.{count_of}
+use Rattle.sw_rows.specs.declared.row.Row.{Row}
+use Rattle.sw_rows.specs.declared.tables.Tables.{Tables}
+use Rattle.sw_container_steps.specs.Entries.{rows_of}
+use Rattle.sw_container_steps.specs.Presence.{deletion, deletion_after, is_dotted, is_no_time, is_present}
+use Rattle.sw_container_steps.specs.declared.cont_answer.ContAnswer.{ContAnswer}
+use Rattle.sw_container_steps.specs.declared.cont_answer.ContAnswer.TheVariants as answers
+use Rattle.sw_container_steps.specs.declared.cont_change.ContChange.{ContChange}
+use Rattle.sw_container_steps.specs.declared.cont_change.ContChange.TheVariants.{Create, Remove, MergeRow, MergeRows}
+use Rattle.sw_container_steps.specs.declared.cont_entry.ContEntry.{ContEntry}
+use Rattle.sw_container_steps.specs.declared.cont_entry.ContEntry.TheVariants.{Created, Removed, Merged}
+
+-- ---- refusals
+
+-- a creation that is earlier than a deletion
+abbrev pub stale_creation : Option ℕ → ℕ → Option ContAnswer
+stale_creation None time = None
+stale_creation (Some gone) time = if nat_lt time gone then Some (answers.Stale gone) else None
+
+abbrev pub creation_refusal : Option Tables → ℕ → Option ContAnswer
+creation_refusal t time = stale_creation (deletion t) time
+
+-- a deletion of what has so many live rows, first by these, then by its time
+abbrev pub removal_refusal_over : ℕ → ℕ → ℕ → Option ContAnswer
+removal_refusal_over zero put_time time = if nat_lt put_time time then None else Some (answers.Stale put_time)
+removal_refusal_over (suc n) put_time time = Some (answers.NotEmpty (suc n))
+
+abbrev pub removal_refusal : Option Tables → ℕ → Option ContAnswer
+removal_refusal None time = Some answers.Absent
+removal_refusal (Some t) time =
+    if is_no_time (deletion_after t.put_time t.delete_time) then removal_refusal_over (count_of t.rows.list) t.put_time time else Some answers.Absent
+
+abbrev pub first_live : List Row → Option Row
+first_live rows = find (λ row. not row.deleted) rows
+
+-- the row that creates its container: where that is absent and its account begins with `.`, the first live one
+abbrev pub creator : Option Tables → Place → List Row → Option Row
+creator t place rows = if is_present t then None else if is_dotted place then first_live rows else None
+
+abbrev pub is_a_row : Option Row → Bool
+is_a_row None = false
+is_a_row (Some row) = true
+
+-- rows for a container that is absent, and that none of them creates
+abbrev pub merging_refusal : Option Tables → Place → List Row → Option ContAnswer
+merging_refusal t place rows = if is_present t then None else if is_a_row (creator t place rows) then None else Some answers.Absent
+
+-- how what stands refuses the step; none where the step is made
+abbrev pub cont_refusal : Option Tables → Place → ContChange → Option ContAnswer
+cont_refusal t place (Create time) = creation_refusal t time
+cont_refusal t place (Remove time) = removal_refusal t time
+cont_refusal t place (MergeRow row) = merging_refusal t place (row ∷ [])
+cont_refusal t place (MergeRows rows) = merging_refusal t place rows
+
+-- ---- what a step that isn't refused enters
+
+-- nothing where the put time doesn't rise
+abbrev pub creation_entries : Option Tables → Place → ℕ → List ContEntry
+creation_entries None place time = Created place time ∷ []
+creation_entries (Some t) place time = if nat_lt t.put_time time then Created place time ∷ [] else []
+
+-- those of the rows that are put in, each over those before it
+abbrev pub merging_entries : Listed → Place → List Row → List ContEntry
+merging_entries l place [] = []
+merging_entries l place (row ∷ rows) =
+    if fits (find_named l.list row.name) row then Merged place row ∷ merging_entries (merged l row) place rows else merging_entries (merged l row) place rows
+
+-- the time at which a row creates its container: its own, or the delete time where that is later
+abbrev pub creation_time : Option Tables → Row → ℕ
+creation_time t row = max row.created_at (option_map_or (λ gone. gone) (deletion t) 0)
+
+abbrev pub created_by : Option Tables → Place → Option Row → List ContEntry
+created_by t place None = []
+created_by t place (Some row) = Created place (creation_time t row) ∷ []
+
+-- the creation, where there is one, and then the rows
+abbrev pub rows_entries : Option Tables → Place → List Row → List ContEntry
+rows_entries t place rows = created_by t place (creator t place rows) ++ merging_entries (rows_of t) place rows
+
+abbrev pub entries_for : Option Tables → Place → ContChange → List ContEntry
+entries_for t place (Create time) = creation_entries t place time
+entries_for t place (Remove time) = Removed place time ∷ []
+entries_for t place (MergeRow row) = rows_entries t place (row ∷ [])
+entries_for t place (MergeRows rows) = rows_entries t place rows
+
+-- ---- answers
+
+abbrev pub creation_answer : Bool → ℕ → ContAnswer
+creation_answer true front = answers.There front
+creation_answer false front = answers.New front
+
+-- what a step that isn't refused is answered, with this front
+abbrev pub cont_made_answer : Option Tables → ContChange → ℕ → ContAnswer
+cont_made_answer t (Create time) front = creation_answer (is_present t) front
+cont_made_answer t (Remove time) front = answers.Done front
+cont_made_answer t (MergeRow row) front = answers.Done front
+cont_made_answer t (MergeRows rows) front = answers.Done front

@@ -1,0 +1,16 @@
+use crate::row_list::RowList;
+use sw_rows::Row;
+use sw_timestamp::Timestamp;
+
+/// A step that may change a container.
+#[derive(Debug, Drop)]
+pub enum ContChange {
+    /// Creates the container.
+    Create { time: Timestamp },
+    /// Deletes the container. Its rows stay.
+    Remove { time: Timestamp },
+    /// Puts the row in where the present one of its name doesn't count as much.
+    MergeRow { row: Row },
+    /// The same of all these rows, one after the other, in one batch.
+    MergeRows { rows: RowList },
+}

@@ -1,0 +1,55 @@
+ghost use Rattle.std.specs.Prelude.{◌≡◌, IfOk};
+ghost use Rattle.sw_container_steps.specs.Deciding.{IsDecided};
+ghost use Rattle.sw_container_steps.specs.Steps.{cont_made_answer};
+
+use crate::cont_answer::ContAnswer;
+use crate::cont_change::ContChange;
+use crate::cont_entry::ContEntryList;
+use crate::entries::entries_for;
+use crate::presence::is_present;
+use crate::refusing::refusal;
+use std::alloc::Global;
+use sw_hashpath::Place;
+use sw_outside::NoMemory;
+use sw_rows::Tables;
+
+/// What a step comes to.
+#[derive(Debug, Drop)]
+pub enum Decision {
+    /// What stands refuses the step, with this answer.
+    Refused(ContAnswer),
+    /// The step isn't refused. It adds these entries: none where it has nothing to change.
+    Makes(ContEntryList),
+}
+
+/// What the step comes to over the tables that stand at its place, or [`NoMemory`].
+pub fn decide(
+    alloc: Global,
+    tables: &Option<Tables>,
+    place: &Place,
+    change: &ContChange,
+) -> Result<Decision, NoMemory>
+    ensures { IfOk result (λ decision. IsDecided tables.now place.now change.now decision) }
+{
+    if let Some(answer) = refusal(tables, place, change) {
+        return Ok(Decision::Refused(answer));
+    }
+    let entries = entries_for(alloc, tables, place, change)?;
+    Ok(Decision::Makes(entries.into()))
+}
+
+/// What a step that isn't refused is answered, with this front.
+pub fn made_answer(tables: &Option<Tables>, change: &ContChange, front: u64) -> ContAnswer
+    ensures { result ≡ cont_made_answer tables.now change.now front }
+{
+    match change {
+        ContChange::Create { .. } => {
+            if is_present(tables) {
+                ContAnswer::There(front)
+            } else {
+                ContAnswer::New(front)
+            }
+        }
+        _ => ContAnswer::Done(front),
+    }
+}

@@ -1,0 +1,145 @@
+ghost use Rattle.std.specs.Prelude.{◌≡◌, ◌+◌, ◌-◌, ◌^◌, ◌≤◌, ◌<◌, ◌++◌, true, find, Some, None, IfOk, OnOk};
+ghost use Rattle.std.specs.Option.{option_map};
+ghost use Rattle.sw_container_steps.specs.Batches.{changes_of, row_changes};
+ghost use Rattle.sw_container_steps.specs.Entries.{entered, row_count, top_of};
+ghost use Rattle.sw_rows.specs.Rows.{find_named, fits, is_named, merged};
+ghost use Rattle.sw_rows.specs.Left.{rows_left};
+
+use crate::cont_entry::ContEntry;
+use std::alloc::Global;
+use sw_keeper::Change;
+use sw_outside::NoMemory;
+use sw_rows::{Row, Rows, Tables};
+
+/// Enters an entry: gives the tables after it, and adds to the changes those that make it.
+pub(crate) fn enter(
+    alloc: Global,
+    tables: Option<Tables>,
+    changes: &mut Vec<Change>,
+    entry: &ContEntry,
+) -> Result<Option<Tables>, NoMemory>
+    requires { top_of tables + row_count entry.now ≤ 2 ^ 64 - 1 }
+    ensures tables { IfOk result (λ after. after ≡ entered tables entry.now) }
+    ensures changes { IfOk result (λ _. changes.new.items ≡ changes.old.items ++ changes_of tables entry.now) }
+{
+    match tables {
+        Some(tables) => Ok(Some(enter_more(alloc, tables, changes, entry)?)),
+        None => enter_first(alloc, changes, entry),
+    }
+}
+
+/// The same where nothing is held: only a creation makes anything.
+fn enter_first(
+    alloc: Global,
+    changes: &mut Vec<Change>,
+    entry: &ContEntry,
+) -> Result<Option<Tables>, NoMemory>
+    ensures tables { IfOk result (λ after. after ≡ entered None entry.now) }
+    ensures changes { IfOk result (λ _. changes.new.items ≡ changes.old.items ++ changes_of None entry.now) }
+{
+    match entry {
+        ContEntry::Created(_, time) => {
+            changes.push(Change::Times {
+                put_time: *time,
+                delete_time: None,
+            })?;
+            Ok(Some(Tables {
+                put_time: *time,
+                delete_time: None,
+                rows: Rows::empty(alloc),
+            }))
+        }
+        ContEntry::Removed(_, _) => Ok(None),
+        ContEntry::Merged(_, _) => Ok(None),
+    }
+}
+
+/// The same where these tables are held.
+fn enter_more(
+    alloc: Global,
+    tables: Tables,
+    changes: &mut Vec<Change>,
+    entry: &ContEntry,
+) -> Result<Tables, NoMemory>
+    requires { tables.rows.top + row_count entry.now ≤ 2 ^ 64 - 1 }
+    ensures tables { IfOk result (λ after. Some after ≡ entered (Some tables) entry.now) }
+    ensures changes { IfOk result (λ _. changes.new.items ≡ changes.old.items ++ changes_of (Some tables) entry.now) }
+{
+    let Tables {
+        put_time,
+        delete_time,
+        rows,
+    } = tables;
+    match entry {
+        ContEntry::Created(_, time) => {
+            changes.push(Change::Times {
+                put_time: *time,
+                delete_time,
+            })?;
+            Ok(Tables {
+                put_time: *time,
+                delete_time,
+                rows,
+            })
+        }
+        ContEntry::Removed(_, time) => {
+            changes.push(Change::Times {
+                put_time,
+                delete_time: Some(*time),
+            })?;
+            Ok(Tables {
+                put_time,
+                delete_time: Some(*time),
+                rows,
+            })
+        }
+        ContEntry::Merged(_, row) => Ok(Tables {
+            put_time,
+            delete_time,
+            rows: enter_row(alloc, rows, changes, row)?,
+        }),
+    }
+}
+
+/// Merges a row, and adds the changes that put it in.
+fn enter_row(
+    alloc: Global,
+    mut rows: Rows,
+    changes: &mut Vec<Change>,
+    row: &Row,
+) -> Result<Rows, NoMemory>
+    requires { rows.top < 2 ^ 64 - 1 }
+    ensures rows { IfOk result (λ after. after ≡ merged rows row.now) }
+    ensures changes { IfOk result (λ _. changes.new.items ≡ changes.old.items ++ row_changes rows row.now) }
+{
+    if rows.takes(row) {
+        replace(alloc, &rows, changes, row)?;
+        let _ = rows.merge(alloc, row.copy(alloc)?)?;
+    }
+    Ok(rows)
+}
+
+/// Adds the changes that put a row in place of the one of its name.
+fn replace(alloc: Global, rows: &Rows, changes: &mut Vec<Change>, row: &Row) -> Result<(), NoMemory>
+    requires room { rows.now.top < 2 ^ 64 - 1 }
+    requires fits { fits (find_named rows.now.list row.now.name) row.now ≡ true }
+    ensures { OnOk result (changes.new.items ≡ changes.old.items ++ row_changes rows.now row.now) }
+{
+    if let Some(rowid) = number_of(rows, row.name.as_slice()) {
+        changes.push(Change::CutRow(rowid))?;
+    }
+    changes.push(Change::PutRow(row.copy(alloc)?, rows.top() + 1))?;
+    Ok(())
+}
+
+/// The number (ROWID) of the row of this name.
+fn number_of(rows: &Rows, name: &[u8]) -> Option<u64>
+    ensures { result ≡ option_map (λ n. n.rowid) (find (is_named name.now) rows.now.list) }
+{
+    for (rowid, row) in rows.iter() {
+        if row.name.as_slice() == name {
+            return Some(rowid);
+        }
+    }
+    None
+}

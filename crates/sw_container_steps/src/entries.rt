@@ -1,0 +1,94 @@
+ghost use Rattle.std.specs.Prelude.{◌≡◌, [], ◌∷◌, IfOk};
+ghost use Rattle.std.specs.Option.{option_copied};
+ghost use Rattle.sw_container_steps.specs.Steps.{created_by, creation_entries, creation_time, entries_for, rows_entries};
+
+use crate::cont_change::ContChange;
+use crate::cont_entry::ContEntry;
+use crate::merging::merging_entries;
+use crate::presence::deletion;
+use crate::refusing::creator;
+use std::alloc::Global;
+use std::slice;
+use sw_hashpath::Place;
+use sw_outside::NoMemory;
+use sw_rows::{Row, Tables};
+use sw_timestamp::Timestamp;
+
+/// The entries that a step adds where it isn't refused.
+pub(crate) fn entries_for(
+    alloc: Global,
+    tables: &Option<Tables>,
+    place: &Place,
+    change: &ContChange,
+) -> Result<Vec<ContEntry>, NoMemory>
+    ensures { IfOk result (λ entries. entries.items ≡ entries_for tables.now place.now change.now) }
+{
+    match change {
+        ContChange::Create { time } => creation_entries(alloc, tables, place, *time),
+        ContChange::Remove { time } => one(alloc, ContEntry::Removed(place.copy(alloc)?, *time)),
+        ContChange::MergeRow { row } => { rows_entries(alloc, tables, place, slice::from_ref(row)) }
+        ContChange::MergeRows { rows } => rows_entries(alloc, tables, place, rows.as_slice()),
+    }
+}
+
+fn creation_entries(
+    alloc: Global,
+    tables: &Option<Tables>,
+    place: &Place,
+    time: Timestamp,
+) -> Result<Vec<ContEntry>, NoMemory>
+    ensures { IfOk result (λ entries. entries.items ≡ creation_entries tables.now place.now time) }
+{
+    match tables {
+        Some(tables) if tables.put_time >= time => Ok(Vec::new(alloc)),
+        _ => one(alloc, ContEntry::Created(place.copy(alloc)?, time)),
+    }
+}
+
+fn rows_entries(
+    alloc: Global,
+    tables: &Option<Tables>,
+    place: &Place,
+    rows: &[Row],
+) -> Result<Vec<ContEntry>, NoMemory>
+    ensures { IfOk result (λ entries. entries.items ≡ rows_entries tables.now place.now rows.now) }
+{
+    let entries = created_by(alloc, tables, place, creator(tables, place, rows))?;
+    merging_entries(alloc, entries, tables, place, rows)
+}
+
+/// The entry by which a row creates its container.
+fn created_by(
+    alloc: Global,
+    tables: &Option<Tables>,
+    place: &Place,
+    row: Option<&Row>,
+) -> Result<Vec<ContEntry>, NoMemory>
+    ensures { IfOk result (λ entries. entries.items ≡ created_by tables.now place.now (option_copied row.entry)) }
+{
+    match row {
+        Some(row) => {
+            let time = creation_time(tables, row);
+            one(alloc, ContEntry::Created(place.copy(alloc)?, time))
+        }
+        None => Ok(Vec::new(alloc)),
+    }
+}
+
+/// The time at which a row creates its container.
+fn creation_time(tables: &Option<Tables>, row: &Row) -> Timestamp
+    ensures { result ≡ creation_time tables.now row.now }
+{
+    match deletion(tables) {
+        Some(gone) if row.created_at < gone => gone,
+        _ => row.created_at,
+    }
+}
+
+fn one(alloc: Global, entry: ContEntry) -> Result<Vec<ContEntry>, NoMemory>
+    ensures { IfOk result (λ entries. entries.items ≡ entry ∷ []) }
+{
+    let mut entries = Vec::new(alloc);
+    entries.push(entry)?;
+    Ok(entries)
+}

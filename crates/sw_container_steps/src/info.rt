@@ -1,0 +1,15 @@
+use sw_timestamp::Timestamp;
+
+/// What is told of a container that is there.
+#[derive(Clone, Copy, Debug, PartialEq, Eq)]
+pub struct Info {
+    pub put_time: Timestamp,
+    /// How many rows are live.
+    pub count: u64,
+    /// How many bytes the live objects have together, at most 2^64 - 1.
+    pub bytes: u64,
+    /// The hash of all rows, deleted ones too.
+    pub hash: u128,
+    /// How many entries the container's journal has.
+    pub front: u64,
+}
