@@ -1,14 +1,15 @@
 -- What a control request makes of the nodes: a device whose files were listed, and one that went back to the stores and came again, or
 -- didn't.
-use Rattle.std.proofs.Common.{◌≡◌, ℕ, ◌+◌, ◌*◌, ◌%◌, ◌^◌, ◌≤◌, ◌<◌, Bool, true, false, MatchBool, Option, Result, Ok, Err, IfOk, IfErr, OnOk, refl, sym, ◌∙◌}
+use Rattle.std.proofs.Common.{◌≡◌, ℕ, ◌+◌, ◌*◌, ◌%◌, ◌^◌, ◌≤◌, ◌<◌, Bool, true, false, MatchBool, Option, Some, Result, Ok, Err, IfOk, IfErr, OnOk, refl, sym, ◌∙◌}
 use Rattle.std.proofs.Common.{ap, subst, inl, inr, ◌⊎◌, arith, MutBor}
 use Rattle.std.proofs.lemmas.Nat.{one_shl}
 use Rattle.std.proofs.Math.Nat.{pow-le-pow_right}
 use Rattle.sw_message.specs.declared.request.Request.{Request}
 use Rattle.sw_message.specs.declared.response.Response.{Response}
 use Rattle.sw_object_server.specs.Replies.{bare}
-use Rattle.sw_control.specs.Asking.{IsControl, is_control}
+use Rattle.sw_control.specs.Asking.{IsControl, IsPlaced, is_control}
 use Rattle.sw_control.specs.declared.asking.Control.TheVariants as controls
+use Rattle.sw_control.specs.declared.replication.Replication.{Replication}
 use Rattle.sw_core.proofs.Anew.{restarts}
 use Rattle.sw_core.proofs.Sessions.{run-listed, run-restarted}
 use Rattle.sw_core.specs.Doors.{HasRun}
@@ -17,13 +18,16 @@ use Rattle.sw_core.specs.Worlds.{AllNodes, sight_of}
 use Rattle.sw_peer.specs.Sights.{Restarts, Sight}
 use Rattle.sw_ring.specs.declared.ring.Ring.{Ring}
 use Rattle.sw_session.specs.declared.server.ServerFault.{ServerFault}
+use Rattle.sw_steps.proofs.Running.{over-nodes, pushing_runs}
 use Rattle.sw_volume.specs.Tree.{Folders}
 use Rattle.sw_volume.specs.Volume.{raised_by}
-use Rattle.sw_cluster.proofs.Readying.{ready-of}
-use Rattle.sw_cluster.proofs.Restarting.{listed-lines, no-line, none-called, once-called, restart-lines}
+use Rattle.sw_cluster.proofs.Calming.{push-calm}
+use Rattle.sw_cluster.proofs.Readying.{part_hash, ready-of}
+use Rattle.sw_cluster.proofs.Serving.{goes_on}
+use Rattle.sw_cluster.proofs.Restarting.{listed-lines, no-line, none-called, once-called, restart-lines, some_is}
 use Rattle.sw_cluster.specs.Restarts.{restarts_in}
 use Rattle.sw_cluster.specs.Nodes.{FailsToStart, IsReady, NodesAnswer, NodesHalt, faults_by}
-use Rattle.sw_cluster.specs.Server.{IsControlDone, IsFiled, IsRestarted, MayAnswer}
+use Rattle.sw_cluster.specs.Server.{IsControlDone, IsFiled, IsReplicated, IsRestarted, MayAnswer}
 
 -- ---- how many locks a device has
 
@@ -35,7 +39,7 @@ shifted bits h = let within : bits < 8 = omega (arith, h) in rw (one_shl bits 8 
 
 -- ---- what a control request did
 
-on_true : (X Y : Type 0) (b : Bool) → b ≡ true → X → MatchBool b X Y
+pub on_true : (X Y : Type 0) (b : Bool) → b ≡ true → X → MatchBool b X Y
 on_true X Y true is x = x
 on_true X Y false is x = cc
 
@@ -93,8 +97,57 @@ module _ {V : Type 0} (tells : V → Bool) (files : V → Folders) (faults : V �
   list_lines w after device response (inl filed) = listed-lines tells files faults w after device response filed
   list_lines w after device response (inr same) = no-line w.lines after.lines (ap (λ (x : AllNodes V). x.lines) same.0)
 
+  -- ---- a push
+
+  -- a partition was pushed
+  may_push : (ring : Ring) (w after : AllNodes V) (request : Request) (moment : ℕ) (response : Response) (asked : Replication) → is_control request.path ≡ true
+      → IsControl ring request (controls.Replicate asked) → IsPlaced ring (controls.Replicate asked) → w.power ≡ ring.power
+      → IsReplicated tells files faults asked w response after → MayAnswer tells files faults ring w request moment response after
+  may_push ring w after request moment response asked is asks placed power done =
+      let there = part_hash ring w.power power asked.part placed.3 in
+      record {
+        answers = on_true _ _ (is_control request.path) is (inl (controls.Replicate asked, asks, done));
+        nodes = over-nodes asked.from asked.to asked.part asked.acts (see w) done.outcome (see after) done.pushed;
+        runs = λ start r. pushing_runs start asked.from asked.to asked.part asked.acts (see w) done.outcome (see after) there.0 done.pushed placed.2 refl there.1 r;
+      }
+
+  -- and leaves no line of a restart
+  push_lines : (w after : AllNodes V) (asked : Replication) (response : Response) → IsReplicated tells files faults asked w response after
+      → restarts_in after.lines ≡ restarts_in w.lines + 0
+  push_lines w after asked response done =
+      let calm : Some (restarts_in after.lines) ≡ Some (restarts_in w.lines) = push-calm asked.from asked.to asked.part _ done.outcome _ done.pushed.pushes in
+      let e : restarts_in after.lines ≡ restarts_in w.lines = some_is calm in
+      omega (arith, e)
+
   module _ {S : Type 0} (store_faults store_calls : S → ℕ) (out : S → ℕ → ℕ → Bool) (ring ring_now : Ring) (w after : AllNodes V)
       (stores stores_now : MutBor S) (request : Request) where
+    pub was_pushed : (moment : ℕ) (response : Response) (asked : Replication) → is_control request.path ≡ true
+        → IsControl ring request (controls.Replicate asked) → IsPlaced ring (controls.Replicate asked)
+        → ring_now ≡ ring → stores_now ≡ stores → IsReady out ring w stores.now → IsReplicated tells files faults asked w response after
+        → NodesAnswer tells files faults store_faults store_calls out ring ring_now w after stores stores_now request moment response
+    was_pushed moment response asked is asks placed ring_is stores_are ready done =
+        let may = may_push ring w after request moment response asked is asks placed ready.power done in
+        record {
+          ring_is = ring_is;
+          may = may;
+          faults_are = ap (λ (s : MutBor S). store_faults s.now) stores_are;
+          gained = 0;
+          gains = push_lines w after asked response done;
+          calls_are = none-called (2 ^ ring.lock_bits) (store_calls stores.now) (store_calls stores_now.now)
+              (ap (λ (s : MutBor S). store_calls s.now) stores_are);
+          same_stores = ap (λ (s : MutBor S). s.ghost_name) stores_are;
+          ready = subst (λ (r : Ring). IsReady out r after stores_now.now) (sym ring_is)
+              (subst (λ (s : MutBor S). IsReady out ring after s.now) (sym stores_are) (goes_on tells files faults out ring w after stores.now ready may.nodes));
+        }
+
+    pub push_ready : (asked : Replication) (response : Response) → IsControl ring request (controls.Replicate asked) → ring_now ≡ ring → stores_now ≡ stores
+        → IsReady out ring w stores.now → IsReplicated tells files faults asked w response after → IsReady out ring_now after stores_now.now
+    push_ready asked response asks ring_is stores_are ready done =
+        subst (λ (r : Ring). IsReady out r after stores_now.now) (sym ring_is)
+        (subst (λ (s : MutBor S). IsReady out ring after s.now) (sym stores_are)
+        (goes_on tells files faults out ring w after stores.now ready
+        (over-nodes asked.from asked.to asked.part asked.acts (see w) done.outcome (see after) done.pushed)))
+
     pub files_listed : (moment : ℕ) (response : Response) (device : ℕ) → is_control request.path ≡ true → IsControl ring request (controls.Files device)
         → ring_now ≡ ring → stores_now ≡ stores → IsReady out ring w stores.now
         → IsFiled tells files faults device w response after ⊎ ((after ≡ w) × (response ≡ bare 500))

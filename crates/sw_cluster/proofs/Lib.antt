@@ -1,7 +1,11 @@
+mod Calming
+mod Comparing
 mod Controlling
+mod Exchanging
 mod OpeningLemmas
 mod Resting
 mod Readying
+mod Replicating
 mod ReportLemmas
 mod Restarting
 mod RunningLemmas

@@ -16,10 +16,10 @@ use Rattle.sw_cluster.specs.Server.{IsDone, IsFiled, IsIdle, IsRestarted, IsRigh
 
 -- ---- lines
 
-some_is : {A : Type 0} {x y : A} → Some x ≡ Some y → x ≡ y
+pub some_is : {A : Type 0} {x y : A} → Some x ≡ Some y → x ≡ y
 some_is is = cc
 
-one-line : (lines : List Line) (line : Line) → restarts_in (lines ++ line ∷ []) ≡ restarts_in lines + restarts_of line.event
+pub one-line : (lines : List Line) (line : Line) → restarts_in (lines ++ line ∷ []) ≡ restarts_in lines + restarts_of line.event
 one-line [] line = omega arith
 one-line (first ∷ lines) line = let e = one-line lines line in omega (arith, e)
 

@@ -8,6 +8,7 @@ use Rattle.sw_message.specs.declared.response.Response.{Response}
 use Rattle.sw_object_server.specs.Replies.{bare}
 use Rattle.sw_object_server.specs.Serving.{IsAnswered, IsGivenUp}
 use Rattle.sw_control.specs.Asking.{is_control}
+use Rattle.sw_replica_server.specs.Targets.{is_replication_of}
 use Rattle.sw_core.specs.Worlds.{AllNodes, shown, sight_of}
 use Rattle.sw_peer.specs.Sights.{Nodes, Sight}
 use Rattle.sw_ring.specs.Faults.{has_repeat}
@@ -48,7 +49,7 @@ has_device ring =
     let some = pow_pos ring.power in
     in_table (length ring.devices) ring.replicas ring.object ring.least_replicas (omega (arith, count, some)) ring.object_rows
 
-on_false : (X Y : Type 0) (b : Bool) → b ≡ false → Y → MatchBool b X Y
+pub on_false : (X Y : Type 0) (b : Bool) → b ≡ false → Y → MatchBool b X Y
 on_false X Y true is y = cc
 on_false X Y false is y = y
 
@@ -64,7 +65,7 @@ module _ {V : Type 0} (tells : V → Bool) (files : V → Folders) (faults : V �
 
   module _ {S : Type 0} (out : S → ℕ → ℕ → Bool) where
     -- the nodes are those of a ring, which has a device: so none of theirs is lifted
-    goes_on : (ring : Ring) (w after : AllNodes V) (stores : S) → IsReady out ring w stores → (see after).nodes ≡ (see w).nodes → IsReady out ring after stores
+    pub goes_on : (ring : Ring) (w after : AllNodes V) (stores : S) → IsReady out ring w stores → (see after).nodes ≡ (see w).nodes → IsReady out ring after stores
     goes_on ring w after stores ready same =
         let nodes = same ∙ ready.nodes in
         ready-of out ring after stores (whole_of after.lifted after.devices (length ring.devices) (has_device ring) (ap (λ (n : Nodes). n.devices) nodes)) nodes
@@ -85,12 +86,13 @@ module _ {V : Type 0} (tells : V → Bool) (files : V → Folders) (faults : V �
   module _ {S : Type 0} (store_faults store_calls : S → ℕ) (out : S → ℕ → ℕ → Bool) where
     -- it was answered
     pub served : (ring : Ring) (w after : AllNodes V) (stores : MutBor S) (request : Request) (moment : ℕ) (response : Response)
-        → is_control request.path ≡ false → IsReady out ring w stores.now → IsAnswered see w after ring request moment response
-        → NodesAnswer tells files faults store_faults store_calls out ring ring w after stores stores request moment response
-    served ring w after stores request moment response is ready answered = record {
+        → is_control request.path ≡ false → is_replication_of request ≡ false → IsReady out ring w stores.now
+        → IsAnswered see w after ring request moment response → NodesAnswer tells files faults store_faults store_calls out ring ring w after stores stores request moment response
+    served ring w after stores request moment response is object ready answered = record {
       ring_is = refl;
       may = record {
-        answers = on_false _ _ (is_control request.path) is (request_served see (λ w. w.lines) (λ w. refl) ring w after request moment response answered);
+        answers = on_false _ _ (is_control request.path) is (on_false _ _ (is_replication_of request) object
+            (request_served see (λ w. w.lines) (λ w. refl) ring w after request moment response answered));
         nodes = answered_nodes see (λ w. refl) ring w after request moment response answered;
         runs = answered_runs see (λ w. refl) ring w after request moment response answered;
       };
@@ -105,12 +107,14 @@ module _ {V : Type 0} (tells : V → Bool) (files : V → Folders) (faults : V �
 
     -- its reply found no memory
     pub gave_up : (ring : Ring) (w after : AllNodes V) (stores : MutBor S) (request : Request) (moment : ℕ) (response : Response)
-        → is_control request.path ≡ false → IsReady out ring w stores.now → response ≡ bare 500 → IsGivenUp see w after ring request moment
+        → is_control request.path ≡ false → is_replication_of request ≡ false → IsReady out ring w stores.now → response ≡ bare 500
+        → IsGivenUp see w after ring request moment
         → NodesAnswer tells files faults store_faults store_calls out ring ring w after stores stores request moment response
-    gave_up ring w after stores request moment response is ready reply left = record {
+    gave_up ring w after stores request moment response is object ready reply left = record {
       ring_is = refl;
       may = record {
-        answers = on_false _ _ (is_control request.path) is (inr (reply, request_left see (λ w. w.lines) (λ w. refl) ring w after request moment left));
+        answers = on_false _ _ (is_control request.path) is (on_false _ _ (is_replication_of request) object
+            (inr (reply, request_left see (λ w. w.lines) (λ w. refl) ring w after request moment left)));
         nodes = left_nodes see (λ w. refl) ring w after request moment left;
         runs = left_runs see (λ w. refl) ring w after request moment left;
       };

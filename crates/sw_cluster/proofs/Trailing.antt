@@ -1,5 +1,5 @@
 -- What a session over the nodes of a ring knows of them, request by request, and what its trail tells at the end.
-use Rattle.std.proofs.Common.{◌≡◌, ℕ, ◌+◌, ◌-◌, ◌*◌, ◌/◌, ◌%◌, ◌^◌, ◌<◌, ◌≤◌, ◌==◌, Bool, true, false, ◌&&◌, not, List, length, map, arith, Option, Some, None}
+use Rattle.std.proofs.Common.{◌≡◌, ℕ, ◌+◌, ◌-◌, ◌*◌, ◌/◌, ◌%◌, ◌^◌, ◌<◌, ◌≤◌, ◌==◌, Bool, true, false, ◌&&◌, not, List, length, arith, Option, Some, None}
 use Rattle.std.proofs.Common.{refl, sym, ◌∙◌, ap, subst, Result, Ok, Err, ◌⊎◌, inl, inr, if◌then◌else◌, MutBor}
 use Rattle.std.specs.Bool.{⊤}
 use Rattle.std.proofs.lemmas.List.{length-map}
@@ -33,13 +33,14 @@ use Rattle.sw_stores.specs.Volumes.{AreResting}
 use Rattle.sw_volume.specs.Tree.{Folders}
 use Rattle.sw_volume.specs.Volume.{raised_by}
 use Rattle.sw_cluster.specs.Restarts.{AreCalled, restarts_in}
+use Rattle.sw_cluster.proofs.Exchanging.{exchange_meets}
 use Rattle.sw_cluster.proofs.Readying.{ready-of}
 use Rattle.sw_cluster.proofs.Restarting.{called-on, none-called, out-called, whole-called}
 use Rattle.sw_core.proofs.Placed.{stripe-below}
 use Rattle.sw_core.proofs.Sessions.{run-begins}
 use Rattle.sw_core.proofs.Wholes.{open-at}
 use Rattle.sw_core.specs.Doors.{HasRun, StandsFor}
-use Rattle.sw_core.specs.Machine.{Came, Runs, machine_of, state}
+use Rattle.sw_core.specs.Machine.{Runs, came_in, machine_of, state}
 use Rattle.sw_core.specs.Worlds.{AllNodes, AreLifted, HasLimits, IsWorld, Lifts, first_of, held_of, lock_of, nodes_of, stripe_at}
 use Rattle.sw_core.specs.Worlds.{opened, past_of, seen_of, shown, sight_of, without_lines}
 use Rattle.sw_core.specs.declared.slot.Slot.{Slot}
@@ -68,7 +69,7 @@ abbrev ring_in : {S V : Type 0} → Nodes S V → Ring
 ring_in n = n.ring.now
 
 abbrev world_in : {S V : Type 0} → Nodes S V → AllNodes V
-world_in n = n.world
+world_in n = n.network.door
 
 abbrev stores_in : {S V : Type 0} → Nodes S V → MutBor S
 stores_in n = n.stores
@@ -162,15 +163,15 @@ module _ {V : Type 0} (tells : V → Bool) (files : V → Folders) (faults : V �
             }
 
     -- the lines of the run are those of the world
-    lines-are : w.lines ≡ run.lines
+    lines-are : w.lines ≡ came_in run.lines
     lines-are = some-is run.kept
 
     pub trail-of : (steps : List Line) → steps ≡ w.lines → IsTrail tells files faults ring began rests steps
     trail-of steps are = record {
+      lines = run.lines;
+      came = sym (are ∙ lines-are);
       machine = run.after;
-      run = subst (λ (ls : List Line). Runs (nodes_of (length ring.devices) ring.lock_bits ring.power ring.secrets) (machine_of (sight_of tells files faults began)) (map Came ls) run.after)
-          (sym (are ∙ lines-are))
-          (subst (λ (n : SightNodes). Runs n (machine_of (sight_of tells files faults began)) (map Came run.lines) run.after) nodes run.run);
+      run = subst (λ (n : SightNodes). Runs n (machine_of (sight_of tells files faults began)) run.lines run.after) nodes run.run;
       stored = stored;
     }
 
@@ -423,47 +424,48 @@ module _ {V : Type 0} (tells : V → Bool) (files : V → Folders) (faults : V �
       (start : Nodes S V) (source sink : Passage) (moments : List ℕ) (after : Nodes S V) (result : Result ⊤ SessionFault)
       (session : SessionOver store_faults store_calls rests out ring_in world_in stores_in start source sink moments after result)
       (same : start.ring.now ≡ ring)
-      (begun : (volumes : List V) × (length volumes ≡ length ring.devices * 2 ^ ring.lock_bits) × (start.world ≡ opened ring volumes))
+      (begun : (volumes : List V) × (length volumes ≡ length ring.devices * 2 ^ ring.lock_bits) × (start.network.door ≡ opened ring volumes))
       (are_out : (d s : ℕ) → out start.stores.now d s ≡ places_of ring d s) where
-    way : IsUnderWay store_faults store_calls rests out start.world start.stores start.ring.now start.world start.stores
-    way = subst (λ (r : Ring). IsUnderWay store_faults store_calls rests out start.world start.stores r start.world start.stores) (sym same)
-        (way-begun store_faults store_calls rests out start.world start.stores begun.0 begun.1 begun.2 are_out)
+    way : IsUnderWay store_faults store_calls rests out start.network.door start.stores start.ring.now start.network.door start.stores
+    way = subst (λ (r : Ring). IsUnderWay store_faults store_calls rests out start.network.door start.stores r start.network.door start.stores) (sym same)
+        (way-begun store_faults store_calls rests out start.network.door start.stores begun.0 begun.1 begun.2 are_out)
 
-    pub nodes-ended : IsEnded store_faults store_calls rests out start.world start.stores
-        (faults_at store_faults store_calls rests out start.world start.stores (status_by result)) after.world after.stores
-    nodes-ended = session-over store_faults store_calls rests out start.world start.stores ring_in world_in stores_in start source sink moments after
+    pub nodes-ended : IsEnded store_faults store_calls rests out start.network.door start.stores
+        (faults_at store_faults store_calls rests out start.network.door start.stores (status_by result)) after.network.door after.stores
+    nodes-ended = session-over store_faults store_calls rests out start.network.door start.stores ring_in world_in stores_in start source sink moments after
         result way session
 
     -- what was run, once the volumes were given back
     pub nodes-run : (world : AllNodes V) (rests_now : ℕ → ℕ → Option V) (faults_now calls_now : ℕ) (clock clock_now : Option (List ℕ)) (steps : List Line)
         (read : List ℕ) (status : ℕ)
-        → status ≡ status_by result → steps ≡ after.world.lines → world ≡ without_lines after.world → read ≡ moments → TicksEach clock clock_now moments
+        → status ≡ status_by result → steps ≡ after.network.door.lines → world ≡ without_lines after.network.door → read ≡ moments → TicksEach clock clock_now moments
         → IsWorld world → ((l : ℕ) (k : Kept V) → slice_get world.slots l ≡ Some (slots.Open k) → at_place rests_now (2 ^ ring.lock_bits) l ≡ Some k.volume)
         → ((device : ℕ) → world.lifted ≡ Some device → (d s : ℕ) → places_at ring device d s ≡ true → rests_now d s ≡ rests after.stores.now d s)
         → faults_now ≡ store_faults after.stores.now → calls_now ≡ store_calls after.stores.now
-        → IsRunOver tells files faults ring start.world rests_now (store_faults start.stores.now) faults_now
+        → IsRunOver tells files faults ring start.network.door rests_now (store_faults start.stores.now) faults_now
         (store_calls start.stores.now) calls_now source sink clock clock_now (record { steps = steps; moments = read }) status
     nodes-run world rests_now faults_now calls_now clock clock_now steps read status status_is steps_are taken read_is ticks is resting same_out faults_are
         calls_are = record {
-          after = after.world;
+          after = after.network.door;
           ends = record {
             ended = result;
             status_is = status_is;
             session = subst (λ (ms : List ℕ). IsSession (MayAnswer tells files faults ring)
-                (λ w r moment fault. MayHalt tells files faults ring w r) start.world source sink ms
-                after.world result) (sym read_is)
-                (session-said store_faults store_calls rests out start.world start.stores ring_in world_in stores_in start source sink moments
+                (λ w r moment fault. MayHalt tells files faults ring w r) start.network.door source sink ms
+                after.network.door result) (sym read_is)
+                (session-said store_faults store_calls rests out start.network.door start.stores ring_in world_in stores_in start source sink moments
                 after result way session);
           };
           steps = steps_are;
-          told = λ told. subst (λ (ls : List Line). IsTrail tells files faults ring start.world rests_now ls) (sym steps_are)
+          told = λ told. subst (λ (ls : List Line). IsTrail tells files faults ring start.network.door rests_now ls) (sym steps_are)
               (nodes-ended.tells_trail rests_now (subst (λ (w : AllNodes V). IsWorld w) taken is)
               (λ l k at. resting l k (ap (λ (w : AllNodes V). slice_get w.slots l) taken ∙ at))
               (λ device lifted. same_out device (ap (λ (w : AllNodes V). w.lifted) taken ∙ lifted))
               told);
+          meets = exchange_meets tells files faults;
           moments = subst (TicksEach clock clock_now) (sym read_is) ticks;
-          store_faults_are = faults_are ∙ (nodes-ended.faults_are ∙ ap (faults_at store_faults store_calls rests out start.world start.stores) (sym status_is));
-          store_calls_are = subst (AreCalled ring after.world.lifted steps (store_calls start.stores.now)) (sym calls_are)
-              (subst (λ (ls : List Line). AreCalled ring after.world.lifted ls (store_calls start.stores.now) (store_calls after.stores.now)) (sym steps_are)
+          store_faults_are = faults_are ∙ (nodes-ended.faults_are ∙ ap (faults_at store_faults store_calls rests out start.network.door start.stores) (sym status_is));
+          store_calls_are = subst (AreCalled ring after.network.door.lifted steps (store_calls start.stores.now)) (sym calls_are)
+              (subst (λ (ls : List Line). AreCalled ring after.network.door.lifted ls (store_calls start.stores.now) (store_calls after.stores.now)) (sym steps_are)
               nodes-ended.calls_are);
         }

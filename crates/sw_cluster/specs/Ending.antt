@@ -1,5 +1,5 @@
 -- How a session ends, by its status, and what its trail tells. (This project's own.)
-use Rattle.std.specs.Prelude.{◌≡◌, ⊤, ℕ, ◌*◌, ◌%◌, ◌^◌, ◌<◌, ◌≤◌, ◌==◌, Bool, true, List, [], length, map, Option, Some, Result, Ok, Err, ◌⊎◌, if◌then◌else◌}
+use Rattle.std.specs.Prelude.{◌≡◌, ⊤, ℕ, ◌*◌, ◌%◌, ◌^◌, ◌<◌, ◌≤◌, ◌==◌, Bool, true, List, [], length, Option, Some, Result, Ok, Err, ◌⊎◌, if◌then◌else◌}
 use Rattle.sw_outside.specs.Readings.{TicksEach}
 use Rattle.sw_session.specs.Passages.{Passage}
 use Rattle.sw_session.specs.Replies.{Halts, Serves}
@@ -8,7 +8,7 @@ use Rattle.sw_session.specs.declared.session.SessionFault.{SessionFault}
 use Rattle.sw_session.specs.declared.session.SessionFault.TheVariants as faults
 use Rattle.sw_peer.specs.Journals.{Hash}
 use Rattle.sw_ring.specs.declared.ring.Ring.{Ring}
-use Rattle.sw_core.specs.Machine.{Came, Machine, machine_of, state}
+use Rattle.sw_core.specs.Machine.{Machine, RunLine, came_in, machine_of, state}
 use Rattle.sw_core.specs.Machine as machines
 use Rattle.sw_core.specs.Worlds.{AllNodes, lock_of, nodes_of, opened, sight_of, stripe_at}
 use Rattle.sw_hashdir.specs.Places.{holds}
@@ -19,6 +19,7 @@ use Rattle.sw_stores.specs.Places.{IsAsItWas}
 use Rattle.sw_stores.specs.Volumes.{AreStarted, RestsAgain}
 use Rattle.sw_volume.specs.Tree.{Folders}
 use Rattle.sw_volume.specs.Volume.{raised_by}
+use Rattle.sw_cluster.specs.Exchanging.{ExchangeMeets}
 use Rattle.sw_cluster.specs.Restarts.{AreCalled}
 use Rattle.sw_cluster.specs.Server.{MayAnswer, MayHalt}
 use Rattle.sw_core.specs.declared.trail.Trail.{Trail}
@@ -54,20 +55,24 @@ module _ {V : Type 0} (tells : V → Bool) (files : V → Folders) (faults : V �
     pub stands : holds ring.secrets ring.power (files volume) hash ≡ state machine device hash
     pub counts : (machine.seen (lock_of ring.lock_bits ring.power device hash)).faults ≡ faults volume
 
-  -- The trail tells what happened: its steps are a run of the machine from what the nodes began with, so each is answered by what had
-  -- reached its device and hash before; and in the end the files stand for what reached.
+  -- The trail tells what happened: its steps are those that came in a run of the machine from what the nodes began with, so each is answered by
+  -- what had reached its device and hash before, and what came in a message had been sent; and in the end the files stand for what reached.
   pub record IsTrail (ring : Ring) (began : AllNodes V) (rests : ℕ → ℕ → Option V) (steps : List Line) : Type 0 where
+    pub lines : List RunLine
+    pub came : came_in lines ≡ steps
     pub machine : Machine
-    pub run : machines.Runs (nodes_of (length ring.devices) ring.lock_bits ring.power ring.secrets) (machine_of (sight_of tells files faults began)) (map Came steps) machine
+    pub run : machines.Runs (nodes_of (length ring.devices) ring.lock_bits ring.power ring.secrets) (machine_of (sight_of tells files faults began)) lines machine
     pub stored : (device : ℕ) (hash : Hash) → device < length ring.devices → IsStored ring machine rests device hash
 
-  -- a session was run over these nodes of a ring, and then their volumes were given back
+  -- A session was run over these nodes of a ring, and then their volumes were given back. Of its requests two that pushed a partition, there and
+  -- back, and were told that it is done, meet
   pub record IsRunOver (ring : Ring) (began : AllNodes V) (rests_now : ℕ → ℕ → Option V) (store_faults store_faults_now : ℕ)
       (store_calls store_calls_now : ℕ) (source sink : Passage) (clock clock_now : Option (List ℕ)) (trail : Trail) (status : ℕ) : Type 0 where
     pub after : AllNodes V
     pub ends : Ends (MayAnswer tells files faults ring) (λ w r moment fault. MayHalt tells files faults ring w r) began source sink trail.moments after status
     pub steps : trail.steps ≡ after.lines
     pub told : AllTold ring began → IsTrail ring began rests_now trail.steps
+    pub meets : ExchangeMeets tells files faults
     pub moments : TicksEach clock clock_now trail.moments
     pub store_faults_are : store_faults_now ≡ (if status == statuses.store_fault then raised store_faults else store_faults)
     pub store_calls_are : AreCalled ring after.lifted trail.steps store_calls store_calls_now

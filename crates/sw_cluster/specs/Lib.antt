@@ -1,4 +1,5 @@
 pub mod Ending
+pub mod Exchanging
 pub mod Locating
 pub mod Nodes
 pub mod Opening

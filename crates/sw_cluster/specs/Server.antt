@@ -19,16 +19,23 @@ use Rattle.sw_object_server.specs.Replies.{bare, made_reply, reply_to}
 use Rattle.sw_object_server.specs.Showing.{IsShown}
 use Rattle.sw_object_server.specs.declared.asked.Asked.{Asked}
 use Rattle.sw_object_server.specs.declared.asked.Asked.TheVariants as asks
+use Rattle.sw_replica_server.specs.Serving as replicas
+use Rattle.sw_replica_server.specs.Targets.{is_replication_of}
 use Rattle.sw_control.specs.Asking.{IsControl, is_control}
+use Rattle.sw_control.specs.OutcomeText.{outcome_text}
 use Rattle.sw_control.specs.Texts.{files_text, text_reply}
 use Rattle.sw_control.specs.TrailText.{trail_text}
 use Rattle.sw_control.specs.declared.asking.Control.{Control}
 use Rattle.sw_control.specs.declared.asking.Control.TheVariants as controls
+use Rattle.sw_control.specs.declared.replication.Replication.{Replication}
 use Rattle.sw_core.specs.Doors.{HasRun}
 use Rattle.sw_core.specs.Listing.{AreCalm, ListsFiles, is_failed}
 use Rattle.sw_core.specs.Machine.{Machine}
 use Rattle.sw_core.specs.Worlds.{AllNodes, IsSameWorld, Lifts, SetsDown, sight_of}
+use Rattle.sw_outside.specs.declared.errors.NoMemory.{NoMemory}
+use Rattle.sw_pass.specs.declared.outcome.Outcome.{Outcome}
 use Rattle.sw_peer.specs.Sights.{IsListed}
+use Rattle.sw_steps.specs.Passing.{IsPushedOver}
 use Rattle.sw_volume.specs.Tree.{Folders}
 use Rattle.sw_volume.specs.declared.errors.VolumeError.{VolumeError}
 use Rattle.sw_volume.specs.declared.errors.VolumeError.TheVariants as volume_errors
@@ -70,6 +77,11 @@ IsFilesReply (Ok paths) response = (response ≡ text_reply (files_text paths)) 
 IsFilesReply (Err volume_errors.Failed) response = response ≡ bare 507
 IsFilesReply (Err volume_errors.NoMemory) response = response ≡ bare 500
 
+-- the reply to a push: only for the text of what came of it memory may be wanting yet
+abbrev pub IsPushReply : Result Outcome NoMemory → Response → Type 0
+IsPushReply (Ok outcome) response = (response ≡ text_reply (outcome_text outcome)) ⊎ (response ≡ bare 500)
+IsPushReply (Err wanting) response = response ≡ bare 500
+
 module _ {V : Type 0} (tells : V → Bool) (files : V → Folders) (faults : V → ℕ) where
   -- the files of a device were listed
   pub record IsFiled (device : ℕ) (w : AllNodes V) (response : Response) (after : AllNodes V) : Type 0 where
@@ -87,11 +99,18 @@ module _ {V : Type 0} (tells : V → Bool) (files : V → Folders) (faults : V �
     pub up : Lifts tells files faults w device given mid
     pub down : SetsDown mid device given after
 
+  -- A partition was pushed, and what came of it replied. A push that wanted memory was made as far as it came
+  pub record IsReplicated (asked : Replication) (w : AllNodes V) (response : Response) (after : AllNodes V) : Type 0 where
+    pub outcome : Result Outcome NoMemory
+    pub pushed : IsPushedOver asked.from asked.to asked.part asked.acts (sight_of tells files faults w) outcome (sight_of tells files faults after)
+    pub reply : IsPushReply outcome response
+
   -- what a control request asks for was done
   abbrev pub IsControlDone : Ring → AllNodes V → Control → Response → AllNodes V → Type 0
   IsControlDone ring w controls.Trail response after = (after ≡ w) × (response ≡ text_reply (trail_text ring.devices w.lines))
   IsControlDone ring w (controls.Files device) response after = IsFiled device w response after
   IsControlDone ring w (controls.Restart device) response after = IsRestarted device w after × (response ≡ text_reply [])
+  IsControlDone ring w (controls.Replicate asked) response after = IsReplicated asked w response after
   IsControlDone ring w controls.Refused response after = (after ≡ w) × (response ≡ bare 400)
 
   -- a control request was answered, or memory ran out before anything was done
@@ -99,13 +118,23 @@ module _ {V : Type 0} (tells : V → Bool) (files : V → Folders) (faults : V �
   IsControlled ring w r response after =
       ((asked : Control) × IsControl ring r asked × IsControlDone ring w asked response after) ⊎ ((after ≡ w) × (response ≡ bare 500))
 
+  -- ---- requests for replicas
+
+  -- The reads that a request for replicas asks for were made, and what they told replied. Or memory ran out: then some first ones of them were
+  -- made, or none
+  abbrev pub IsCompared : Ring → AllNodes V → Request → Response → AllNodes V → Type 0
+  IsCompared ring w r response after =
+      replicas.IsAnswered (sight_of tells files faults) w after ring r response
+      ⊎ ((response ≡ bare 500) × replicas.IsGivenUp (sight_of tells files faults) w after ring r)
+
   -- ---- any request
 
   -- A reply that may be given: the right one, or want of memory; and what the world is then. Whatever run of the machine it stood for goes on
   -- by the lines that it kept of this request.
   pub record MayAnswer (ring : Ring) (w : AllNodes V) (r : Request) (moment : ℕ) (response : Response) (after : AllNodes V) : Type 0 where
     pub answers : MatchBool (is_control r.path) (IsControlled ring w r response after)
-        (IsRight ring w.lines r moment response after.lines ⊎ IsWanting ring w.lines r response after.lines)
+        (MatchBool (is_replication_of r) (IsCompared ring w r response after)
+        (IsRight ring w.lines r moment response after.lines ⊎ IsWanting ring w.lines r response after.lines))
     pub nodes : (sight_of tells files faults after).nodes ≡ (sight_of tells files faults w).nodes
     pub runs : (start : Machine) → HasRun start (sight_of tells files faults w) → HasRun start (sight_of tells files faults after)
 

@@ -13,6 +13,7 @@ use crate::server::{Nodes, stripes};
 use crate::status::{NO_MEMORY, STORE_FAULT, status_of};
 use std::alloc::Global;
 use sw_core::{MomentList, Parts, Trail, World};
+use sw_lossy::{Acts, Lossy};
 use sw_outside::{Clock, Sink, Source, StoreError};
 use sw_ring::Ring;
 use sw_session::serve;
@@ -80,18 +81,24 @@ fn session<R: Source, W: Sink, S: Stores, C: Clock>(
         (S.calls stores.old) (S.calls stores.new) (passage R.left R.faults source.old source.new) (passage W.taken W.faults out.old out.new)
         (C.readings clock.old) (C.readings clock.new) trail.new result }
 {
+    let faithful = Acts {
+        lose: None,
+        lose_reply: None,
+        repeat: None,
+    };
     let mut nodes = Nodes {
         ring,
-        world,
+        network: Lossy::new(world, faithful),
         stores,
     };
     let mut moments = Vec::new(alloc);
     let ended = serve(alloc, &mut nodes, &mut moments, source, out, clock);
     let Nodes {
         ring: _,
-        mut world,
+        network,
         stores,
     } = nodes;
+    let mut world = network.into_door();
     trail.steps = world.take_trail(alloc);
     trail.moments = MomentList::from(moments);
     give_back(ring, world, stores);
