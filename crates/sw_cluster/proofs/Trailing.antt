@@ -193,7 +193,7 @@ module _ {V : Type 0} (tells : V → Bool) (files : V → Folders) (faults : V �
   abbrev pub SessionOver : {S N : Type 0} → (S → ℕ) → (S → ℕ) → (S → ℕ → ℕ → Option V) → (S → ℕ → ℕ → Bool) → (N → Ring) → (N → AllNodes V) → (N → MutBor S) → N
       → Passage → Passage → List ℕ → N
       → Result ⊤ SessionFault → Type 0
-  SessionOver {S} {N} store_faults store_calls rests out ring_of world_of stores_of = IsSession
+  SessionOver {S} {N} store_faults store_calls rests out ring_of world_of stores_of = IsSession (λ request. false)
       (λ (old : N) (request : Request) (moment : ℕ) (response : Response) (new : N).
       NodesAnswer tells files faults store_faults store_calls out (ring_of old) (ring_of new) (world_of old) (world_of new) (stores_of old)
       (stores_of new) request moment response)
@@ -397,7 +397,7 @@ module _ {V : Type 0} (tells : V → Bool) (files : V → Folders) (faults : V �
           (way : IsUnderWay (ring_of start) (world_of start) (stores_of start))
           (session : SessionOver store_faults store_calls rests out ring_of world_of stores_of start source sink moments after result) where
         pub session-over : IsEnded (faults_at (status_by result)) (world_of after) (stores_of after)
-        session-over = over after result (session-ends _ _ (λ (n : N). IsUnderWay (ring_of n) (world_of n) (stores_of n))
+        session-over = over after result (session-ends _ _ _ (λ (n : N). IsUnderWay (ring_of n) (world_of n) (stores_of n))
             (λ old request moment response new p answer.
             goes-on (ring_of old) (ring_of new) (world_of old) (world_of new) (stores_of old) (stores_of new) request p moment response answer)
             (λ (fault : ServerFault) (n : N). IsHalted fault (world_of n) (stores_of n))
@@ -405,10 +405,10 @@ module _ {V : Type 0} (tells : V → Bool) (files : V → Folders) (faults : V �
             (stores_of new) request p fault halt)
             start source sink moments after result way session)
 
-        pub session-said : IsSession (MayAnswer tells files faults ring) (λ w r moment fault. MayHalt tells files faults ring w r)
+        pub session-said : IsSession (λ request. false) (MayAnswer tells files faults ring) (λ w r moment fault. MayHalt tells files faults ring w r)
             (world_of start) source sink moments
             (world_of after) result
-        session-said = session-mapped _ _ (λ (n : N). IsUnderWay (ring_of n) (world_of n) (stores_of n))
+        session-said = session-mapped _ _ _ (λ (n : N). IsUnderWay (ring_of n) (world_of n) (stores_of n))
             (λ old request moment response new p answer.
             goes-on (ring_of old) (ring_of new) (world_of old) (world_of new) (stores_of old) (stores_of new) request p moment response answer)
             (MayAnswer tells files faults ring) (λ w r moment fault. MayHalt tells files faults ring w r) world_of
@@ -450,7 +450,7 @@ module _ {V : Type 0} (tells : V → Bool) (files : V → Folders) (faults : V �
           ends = record {
             ended = result;
             status_is = status_is;
-            session = subst (λ (ms : List ℕ). IsSession (MayAnswer tells files faults ring)
+            session = subst (λ (ms : List ℕ). IsSession (λ request. false) (MayAnswer tells files faults ring)
                 (λ w r moment fault. MayHalt tells files faults ring w r) start.network.door source sink ms
                 after.network.door result) (sym read_is)
                 (session-said store_faults store_calls rests out start.network.door start.stores ring_in world_in stores_in start source sink moments

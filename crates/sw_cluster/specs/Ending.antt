@@ -1,6 +1,7 @@
 -- How a session ends, by its status, and what its trail tells. (This project's own.)
-use Rattle.std.specs.Prelude.{◌≡◌, ⊤, ℕ, ◌*◌, ◌%◌, ◌^◌, ◌<◌, ◌≤◌, ◌==◌, Bool, true, List, [], length, Option, Some, Result, Ok, Err, ◌⊎◌, if◌then◌else◌}
+use Rattle.std.specs.Prelude.{◌≡◌, ⊤, ℕ, ◌*◌, ◌%◌, ◌^◌, ◌<◌, ◌≤◌, ◌==◌, Bool, true, false, List, [], length, Option, Some, Result, Ok, Err, ◌⊎◌, if◌then◌else◌}
 use Rattle.sw_outside.specs.Readings.{TicksEach}
+use Rattle.sw_message.specs.declared.request.Request.{Request}
 use Rattle.sw_session.specs.Passages.{Passage}
 use Rattle.sw_session.specs.Replies.{Halts, Serves}
 use Rattle.sw_session.specs.Session.{IsSession}
@@ -36,10 +37,11 @@ status_by (Err faults.ServerFault) = statuses.store_fault
 status_by (Err faults.NoMemory) = statuses.no_memory
 
 -- a session ended with this status, which tells how: no two outcomes have one status
-pub record Ends {S : Type 0} (may : Serves S) (halts : Halts S) (start : S) (source sink : Passage) (moments : List ℕ) (after : S) (status : ℕ) : Type 0 where
+pub record Ends {S : Type 0} (last : Request → Bool) (may : Serves S) (halts : Halts S) (start : S) (source sink : Passage) (moments : List ℕ) (after : S)
+    (status : ℕ) : Type 0 where
   pub ended : Result ⊤ SessionFault
   pub status_is : status ≡ status_by ended
-  pub session : IsSession may halts start source sink moments after ended
+  pub session : IsSession last may halts start source sink moments after ended
 
 module _ {V : Type 0} (tells : V → Bool) (files : V → Folders) (faults : V → ℕ) where
   -- each lock tells what it holds
@@ -61,15 +63,17 @@ module _ {V : Type 0} (tells : V → Bool) (files : V → Folders) (faults : V �
     pub lines : List RunLine
     pub came : came_in lines ≡ steps
     pub machine : Machine
-    pub run : machines.Runs (nodes_of (length ring.devices) ring.lock_bits ring.power ring.secrets) (machine_of (sight_of tells files faults began)) lines machine
+    pub run : machines.Runs (nodes_of (length ring.devices) ring.lock_bits ring.power ring.secrets)
+        (machine_of (sight_of tells files faults began)) lines machine
     pub stored : (device : ℕ) (hash : Hash) → device < length ring.devices → IsStored ring machine rests device hash
 
-  -- A session was run over these nodes of a ring, and then their volumes were given back. Of its requests two that pushed a partition, there and
-  -- back, and were told that it is done, meet
+  -- A session was run over these nodes of a ring, in which no request is a last one, and then their volumes were given back. Of its requests
+  -- two that pushed a partition, there and back, and were told that it is done, meet
   pub record IsRunOver (ring : Ring) (began : AllNodes V) (rests_now : ℕ → ℕ → Option V) (store_faults store_faults_now : ℕ)
       (store_calls store_calls_now : ℕ) (source sink : Passage) (clock clock_now : Option (List ℕ)) (trail : Trail) (status : ℕ) : Type 0 where
     pub after : AllNodes V
-    pub ends : Ends (MayAnswer tells files faults ring) (λ w r moment fault. MayHalt tells files faults ring w r) began source sink trail.moments after status
+    pub ends : Ends (λ request. false) (MayAnswer tells files faults ring) (λ w r moment fault. MayHalt tells files faults ring w r) began source sink
+        trail.moments after status
     pub steps : trail.steps ≡ after.lines
     pub told : AllTold ring began → IsTrail ring began rests_now trail.steps
     pub meets : ExchangeMeets tells files faults

@@ -46,6 +46,8 @@ impl<S: Stores> Server for Nodes<'_, S> {
     ghost halts = { λ old request moment fault new. NodesHalt S.V.tells S.V.holds S.V.faults S.faults S.calls S.rests S.out
         old.ring.now new.ring.now old.network.door new.network.door old.stores new.stores request fault };
 
+    ghost last = { λ request. false };
+
     fn answer(
         &mut self,
         alloc: Global,
@@ -58,6 +60,11 @@ impl<S: Stores> Server for Nodes<'_, S> {
             Ok(false) => Ok(self.serve(alloc, request, now)),
             Err(NoMemory) => Ok(bare(alloc, 500)),
         }
+    }
+
+    /// None is: a session over the nodes goes on to the end of its input.
+    fn is_last(&self, _request: &Request) -> bool {
+        false
     }
 }
 

@@ -1,5 +1,6 @@
 -- How the turns of a session's loop make up a session.
-use Rattle.std.proofs.Common.{◌≡◌, ℕ, ◌+◌, ◌<◌, Bool, List, [], ◌∷◌, ◌++◌, length, Option, Some, None, refl, sym, ap, ◌∙◌, subst, append_assoc, append-nil, length-append, inl, inr, Ok, Err, true, false, ◌⊎◌}
+use Rattle.std.proofs.Common.{◌≡◌, ℕ, ◌+◌, ◌<◌, Bool, List, [], ◌∷◌, ◌++◌, length, Option, Some, None, refl, sym, ap, ◌∙◌, subst}
+use Rattle.std.proofs.Common.{append_assoc, append-nil, length-append, inl, inr, Ok, Err, true, false, ◌⊎◌}
 use Rattle.std.specs.List.{flat_map}
 use Rattle.std.specs.Io.KnownBytes.{Appends, Consumes, IsAtEnd, prepend_known}
 use Rattle.std.proofs.KnownBytes.{Appends-trans, Appends-nil, Consumes-nil, Consumes-trans}
@@ -13,16 +14,19 @@ use Rattle.sw_message.specs.declared.request.Request.{Request}
 use Rattle.sw_message.specs.declared.response.Response.{Response}
 use Rattle.sw_session.specs.Passages.{Passage}
 use Rattle.sw_session.specs.Replies.{Halts, Serves, Replies, written_for}
-use Rattle.sw_session.specs.Session.{SoFar, Full, Broken, HaltedAt, IsSession, most_requests}
+use Rattle.sw_session.specs.Session.{SoFar, Closed, Complete, Full, Broken, HaltedAt, IsSession, IsSound, IsWhole, most_requests}
 use Rattle.sw_session.specs.Turn.{CutsReply, HaltsTurn, Idles, IsCounted, IsTurn, Replied, StopsBetween}
 use Rattle.sw_session.specs.declared.server.ServerFault.{ServerFault}
 use Rattle.sw_session.specs.declared.server.ServerFault.TheVariants as servers
 use Rattle.sw_session.specs.declared.session.SessionFault.{SessionFault}
 use Rattle.sw_session.specs.declared.session.SessionFault.TheVariants as faults
+use Rattle.sw_session.specs.declared.session.Turned.{Turned}
+use Rattle.sw_session.specs.declared.session.Turned.TheVariants as turns
 
 -- the loop has come so far: this many requests were answered
-pub record Progress {S : Type 0} (may : Serves S) (start : S) (input rest taken now : Option (List ℕ)) (moments : List ℕ) (after : S) (count : ℕ) : Type 0 where
-  pub done : SoFar may start input rest taken now moments after
+pub record Progress {S : Type 0} (last : Request → Bool) (may : Serves S) (start : S) (input rest taken now : Option (List ℕ)) (moments : List ℕ) (after : S)
+    (count : ℕ) : Type 0 where
+  pub done : SoFar last may start input rest taken now moments after
   pub count_is : length done.requests ≡ count
 
 -- ---- replies
@@ -70,104 +74,165 @@ begins_with_more input mid rest requests p begins are taken = record {
 
 -- ---- turns of the loop
 
-abbrev pub begun : {S : Type 0} (may : Serves S) (start : S) (input out : Option (List ℕ)) → Progress may start input input out out [] start 0
-begun may start input out = record {
-  done = record { requests = []; begins = begins_with_none input; text = []; replied = (refl, (refl, refl)); written = Appends-nil out };
+abbrev pub begun : {S : Type 0} (last : Request → Bool) (may : Serves S) (start : S) (input out : Option (List ℕ))
+    → Progress last may start input input out out [] start 0
+begun last may start input out = record {
+  done = record {
+    requests = [];
+    begins = begins_with_none input;
+    none_last = All-nil (λ (r : Request). last r ≡ false);
+    text = [];
+    replied =
+        (refl, (refl, refl));
+    written = Appends-nil out;
+  };
   count_is = refl;
 }
 
 -- nothing is held as it begins
-pub begun_with : {S : Type 0} (may : Serves S) (start : S) (left out : Option (List ℕ)) → Progress may start left (prepend_known [] left) out out [] start 0
-begun_with may start None out = begun may start None out
-begun_with may start (Some bytes) out = begun may start (Some bytes) out
+pub begun_with : {S : Type 0} (last : Request → Bool) (may : Serves S) (start : S) (left out : Option (List ℕ)) → Progress last may start left
+    (prepend_known [] left) out out [] start 0
+begun_with last may start None out = begun last may start None out
+begun_with last may start (Some bytes) out = begun last may start (Some bytes) out
 
 -- the requests so far, and one more whose reply was written whole
-abbrev one_more : {S : Type 0} (may : Serves S) (start mid after : S) (input left rest taken then now : Option (List ℕ)) (moments : List ℕ) (moment : ℕ)
-    → SoFar may start input left taken then moments mid → Replied may mid after left rest then now moment
-    → SoFar may start input rest taken now (moments ++ moment ∷ []) after
-one_more may start mid after input left rest taken then now moments moment so_far one = record {
+abbrev one_more : {S : Type 0} (last : Request → Bool) (may : Serves S) (start mid after : S) (input left rest taken then now : Option (List ℕ))
+    (moments : List ℕ) (moment : ℕ)
+    → SoFar last may start input left taken then moments mid → (one : Replied may mid after left rest then now moment)
+    → last (request_of one.turn.parts) ≡ false → SoFar last may start input rest taken now (moments ++ moment ∷ []) after
+one_more last may start mid after input left rest taken then now moments moment so_far one goes_on = record {
   requests = so_far.requests ++ request_of one.turn.parts ∷ [];
   begins = begins_with_more input left rest so_far.requests one.turn.parts so_far.begins one.turn.are_parts one.turn.consumed;
+  none_last = All-push (λ (r : Request). last r ≡ false) so_far.requests (request_of one.turn.parts) so_far.none_last goes_on;
   text = so_far.text ++ written_for (request_of one.turn.parts) one.response;
   replied = Replies-append may start mid after so_far.requests _ moments _ so_far.text _ so_far.replied
       (one_reply may mid after (request_of one.turn.parts) moment one.response one.turn.answer);
   written = Appends-trans taken then now so_far.text _ so_far.written one.written;
 }
 
-pub turn_made : {S : Type 0} (may : Serves S) (halts : Halts S) (start mid after : S) (input left rest taken then now : Option (List ℕ))
+pub turn_made : {S : Type 0} (last : Request → Bool) (may : Serves S) (halts : Halts S) (start mid after : S) (input left rest taken then now : Option (List ℕ))
     (moments moments_now : List ℕ) (count : ℕ)
-    → Progress may start input left taken then moments mid count → IsTurn may halts mid after moments moments_now left rest then now (Ok true)
-    → Progress may start input rest taken now moments_now after (count + 1)
-turn_made may halts start mid after input left rest taken then now moments moments_now count so_far turn =
-    subst (λ (m : List ℕ). Progress may start input rest taken now m after (count + 1)) (sym turn.1) (record {
-      done = one_more may start mid after input left rest taken then now moments turn.0 so_far.done turn.2;
-      count_is = length-append so_far.done.requests (request_of turn.2.turn.parts ∷ []) ∙ ap (λ n. n + 1) so_far.count_is;
+    → Progress last may start input left taken then moments mid count → IsTurn last may halts mid after moments moments_now left rest then now
+    (Ok turns.Answered)
+    → Progress last may start input rest taken now moments_now after (count + 1)
+turn_made last may halts start mid after input left rest taken then now moments moments_now count so_far turn =
+    subst (λ (m : List ℕ). Progress last may start input rest taken now m after (count + 1)) (sym turn.1) (record {
+      done = one_more last may start mid after input left rest taken then now moments turn.0 so_far.done turn.2.0 turn.2.1;
+      count_is = length-append so_far.done.requests (request_of turn.2.0.turn.parts ∷ []) ∙ ap (λ n. n + 1) so_far.count_is;
     })
 
 -- a turn that answered nothing leaves the progress as it is
-idle : {S : Type 0} (may : Serves S) (start mid after : S) (input rest taken now : Option (List ℕ)) (moments moments_now : List ℕ) (count : ℕ)
-    → Progress may start input rest taken now moments mid count → Idles mid after moments moments_now
-    → Progress may start input rest taken now moments_now after count
-idle {S} may start mid after input rest taken now moments moments_now count p idles =
-    subst (λ (m : List ℕ). Progress may start input rest taken now m after count) (sym idles.no_moment)
-    (subst (λ (s : S). Progress may start input rest taken now moments s count) (sym idles.same) p)
+idle : {S : Type 0} (last : Request → Bool) (may : Serves S) (start mid after : S) (input rest taken now : Option (List ℕ)) (moments moments_now : List ℕ)
+    (count : ℕ)
+    → Progress last may start input rest taken now moments mid count → Idles mid after moments moments_now
+    → Progress last may start input rest taken now moments_now after count
+idle {S} last may start mid after input rest taken now moments moments_now count p idles =
+    subst (λ (m : List ℕ). Progress last may start input rest taken now m after count) (sym idles.no_moment)
+    (subst (λ (s : S). Progress last may start input rest taken now moments s count) (sym idles.same) p)
 
 -- ---- ends
 
-fewer : {S : Type 0} (may : Serves S) (start after : S) (input rest taken now : Option (List ℕ)) (moments : List ℕ) (count : ℕ)
-    → (p : Progress may start input rest taken now moments after count) → count < most_requests → length p.done.requests < most_requests
-fewer may start after input rest taken now moments count p few = subst (λ n. n < most_requests) (sym p.count_is) few
+fewer : {S : Type 0} (last : Request → Bool) (may : Serves S) (start after : S) (input rest taken now : Option (List ℕ)) (moments : List ℕ) (count : ℕ)
+    → (p : Progress last may start input rest taken now moments after count) → count < most_requests → length p.done.requests < most_requests
+fewer last may start after input rest taken now moments count p few = subst (λ n. n < most_requests) (sym p.count_is) few
 
-pub ended : {S : Type 0} (may : Serves S) (halts : Halts S) (start mid after : S) (source sink : Passage) (left rest then : Option (List ℕ))
+ended : {S : Type 0} (last : Request → Bool) (may : Serves S) (halts : Halts S) (start mid after : S) (source sink : Passage)
+    (left rest then : Option (List ℕ))
     (moments moments_now : List ℕ) (count reads writes : ℕ)
-    → Progress may start source.before left sink.before then moments mid count → count < most_requests
-    → IsTurn may halts mid after moments moments_now left rest then sink.now (Ok false) → IsAtEnd source.now
+    → Progress last may start source.before left sink.before then moments mid count → count < most_requests
+    → IsTurn last may halts mid after moments moments_now left rest then sink.now (Ok turns.Ended) → IsAtEnd source.now
     → reads ≡ source.faults → writes ≡ sink.faults → (source.faults_now ≡ reads) × (sink.faults_now ≡ writes)
-    → IsSession may halts start source sink moments_now after (Ok tt)
-ended may halts start mid after source sink left rest then moments moments_now count reads writes so_far few turn at_end r w counted =
-    let p = idle may start mid after source.before left sink.before then moments moments_now count so_far turn.0 in (
-      record {
-        rest = left;
-        done = record {
-          requests = p.done.requests;
-          begins = p.done.begins;
-          text = p.done.text;
-          replied = p.done.replied;
-          written = subst (Appends sink.before sink.now) (append-nil p.done.text) (Appends-trans sink.before then sink.now p.done.text [] p.done.written turn.2);
-        };
-        few = fewer may start after source.before left sink.before then moments_now count p few;
-        nothing_else = turn.1;
-      },
-      at_end,
+    → IsSession last may halts start source sink moments_now after (Ok tt)
+ended last may halts start mid after source sink left rest then moments moments_now count reads writes so_far few turn at_end r w counted =
+    let p = idle last may start mid after source.before left sink.before then moments moments_now count so_far turn.0 in (
+      inl (
+        record {
+          rest = left;
+          done = record {
+            requests = p.done.requests;
+            begins = p.done.begins;
+            none_last = p.done.none_last;
+            text = p.done.text;
+            replied = p.done.replied;
+            written = subst (Appends sink.before sink.now) (append-nil p.done.text)
+                (Appends-trans sink.before then sink.now p.done.text [] p.done.written turn.2);
+          };
+          few = fewer last may start after source.before left sink.before then moments_now count p few;
+          nothing_else = turn.1;
+        },
+        at_end,
+      ),
       counted.0 ∙ r,
       counted.1 ∙ w,
     )
 
-pub filled : {S : Type 0} (may : Serves S) (start after : S) (input rest taken now : Option (List ℕ)) (moments : List ℕ) (count : ℕ)
-    → Progress may start input rest taken now moments after count → count ≡ most_requests → Full may start input taken now moments after
-filled may start after input rest taken now moments count p full = record { rest = rest; done = p.done; most = p.count_is ∙ full }
+-- the last request was answered
+closed : {S : Type 0} (last : Request → Bool) (may : Serves S) (halts : Halts S) (start mid after : S) (source sink : Passage)
+    (left rest then : Option (List ℕ))
+    (moments moments_now : List ℕ) (count reads writes : ℕ)
+    → Progress last may start source.before left sink.before then moments mid count → count < most_requests
+    → IsTurn last may halts mid after moments moments_now left rest then sink.now (Ok turns.Closed)
+    → reads ≡ source.faults → writes ≡ sink.faults → (source.faults_now ≡ reads) × (sink.faults_now ≡ writes)
+    → IsSession last may halts start source sink moments_now after (Ok tt)
+closed last may halts start mid after source sink left rest then moments moments_now count reads writes so_far few turn r w counted = (
+  inr (record {
+    rest = left;
+    mid = then;
+    earlier = moments;
+    then = mid;
+    done = so_far.done;
+    few = fewer last may start mid source.before left sink.before then moments count so_far few;
+    moment = turn.0;
+    moments_are = turn.1;
+    behind = rest;
+    reply = turn.2.0;
+    is_last = turn.2.1;
+  }),
+  counted.0 ∙ r,
+  counted.1 ∙ w,
+)
+
+-- a turn behind which the session doesn't go on ended it well
+pub ended_well : {S : Type 0} (last : Request → Bool) (may : Serves S) (halts : Halts S) (start mid after : S) (source sink : Passage)
+    (left rest then : Option (List ℕ)) (moments moments_now : List ℕ) (count reads writes : ℕ) (turned : Turned)
+    → (turned ≡ turns.Closed) ⊎ (turned ≡ turns.Ended)
+    → Progress last may start source.before left sink.before then moments mid count → count < most_requests
+    → IsTurn last may halts mid after moments moments_now left rest then sink.now (Ok turned) → (turned ≡ turns.Ended → IsAtEnd source.now)
+    → reads ≡ source.faults → writes ≡ sink.faults → (source.faults_now ≡ reads) × (sink.faults_now ≡ writes)
+    → IsSession last may halts start source sink moments_now after (Ok tt)
+ended_well last may halts start mid after source sink left rest then moments moments_now count reads writes turned (inl is) so_far few turn at_end r w counted =
+    closed last may halts start mid after source sink left rest then moments moments_now count reads writes so_far few
+    (subst (λ (t : Turned). IsTurn last may halts mid after moments moments_now left rest then sink.now (Ok t)) is turn) r w counted
+ended_well last may halts start mid after source sink left rest then moments moments_now count reads writes turned (inr is) so_far few turn at_end r w counted =
+    ended last may halts start mid after source sink left rest then moments moments_now count reads writes so_far few
+    (subst (λ (t : Turned). IsTurn last may halts mid after moments moments_now left rest then sink.now (Ok t)) is turn) (at_end is) r w counted
+
+pub filled : {S : Type 0} (last : Request → Bool) (may : Serves S) (start after : S) (input rest taken now : Option (List ℕ)) (moments : List ℕ) (count : ℕ)
+    → Progress last may start input rest taken now moments after count → count ≡ most_requests → Full last may start input taken now moments after
+filled last may start after input rest taken now moments count p full = record { rest = rest; done = p.done; most = p.count_is ∙ full }
 
 -- a write failed or memory ran out
-broken : {S : Type 0} (may : Serves S) (start mid after : S) (source sink : Passage) (left rest then : Option (List ℕ)) (moments moments_now : List ℕ) (count : ℕ)
-    → Progress may start source.before left sink.before then moments mid count → count < most_requests
+broken : {S : Type 0} (last : Request → Bool) (may : Serves S) (start mid after : S) (source sink : Passage) (left rest then : Option (List ℕ))
+    (moments moments_now : List ℕ) (count : ℕ)
+    → Progress last may start source.before left sink.before then moments mid count → count < most_requests
     → (Idles mid after moments moments_now × StopsBetween left then sink.now) ⊎ CutsReply may mid after moments moments_now left rest then sink.now
-    → Broken may start source.before sink.before sink.now moments_now after
-broken may start mid after source sink left rest then moments moments_now count p few (inl idles) =
-    let still = idle may start mid after source.before left sink.before then moments moments_now count p idles.0 in
+    → Broken last may start source.before sink.before sink.now moments_now after
+broken last may start mid after source sink left rest then moments moments_now count p few (inl idles) =
+    let still = idle last may start mid after source.before left sink.before then moments moments_now count p idles.0 in
     inl (record {
       rest = left;
       mid = then;
       done = still.done;
-      few = fewer may start after source.before left sink.before then moments_now count still few;
+      few = fewer last may start after source.before left sink.before then moments_now count still few;
       between = idles.1;
     })
-broken may start mid after source sink left rest then moments moments_now count p few (inr cuts) = inr (record {
+broken last may start mid after source sink left rest then moments moments_now count p few (inr cuts) = inr (record {
   rest = left;
   mid = then;
   earlier = moments;
   then = mid;
   done = p.done;
-  few = fewer may start mid source.before left sink.before then moments count p few;
+  few = fewer last may start mid source.before left sink.before then moments count p few;
   moment = cuts.0;
   moments_are = cuts.1;
   behind = rest;
@@ -175,18 +240,19 @@ broken may start mid after source sink left rest then moments moments_now count 
 })
 
 -- the server halted
-halted : {S : Type 0} (may : Serves S) (halts : Halts S) (start mid after : S) (source sink : Passage) (left rest then : Option (List ℕ))
+halted : {S : Type 0} (last : Request → Bool) (may : Serves S) (halts : Halts S) (start mid after : S) (source sink : Passage)
+    (left rest then : Option (List ℕ))
     (moments moments_now : List ℕ) (count : ℕ) (fault : ServerFault)
-    → Progress may start source.before left sink.before then moments mid count → count < most_requests
+    → Progress last may start source.before left sink.before then moments mid count → count < most_requests
     → HaltsTurn halts mid after moments moments_now left rest then sink.now fault
-    → HaltedAt may halts start source.before sink.before sink.now moments_now after fault
-halted may halts start mid after source sink left rest then moments moments_now count fault p few turn = record {
+    → HaltedAt last may halts start source.before sink.before sink.now moments_now after fault
+halted last may halts start mid after source sink left rest then moments moments_now count fault p few turn = record {
   rest = left;
   mid = then;
   earlier = moments;
   then = mid;
   done = p.done;
-  few = fewer may start mid source.before left sink.before then moments count p few;
+  few = fewer last may start mid source.before left sink.before then moments count p few;
   moment = turn.0;
   moments_are = turn.1;
   behind = rest;
@@ -194,54 +260,66 @@ halted may halts start mid after source sink left rest then moments moments_now 
 }
 
 -- memory ran out, of a reply or of the server
-out_of_memory : {S : Type 0} (may : Serves S) (halts : Halts S) (start mid after : S) (source sink : Passage) (left rest then : Option (List ℕ))
+out_of_memory : {S : Type 0} (last : Request → Bool) (may : Serves S) (halts : Halts S) (start mid after : S) (source sink : Passage)
+    (left rest then : Option (List ℕ))
     (moments moments_now : List ℕ) (count : ℕ)
-    → Progress may start source.before left sink.before then moments mid count → count < most_requests
-    → IsTurn may halts mid after moments moments_now left rest then sink.now (Err faults.NoMemory)
-    → Broken may start source.before sink.before sink.now moments_now after
-    ⊎ HaltedAt may halts start source.before sink.before sink.now moments_now after servers.NoMemory
-out_of_memory may halts start mid after source sink left rest then moments moments_now count p few (inl idles) =
-    inl (broken may start mid after source sink left rest then moments moments_now count p few (inl idles))
-out_of_memory may halts start mid after source sink left rest then moments moments_now count p few (inr (inl cuts)) =
-    inl (broken may start mid after source sink left rest then moments moments_now count p few (inr cuts))
-out_of_memory may halts start mid after source sink left rest then moments moments_now count p few (inr (inr halt)) =
-    inr (halted may halts start mid after source sink left rest then moments moments_now count servers.NoMemory p few halt)
+    → Progress last may start source.before left sink.before then moments mid count → count < most_requests
+    → IsTurn last may halts mid after moments moments_now left rest then sink.now (Err faults.NoMemory)
+    → Broken last may start source.before sink.before sink.now moments_now after
+    ⊎ HaltedAt last may halts start source.before sink.before sink.now moments_now after servers.NoMemory
+out_of_memory last may halts start mid after source sink left rest then moments moments_now count p few (inl idles) =
+    inl (broken last may start mid after source sink left rest then moments moments_now count p few (inl idles))
+out_of_memory last may halts start mid after source sink left rest then moments moments_now count p few (inr (inl cuts)) =
+    inl (broken last may start mid after source sink left rest then moments moments_now count p few (inr cuts))
+out_of_memory last may halts start mid after source sink left rest then moments moments_now count p few (inr (inr halt)) =
+    inr (halted last may halts start mid after source sink left rest then moments moments_now count servers.NoMemory p few halt)
 
 -- a turn that ended the session by a fault ended it so
-pub ended_by : {S : Type 0} (may : Serves S) (halts : Halts S) (start mid after : S) (source sink : Passage) (left rest then : Option (List ℕ))
+pub ended_by : {S : Type 0} (last : Request → Bool) (may : Serves S) (halts : Halts S) (start mid after : S) (source sink : Passage)
+    (left rest then : Option (List ℕ))
     (moments moments_now : List ℕ) (count reads writes : ℕ) (fault : SessionFault)
-    → Progress may start source.before left sink.before then moments mid count → count < most_requests
-    → IsTurn may halts mid after moments moments_now left rest then sink.now (Err fault)
+    → Progress last may start source.before left sink.before then moments mid count → count < most_requests
+    → IsTurn last may halts mid after moments moments_now left rest then sink.now (Err fault)
     → reads ≡ source.faults → writes ≡ sink.faults → IsCounted {A = Bool} reads source.faults_now writes sink.faults_now (Err fault)
-    → IsSession may halts start source sink moments_now after (Err fault)
-ended_by may halts start mid after source sink left rest then moments moments_now count reads writes faults.ReadFault p few turn r w counted =
-    let still = idle may start mid after source.before left sink.before then moments moments_now count p turn.0 in (
+    → IsSession last may halts start source sink moments_now after (Err fault)
+ended_by last may halts start mid after source sink left rest then moments moments_now count reads writes faults.ReadFault p few turn r w counted =
+    let still = idle last may start mid after source.before left sink.before then moments moments_now count p turn.0 in (
       record {
         rest = left;
         mid = then;
         done = still.done;
-        few = fewer may start after source.before left sink.before then moments_now count still few;
+        few = fewer last may start after source.before left sink.before then moments_now count still few;
         told = turn.1;
       },
       counted.0 ∙ ap raised r,
       counted.1 ∙ w,
     )
-ended_by may halts start mid after source sink left rest then moments moments_now count reads writes faults.WriteFault p few turn r w counted =
-    (broken may start mid after source sink left rest then moments moments_now count p few turn, counted.0 ∙ r, counted.1 ∙ ap raised w)
-ended_by may halts start mid after source sink left rest then moments moments_now count reads writes faults.TooLong p few turn r w counted = absurd turn
-ended_by may halts start mid after source sink left rest then moments moments_now count reads writes faults.BadInput p few turn r w counted =
-    let still = idle may start mid after source.before left sink.before then moments moments_now count p turn.0 in (
+ended_by last may halts start mid after source sink left rest then moments moments_now count reads writes faults.WriteFault p few turn r w counted =
+    (broken last may start mid after source sink left rest then moments moments_now count p few turn, counted.0 ∙ r, counted.1 ∙ ap raised w)
+ended_by last may halts start mid after source sink left rest then moments moments_now count reads writes faults.TooLong p few turn r w counted = absurd turn
+ended_by last may halts start mid after source sink left rest then moments moments_now count reads writes faults.BadInput p few turn r w counted =
+    let still = idle last may start mid after source.before left sink.before then moments moments_now count p turn.0 in (
       record {
         rest = left;
         mid = then;
         done = still.done;
-        few = fewer may start after source.before left sink.before then moments_now count still few;
+        few = fewer last may start after source.before left sink.before then moments_now count still few;
         refuses = turn.1;
       },
       counted.0 ∙ r,
       counted.1 ∙ w,
     )
-ended_by may halts start mid after source sink left rest then moments moments_now count reads writes faults.ServerFault p few turn r w counted =
-    (halted may halts start mid after source sink left rest then moments moments_now count servers.Failed p few turn, counted.0 ∙ r, counted.1 ∙ w)
-ended_by may halts start mid after source sink left rest then moments moments_now count reads writes faults.NoMemory p few turn r w counted =
-    (out_of_memory may halts start mid after source sink left rest then moments moments_now count p few turn, counted.0 ∙ r, counted.1 ∙ w)
+ended_by last may halts start mid after source sink left rest then moments moments_now count reads writes faults.ServerFault p few turn r w counted =
+    (halted last may halts start mid after source sink left rest then moments moments_now count servers.Failed p few turn, counted.0 ∙ r, counted.1 ∙ w)
+ended_by last may halts start mid after source sink left rest then moments moments_now count reads writes faults.NoMemory p few turn r w counted =
+    (out_of_memory last may halts start mid after source sink left rest then moments moments_now count p few turn, counted.0 ∙ r, counted.1 ∙ w)
+
+-- where no request is a last one, none ends a session
+pub whole : {S : Type 0} (may : Serves S) (halts : Halts S) → IsWhole may halts
+whole may halts start source sink moments after s = by s.0
+  where
+    by : (Complete (λ request. false) may start source.before sink.before sink.now moments after × IsAtEnd source.now)
+        ⊎ Closed (λ request. false) may start source.before sink.before sink.now moments after
+        → Complete (λ request. false) may start source.before sink.before sink.now moments after × IsAtEnd source.now × IsSound source × IsSound sink
+    by (inl complete) = (complete.0, complete.1, s.1, s.2)
+    by (inr closed) = let no : false ≡ true = closed.is_last in cc

@@ -1,11 +1,12 @@
 -- What one turn of a session's loop leaves.
-use Rattle.std.proofs.Common.{◌≡◌, ℕ, List, [], ◌∷◌, ◌++◌, length, ◌+◌, Option, Result, Ok, Err, true, refl, sym, ap, ◌∙◌, subst, inl, inr}
+use Rattle.std.proofs.Common.{◌≡◌, ℕ, List, [], ◌∷◌, ◌++◌, length, ◌+◌, Bool, Option, Result, Ok, Err, true, false, refl, sym, ap, ◌∙◌, subst, inl, inr}
 use Rattle.std.specs.Io.KnownBytes.{Appends}
 use Rattle.std.proofs.KnownBytes.{Appends-trans}
 use Rattle.std.proofs.Math.Seq.{take-append-add}
 use Rattle.sw_outside.specs.Readings.{Ticks, TicksEach}
 use Rattle.sw_outside.specs.Taken.{AppendsPart}
 use Rattle.sw_http.specs.Continue.{Continues, IsCut, FindsNoRequest, Takes, continue_of}
+use Rattle.sw_http.specs.Request.{request_of}
 use Rattle.sw_message.specs.Reply.{reply_text}
 use Rattle.sw_message.specs.declared.request.Request.{Request}
 use Rattle.sw_message.specs.declared.response.Response.{Response}
@@ -13,12 +14,14 @@ use Rattle.sw_message.specs.declared.writer.WriteFault.{WriteFault}
 use Rattle.sw_message.specs.declared.writer.WriteFault.TheVariants as writes
 use Rattle.sw_session.specs.Fault.{fault_of, halt_of}
 use Rattle.sw_session.specs.Replies.{Halts, Serves}
-use Rattle.sw_session.specs.Turn.{CutsReply, HaltsTurn, IsCounted, IsReadingFault, IsReceived, IsRefusal, IsTold, IsTurn, RefusesRestPart}
+use Rattle.sw_session.specs.Turn.{CutsReply, HaltsTurn, IsCounted, IsReadingFault, IsReceived, IsRefusal, IsTold, IsTurn, RefusesRestPart, Replied}
 use Rattle.sw_session.specs.Turn.{TellsWhole, Turns, refusal}
 use Rattle.sw_session.specs.declared.server.ServerFault.{ServerFault}
 use Rattle.sw_session.specs.declared.server.ServerFault.TheVariants as servers
 use Rattle.sw_session.specs.declared.session.SessionFault.{SessionFault}
 use Rattle.sw_session.specs.declared.session.SessionFault.TheVariants as faults
+use Rattle.sw_session.specs.declared.session.Turned.{Turned}
+use Rattle.sw_session.specs.declared.session.Turned.TheVariants as turns
 
 -- a front of a second text was written after the whole first one
 part_behind : (a b c : Option (List ℕ)) (text tail : List ℕ) → Appends a b text → AppendsPart b c tail → AppendsPart a c (text ++ tail)
@@ -89,20 +92,21 @@ refused input rest taken mid now result refuses refusal_is = by_result result re
     by_result (Ok request) written = absurd written
 
 -- the reading of a request ended the session
-pub reading_step : {S : Type 0} (may : Serves S) (halts : Halts S) (before : S) (moments moments_now : List ℕ)
+pub reading_step : {S : Type 0} (last : Request → Bool) (may : Serves S) (halts : Halts S) (before : S) (moments moments_now : List ℕ)
     (input rest taken now : Option (List ℕ)) (fault : SessionFault)
-    → moments_now ≡ moments → IsReadingFault input taken now fault → IsTurn may halts before before moments moments_now input rest taken now (Err fault)
-reading_step may halts before moments moments_now input rest taken now faults.BadInput same is = (record { same = refl; no_moment = same }, is)
-reading_step may halts before moments moments_now input rest taken now faults.ReadFault same is = (record { same = refl; no_moment = same }, is)
-reading_step may halts before moments moments_now input rest taken now faults.WriteFault same is = inl (record { same = refl; no_moment = same }, is)
-reading_step may halts before moments moments_now input rest taken now faults.NoMemory same is = inl (record { same = refl; no_moment = same }, is)
-reading_step may halts before moments moments_now input rest taken now faults.TooLong same is = absurd is
-reading_step may halts before moments moments_now input rest taken now faults.ServerFault same is = absurd is
+    → moments_now ≡ moments → IsReadingFault input taken now fault → IsTurn last may halts before before moments moments_now input rest taken now (Err fault)
+reading_step last may halts before moments moments_now input rest taken now faults.BadInput same is = (record { same = refl; no_moment = same }, is)
+reading_step last may halts before moments moments_now input rest taken now faults.ReadFault same is = (record { same = refl; no_moment = same }, is)
+reading_step last may halts before moments moments_now input rest taken now faults.WriteFault same is = inl (record { same = refl; no_moment = same }, is)
+reading_step last may halts before moments moments_now input rest taken now faults.NoMemory same is = inl (record { same = refl; no_moment = same }, is)
+reading_step last may halts before moments moments_now input rest taken now faults.TooLong same is = absurd is
+reading_step last may halts before moments moments_now input rest taken now faults.ServerFault same is = absurd is
 
 -- ---- turns that answered a request
 
 -- a request that was taken off the input, and then answered
-abbrev turn_taken : {S : Type 0} (may : Serves S) (before after : S) (input rest taken mid : Option (List ℕ)) (request : Request) (moment : ℕ) (response : Response)
+abbrev turn_taken : {S : Type 0} (may : Serves S) (before after : S) (input rest taken mid : Option (List ℕ)) (request : Request) (moment : ℕ)
+    (response : Response)
     → (takes : Takes input rest taken mid request) → may before request moment response after → Turns may before after input rest moment response
 turn_taken may before after input rest taken mid request moment response takes answer = record {
   parts = takes.parts;
@@ -111,23 +115,34 @@ turn_taken may before after input rest taken mid request moment response takes a
   answer = subst (λ (q : Request). may before q moment response after) takes.request_is answer;
 }
 
+-- what a turn did that answered a request
+abbrev pub turned : Bool → Turned
+turned true = turns.Closed
+turned false = turns.Answered
+
 -- the reply was written whole
-pub answered_step : {S : Type 0} (may : Serves S) (halts : Halts S) (before after : S) (moments moments_now : List ℕ)
-    (input rest taken mid now : Option (List ℕ)) (request : Request) (moment : ℕ) (response : Response)
+pub answered_step : {S : Type 0} (last : Request → Bool) (may : Serves S) (halts : Halts S) (before after : S) (moments moments_now : List ℕ)
+    (input rest taken mid now : Option (List ℕ)) (request : Request) (moment : ℕ) (response : Response) (is_last : Bool)
     → Takes input rest taken mid request → may before request moment response after → moments_now ≡ moments ++ moment ∷ []
-    → Appends mid now (reply_text response) → IsTurn may halts before after moments moments_now input rest taken now (Ok true)
-answered_step may halts before after moments moments_now input rest taken mid now request moment response takes answer one_more written = (
-  moment,
-  one_more,
-  record {
-    response = response;
-    turn = turn_taken may before after input rest taken mid request moment response takes answer;
-    written = Appends-trans taken mid now _ _ takes.continued written;
-  },
-)
+    → Appends mid now (reply_text response) → is_last ≡ last request
+    → IsTurn last may halts before after moments moments_now input rest taken now (Ok (turned is_last))
+answered_step {S} last may halts before after moments moments_now input rest taken mid now request moment response is_last takes answer one_more written is =
+    by is_last (ap last (sym takes.request_is) ∙ sym is)
+  where
+    reply : Replied may before after input rest taken now moment
+    reply = record {
+      response = response;
+      turn = turn_taken may before after input rest taken mid request moment response takes answer;
+      written = Appends-trans taken mid now _ _ takes.continued written;
+    }
+
+    by : (b : Bool) → last (request_of takes.parts) ≡ b → IsTurn last may halts before after moments moments_now input rest taken now (Ok (turned b))
+    by true ends = (moment, one_more, (reply, ends))
+    by false ends = (moment, one_more, (reply, ends))
 
 -- or not
-broken_turn : {S : Type 0} (may : Serves S) (before after : S) (moments moments_now : List ℕ) (input rest taken mid now : Option (List ℕ)) (request : Request) (moment : ℕ) (response : Response)
+broken_turn : {S : Type 0} (may : Serves S) (before after : S) (moments moments_now : List ℕ) (input rest taken mid now : Option (List ℕ))
+    (request : Request) (moment : ℕ) (response : Response)
     → Takes input rest taken mid request → may before request moment response after → moments_now ≡ moments ++ moment ∷ []
     → AppendsPart mid now (reply_text response) → CutsReply may before after moments moments_now input rest taken now
 broken_turn may before after moments moments_now input rest taken mid now request moment response takes answer one_more written = (
@@ -140,13 +155,13 @@ broken_turn may before after moments moments_now input rest taken mid now reques
   },
 )
 
-pub broken_step : {S : Type 0} (may : Serves S) (halts : Halts S) (before after : S) (moments moments_now : List ℕ)
+pub broken_step : {S : Type 0} (last : Request → Bool) (may : Serves S) (halts : Halts S) (before after : S) (moments moments_now : List ℕ)
     (input rest taken mid now : Option (List ℕ)) (request : Request) (moment : ℕ) (response : Response) (fault : WriteFault)
     → Takes input rest taken mid request → may before request moment response after → moments_now ≡ moments ++ moment ∷ []
-    → AppendsPart mid now (reply_text response) → IsTurn may halts before after moments moments_now input rest taken now (Err (fault_of fault))
-broken_step may halts before after moments moments_now input rest taken mid now request moment response writes.Failed takes answer one_more written =
+    → AppendsPart mid now (reply_text response) → IsTurn last may halts before after moments moments_now input rest taken now (Err (fault_of fault))
+broken_step last may halts before after moments moments_now input rest taken mid now request moment response writes.Failed takes answer one_more written =
     inr (broken_turn may before after moments moments_now input rest taken mid now request moment response takes answer one_more written)
-broken_step may halts before after moments moments_now input rest taken mid now request moment response writes.NoMemory takes answer one_more written =
+broken_step last may halts before after moments moments_now input rest taken mid now request moment response writes.NoMemory takes answer one_more written =
     inr (inl (broken_turn may before after moments moments_now input rest taken mid now request moment response takes answer one_more written))
 
 -- the server halted at a request that was taken off the input
@@ -166,11 +181,11 @@ halted_turn halts before after moments moments_now input rest taken now request 
   },
 )
 
-pub halted_step : {S : Type 0} (may : Serves S) (halts : Halts S) (before after : S) (moments moments_now : List ℕ)
+pub halted_step : {S : Type 0} (last : Request → Bool) (may : Serves S) (halts : Halts S) (before after : S) (moments moments_now : List ℕ)
     (input rest taken now : Option (List ℕ)) (request : Request) (moment : ℕ) (fault : ServerFault)
     → Takes input rest taken now request → halts before request moment fault after → moments_now ≡ moments ++ moment ∷ []
-    → IsTurn may halts before after moments moments_now input rest taken now (Err (halt_of fault))
-halted_step may halts before after moments moments_now input rest taken now request moment servers.Failed takes halted one_more =
+    → IsTurn last may halts before after moments moments_now input rest taken now (Err (halt_of fault))
+halted_step last may halts before after moments moments_now input rest taken now request moment servers.Failed takes halted one_more =
     halted_turn halts before after moments moments_now input rest taken now request moment servers.Failed takes halted one_more
-halted_step may halts before after moments moments_now input rest taken now request moment servers.NoMemory takes halted one_more =
+halted_step last may halts before after moments moments_now input rest taken now request moment servers.NoMemory takes halted one_more =
     inr (inr (halted_turn halts before after moments moments_now input rest taken now request moment servers.NoMemory takes halted one_more))

@@ -1,3 +1,4 @@
+pub mod Closing
 pub mod Fault
 pub mod Passages
 pub mod Replies

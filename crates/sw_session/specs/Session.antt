@@ -1,16 +1,16 @@
 -- What a session is: the replies to the requests that make up its input, one after the other. (This project's own.)
 --
 -- How bytes become requests is the grammar's, in `BeginsWith`; who answers them is a relation, and how that one may halt is another.
--- `SoFar` is the one statement that every way to end a session begins with.
-use Rattle.std.specs.Prelude.{◌≡◌, ℕ, ◌<◌, List, [], ◌∷◌, ◌++◌, length, ⊤, Option, IfSome, Result, Ok, Err, ◌⊎◌}
+-- Which requests are the last ones of their sessions is a test. `SoFar` is the one statement that every way to end a session begins with.
+use Rattle.std.specs.Prelude.{◌≡◌, ℕ, ◌<◌, Bool, true, false, List, [], ◌∷◌, ◌++◌, length, All, ⊤, Option, IfSome, Result, Ok, Err, ◌⊎◌}
 use Rattle.std.specs.Io.KnownBytes.{Appends, IsAtEnd}
 use Rattle.sw_outside.specs.Counts.{raised}
 use Rattle.sw_http.specs.Reading.{BeginsWith}
-use Rattle.sw_http.specs.Request.{IsSkipped}
+use Rattle.sw_http.specs.Request.{IsSkipped, request_of}
 use Rattle.sw_message.specs.declared.request.Request.{Request}
 use Rattle.sw_session.specs.Passages.{Passage}
 use Rattle.sw_session.specs.Replies.{Halts, Replies, Serves}
-use Rattle.sw_session.specs.Turn.{Halted, RefusesRest, RepliedPart, StopsBetween, TellsWhole}
+use Rattle.sw_session.specs.Turn.{Halted, RefusesRest, Replied, RepliedPart, StopsBetween, TellsWhole}
 use Rattle.sw_session.specs.declared.server.ServerFault.{ServerFault}
 use Rattle.sw_session.specs.declared.server.ServerFault.TheVariants as servers
 use Rattle.sw_session.specs.declared.session.SessionFault.{SessionFault}
@@ -20,59 +20,83 @@ use Rattle.sw_session.specs.declared.session.SessionFault.TheVariants as faults
 abbrev pub most_requests : ℕ
 most_requests = 1048576
 
--- the first requests of the input were answered, each at its moment, and all that is written for them was written; rest is what the
--- input has behind them
-pub record SoFar {S : Type 0} (may : Serves S) (start : S) (input rest taken now : Option (List ℕ)) (moments : List ℕ) (after : S) : Type 0 where
+-- the first requests of the input were answered, each at its moment, and all that is written for them was written; none of them is a last
+-- one, and rest is what the input has behind them
+pub record SoFar {S : Type 0} (last : Request → Bool) (may : Serves S) (start : S) (input rest taken now : Option (List ℕ)) (moments : List ℕ)
+    (after : S) : Type 0 where
   pub requests : List Request
   pub begins : BeginsWith input requests rest
+  pub none_last : All (λ (r : Request). last r ≡ false) requests
   pub text : List ℕ
   pub replied : Replies may start requests moments text after
   pub written : Appends taken now text
 
 -- every request of the input was answered, and nothing but line ends to be skipped was left
-pub record Complete {S : Type 0} (may : Serves S) (start : S) (input taken now : Option (List ℕ)) (moments : List ℕ) (after : S) : Type 0 where
+pub record Complete {S : Type 0} (last : Request → Bool) (may : Serves S) (start : S) (input taken now : Option (List ℕ)) (moments : List ℕ)
+    (after : S) : Type 0 where
   pub rest : Option (List ℕ)
-  pub done : SoFar may start input rest taken now moments after
+  pub done : SoFar last may start input rest taken now moments after
   pub few : length done.requests < most_requests
   pub nothing_else : IfSome rest IsSkipped
 
--- every request before a rest that is none was answered, and then the rest was refused
-pub record Refused {S : Type 0} (may : Serves S) (start : S) (input taken now : Option (List ℕ)) (moments : List ℕ) (after : S) : Type 0 where
-  pub rest : Option (List ℕ)
-  pub mid : Option (List ℕ)
-  pub done : SoFar may start input rest taken mid moments after
-  pub few : length done.requests < most_requests
-  pub refuses : RefusesRest rest mid now
-
--- as many requests were answered as a session has at most
-pub record Full {S : Type 0} (may : Serves S) (start : S) (input taken now : Option (List ℕ)) (moments : List ℕ) (after : S) : Type 0 where
-  pub rest : Option (List ℕ)
-  pub done : SoFar may start input rest taken now moments after
-  pub most : length done.requests ≡ most_requests
-
--- some first requests were answered, and the next one may have been told to go on
-pub record Stopped {S : Type 0} (may : Serves S) (start : S) (input taken now : Option (List ℕ)) (moments : List ℕ) (after : S) : Type 0 where
-  pub rest : Option (List ℕ)
-  pub mid : Option (List ℕ)
-  pub done : SoFar may start input rest taken mid moments after
-  pub few : length done.requests < most_requests
-  pub told : TellsWhole rest mid now
-
--- some first requests were answered, and a front was written of what the next one asks to be told, or of the refusal of the rest; or nothing
-pub record BrokenBetween {S : Type 0} (may : Serves S) (start : S) (input taken now : Option (List ℕ)) (moments : List ℕ) (after : S) : Type 0 where
-  pub rest : Option (List ℕ)
-  pub mid : Option (List ℕ)
-  pub done : SoFar may start input rest taken mid moments after
-  pub few : length done.requests < most_requests
-  pub between : StopsBetween rest mid now
-
--- some first requests were answered, and one request more, of whose reply a front was written
-pub record BrokenAtReply {S : Type 0} (may : Serves S) (start : S) (input taken now : Option (List ℕ)) (moments : List ℕ) (after : S) : Type 0 where
+-- some first requests were answered, and one request more, the last one, whose reply was written whole; what the input has behind it was
+-- not looked at
+pub record Closed {S : Type 0} (last : Request → Bool) (may : Serves S) (start : S) (input taken now : Option (List ℕ)) (moments : List ℕ)
+    (after : S) : Type 0 where
   pub rest : Option (List ℕ)
   pub mid : Option (List ℕ)
   pub earlier : List ℕ
   pub then : S
-  pub done : SoFar may start input rest taken mid earlier then
+  pub done : SoFar last may start input rest taken mid earlier then
+  pub few : length done.requests < most_requests
+  pub moment : ℕ
+  pub moments_are : moments ≡ earlier ++ moment ∷ []
+  pub behind : Option (List ℕ)
+  pub reply : Replied may then after rest behind mid now moment
+  pub is_last : last (request_of reply.turn.parts) ≡ true
+
+-- every request before a rest that is none was answered, and then the rest was refused
+pub record Refused {S : Type 0} (last : Request → Bool) (may : Serves S) (start : S) (input taken now : Option (List ℕ)) (moments : List ℕ)
+    (after : S) : Type 0 where
+  pub rest : Option (List ℕ)
+  pub mid : Option (List ℕ)
+  pub done : SoFar last may start input rest taken mid moments after
+  pub few : length done.requests < most_requests
+  pub refuses : RefusesRest rest mid now
+
+-- as many requests were answered as a session has at most
+pub record Full {S : Type 0} (last : Request → Bool) (may : Serves S) (start : S) (input taken now : Option (List ℕ)) (moments : List ℕ)
+    (after : S) : Type 0 where
+  pub rest : Option (List ℕ)
+  pub done : SoFar last may start input rest taken now moments after
+  pub most : length done.requests ≡ most_requests
+
+-- some first requests were answered, and the next one may have been told to go on
+pub record Stopped {S : Type 0} (last : Request → Bool) (may : Serves S) (start : S) (input taken now : Option (List ℕ)) (moments : List ℕ)
+    (after : S) : Type 0 where
+  pub rest : Option (List ℕ)
+  pub mid : Option (List ℕ)
+  pub done : SoFar last may start input rest taken mid moments after
+  pub few : length done.requests < most_requests
+  pub told : TellsWhole rest mid now
+
+-- some first requests were answered, and a front was written of what the next one asks to be told, or of the refusal of the rest; or nothing
+pub record BrokenBetween {S : Type 0} (last : Request → Bool) (may : Serves S) (start : S) (input taken now : Option (List ℕ)) (moments : List ℕ)
+    (after : S) : Type 0 where
+  pub rest : Option (List ℕ)
+  pub mid : Option (List ℕ)
+  pub done : SoFar last may start input rest taken mid moments after
+  pub few : length done.requests < most_requests
+  pub between : StopsBetween rest mid now
+
+-- some first requests were answered, and one request more, of whose reply a front was written
+pub record BrokenAtReply {S : Type 0} (last : Request → Bool) (may : Serves S) (start : S) (input taken now : Option (List ℕ)) (moments : List ℕ)
+    (after : S) : Type 0 where
+  pub rest : Option (List ℕ)
+  pub mid : Option (List ℕ)
+  pub earlier : List ℕ
+  pub then : S
+  pub done : SoFar last may start input rest taken mid earlier then
   pub few : length done.requests < most_requests
   pub moment : ℕ
   pub moments_are : moments ≡ earlier ++ moment ∷ []
@@ -80,13 +104,13 @@ pub record BrokenAtReply {S : Type 0} (may : Serves S) (start : S) (input taken 
   pub cut : RepliedPart may then after rest behind mid now moment
 
 -- some first requests were answered, and at one request more the server halted: none of its reply was written
-pub record HaltedAt {S : Type 0} (may : Serves S) (halts : Halts S) (start : S) (input taken now : Option (List ℕ)) (moments : List ℕ) (after : S)
-    (fault : ServerFault) : Type 0 where
+pub record HaltedAt {S : Type 0} (last : Request → Bool) (may : Serves S) (halts : Halts S) (start : S) (input taken now : Option (List ℕ))
+    (moments : List ℕ) (after : S) (fault : ServerFault) : Type 0 where
   pub rest : Option (List ℕ)
   pub mid : Option (List ℕ)
   pub earlier : List ℕ
   pub then : S
-  pub done : SoFar may start input rest taken mid earlier then
+  pub done : SoFar last may start input rest taken mid earlier then
   pub few : length done.requests < most_requests
   pub moment : ℕ
   pub moments_are : moments ≡ earlier ++ moment ∷ []
@@ -94,9 +118,9 @@ pub record HaltedAt {S : Type 0} (may : Serves S) (halts : Halts S) (start : S) 
   pub halt : Halted halts then after rest behind mid now moment fault
 
 -- all replies but the last are whole
-abbrev pub Broken : {S : Type 0} → Serves S → S → Option (List ℕ) → Option (List ℕ) → Option (List ℕ) → List ℕ → S → Type 0
-Broken may start input taken now moments after =
-    BrokenBetween may start input taken now moments after ⊎ BrokenAtReply may start input taken now moments after
+abbrev pub Broken : {S : Type 0} → (Request → Bool) → Serves S → S → Option (List ℕ) → Option (List ℕ) → Option (List ℕ) → List ℕ → S → Type 0
+Broken last may start input taken now moments after =
+    BrokenBetween last may start input taken now moments after ⊎ BrokenAtReply last may start input taken now moments after
 
 -- no call failed on this end
 abbrev pub IsSound : Passage → Type 0
@@ -106,24 +130,26 @@ IsSound end = end.faults_now ≡ end.faults
 abbrev pub HasFailed : Passage → Type 0
 HasFailed end = end.faults_now ≡ raised end.faults
 
--- How a session ended, by what its loop answered. A call that fails ends it, and after that none is made: so one call failed where the
--- session ended by it, and else none. A server's fault ends it too, and fails no call of either end.
-abbrev pub IsSession : {S : Type 0} → Serves S → Halts S → S → Passage → Passage → List ℕ → S → Result ⊤ SessionFault → Type 0
-IsSession may halts start source sink moments after (Ok _) =
-    Complete may start source.before sink.before sink.now moments after × IsAtEnd source.now × IsSound source × IsSound sink
-IsSession may halts start source sink moments after (Err faults.ReadFault) =
-    Stopped may start source.before sink.before sink.now moments after × HasFailed source × IsSound sink
-IsSession may halts start source sink moments after (Err faults.WriteFault) =
-    Broken may start source.before sink.before sink.now moments after × IsSound source × HasFailed sink
-IsSession may halts start source sink moments after (Err faults.TooLong) =
-    Full may start source.before sink.before sink.now moments after × IsSound source × IsSound sink
-IsSession may halts start source sink moments after (Err faults.BadInput) =
-    Refused may start source.before sink.before sink.now moments after × IsSound source × IsSound sink
-IsSession may halts start source sink moments after (Err faults.ServerFault) =
-    HaltedAt may halts start source.before sink.before sink.now moments after servers.Failed × IsSound source × IsSound sink
-IsSession may halts start source sink moments after (Err faults.NoMemory) =
-    (Broken may start source.before sink.before sink.now moments after
-    ⊎ HaltedAt may halts start source.before sink.before sink.now moments after servers.NoMemory) × IsSound source × IsSound sink
+-- How a session ended, by what its loop answered: well where its input ended, or a last request was answered. A call that fails ends it, and
+-- after that none is made: so one call failed where the session ended by it, and else none. A server's fault ends it too, and fails no call
+-- of either end.
+abbrev pub IsSession : {S : Type 0} → (Request → Bool) → Serves S → Halts S → S → Passage → Passage → List ℕ → S → Result ⊤ SessionFault → Type 0
+IsSession last may halts start source sink moments after (Ok _) =
+    ((Complete last may start source.before sink.before sink.now moments after × IsAtEnd source.now)
+    ⊎ Closed last may start source.before sink.before sink.now moments after) × IsSound source × IsSound sink
+IsSession last may halts start source sink moments after (Err faults.ReadFault) =
+    Stopped last may start source.before sink.before sink.now moments after × HasFailed source × IsSound sink
+IsSession last may halts start source sink moments after (Err faults.WriteFault) =
+    Broken last may start source.before sink.before sink.now moments after × IsSound source × HasFailed sink
+IsSession last may halts start source sink moments after (Err faults.TooLong) =
+    Full last may start source.before sink.before sink.now moments after × IsSound source × IsSound sink
+IsSession last may halts start source sink moments after (Err faults.BadInput) =
+    Refused last may start source.before sink.before sink.now moments after × IsSound source × IsSound sink
+IsSession last may halts start source sink moments after (Err faults.ServerFault) =
+    HaltedAt last may halts start source.before sink.before sink.now moments after servers.Failed × IsSound source × IsSound sink
+IsSession last may halts start source sink moments after (Err faults.NoMemory) =
+    (Broken last may start source.before sink.before sink.now moments after
+    ⊎ HaltedAt last may halts start source.before sink.before sink.now moments after servers.NoMemory) × IsSound source × IsSound sink
 
 -- what the server is at the end: P where it never halted, and Q where it halted by this fault
 abbrev pub EndsAs : {S : Type 0} → (S → Type 0) → (ServerFault → S → Type 0) → S → Result ⊤ SessionFault → Type 0
@@ -134,3 +160,9 @@ EndsAs P Q after (Err faults.TooLong) = P after
 EndsAs P Q after (Err faults.BadInput) = P after
 EndsAs P Q after (Err faults.ServerFault) = Q servers.Failed after
 EndsAs P Q after (Err faults.NoMemory) = P after ⊎ Q servers.NoMemory after
+
+-- where no request is a last one, a session that ended well answered all of its input, and read its source to the end
+abbrev pub IsWhole : {S : Type 0} → Serves S → Halts S → Type 0
+IsWhole {S} may halts = (start : S) (source sink : Passage) (moments : List ℕ) (after : S)
+    → IsSession (λ request. false) may halts start source sink moments after (Ok tt)
+    → Complete (λ request. false) may start source.before sink.before sink.now moments after × IsAtEnd source.now × IsSound source × IsSound sink

@@ -15,6 +15,8 @@ use Rattle.sw_session.specs.declared.server.ServerFault.{ServerFault}
 use Rattle.sw_session.specs.declared.server.ServerFault.TheVariants as servers
 use Rattle.sw_session.specs.declared.session.SessionFault.{SessionFault}
 use Rattle.sw_session.specs.declared.session.SessionFault.TheVariants as faults
+use Rattle.sw_session.specs.declared.session.Turned.{Turned}
+use Rattle.sw_session.specs.declared.session.Turned.TheVariants as turns
 
 -- ---- a request was answered
 
@@ -114,6 +116,13 @@ pub record Idles {S : Type 0} (before after : S) (moments moments_now : List ℕ
   pub same : after ≡ before
   pub no_moment : moments_now ≡ moments
 
+-- one request more was answered, its reply written whole, and whether it's a last one is this
+abbrev pub AnswersOne : {S : Type 0} → (Request → Bool) → Serves S → S → S → List ℕ → List ℕ → Option (List ℕ) → Option (List ℕ) → Option (List ℕ)
+    → Option (List ℕ) → Bool → Type 0
+AnswersOne last may before after moments moments_now input rest taken now is_last =
+    (moment : ℕ) × (moments_now ≡ moments ++ moment ∷ [])
+    × ((reply : Replied may before after input rest taken now moment) × (last (request_of reply.turn.parts) ≡ is_last))
+
 -- one request more was answered, and its reply not written whole
 abbrev pub CutsReply : {S : Type 0} → Serves S → S → S → List ℕ → List ℕ → Option (List ℕ) → Option (List ℕ) → Option (List ℕ) → Option (List ℕ) → Type 0
 CutsReply may before after moments moments_now input rest taken now =
@@ -126,23 +135,25 @@ HaltsTurn halts before after moments moments_now input rest taken now fault =
     (moment : ℕ) × (moments_now ≡ moments ++ moment ∷ []) × Halted halts before after input rest taken now moment fault
 
 -- what one turn did, by what it answered
-abbrev pub IsTurn : {S : Type 0} → Serves S → Halts S → S → S → List ℕ → List ℕ → Option (List ℕ) → Option (List ℕ) → Option (List ℕ) → Option (List ℕ)
-    → Result Bool SessionFault → Type 0
-IsTurn may halts before after moments moments_now input rest taken now (Ok true) =
-    (moment : ℕ) × (moments_now ≡ moments ++ moment ∷ []) × Replied may before after input rest taken now moment
-IsTurn may halts before after moments moments_now input rest taken now (Ok false) =
+abbrev pub IsTurn : {S : Type 0} → (Request → Bool) → Serves S → Halts S → S → S → List ℕ → List ℕ → Option (List ℕ) → Option (List ℕ) → Option (List ℕ)
+    → Option (List ℕ) → Result Turned SessionFault → Type 0
+IsTurn last may halts before after moments moments_now input rest taken now (Ok turns.Answered) =
+    AnswersOne last may before after moments moments_now input rest taken now false
+IsTurn last may halts before after moments moments_now input rest taken now (Ok turns.Closed) =
+    AnswersOne last may before after moments moments_now input rest taken now true
+IsTurn last may halts before after moments moments_now input rest taken now (Ok turns.Ended) =
     Idles before after moments moments_now × IfSome input IsSkipped × Appends taken now []
-IsTurn may halts before after moments moments_now input rest taken now (Err faults.BadInput) =
+IsTurn last may halts before after moments moments_now input rest taken now (Err faults.BadInput) =
     Idles before after moments moments_now × RefusesRest input taken now
-IsTurn may halts before after moments moments_now input rest taken now (Err faults.ReadFault) =
+IsTurn last may halts before after moments moments_now input rest taken now (Err faults.ReadFault) =
     Idles before after moments moments_now × TellsWhole input taken now
-IsTurn may halts before after moments moments_now input rest taken now (Err faults.WriteFault) =
+IsTurn last may halts before after moments moments_now input rest taken now (Err faults.WriteFault) =
     (Idles before after moments moments_now × StopsBetween input taken now) ⊎ CutsReply may before after moments moments_now input rest taken now
-IsTurn may halts before after moments moments_now input rest taken now (Err faults.NoMemory) =
+IsTurn last may halts before after moments moments_now input rest taken now (Err faults.NoMemory) =
     (Idles before after moments moments_now × StopsBetween input taken now) ⊎ CutsReply may before after moments moments_now input rest taken now
     ⊎ HaltsTurn halts before after moments moments_now input rest taken now servers.NoMemory
-IsTurn may halts before after moments moments_now input rest taken now (Err faults.TooLong) = ⊥
-IsTurn may halts before after moments moments_now input rest taken now (Err faults.ServerFault) =
+IsTurn last may halts before after moments moments_now input rest taken now (Err faults.TooLong) = ⊥
+IsTurn last may halts before after moments moments_now input rest taken now (Err faults.ServerFault) =
     HaltsTurn halts before after moments moments_now input rest taken now servers.Failed
 
 -- ---- counts of faults

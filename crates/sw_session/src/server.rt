@@ -1,4 +1,4 @@
-ghost use Rattle.std.specs.Prelude.{ℕ, IfOk, IfErr, OnOk};
+ghost use Rattle.std.specs.Prelude.{◌≡◌, ℕ, Bool, IfOk, IfErr, OnOk};
 ghost use Rattle.sw_message.specs.declared.request.Request.{Request as RequestSeen};
 ghost use Rattle.sw_message.specs.declared.response.Response.{Response as ResponseSeen};
 ghost use Rattle.sw_session.specs.declared.server.ServerFault.{ServerFault as ServerFaultSeen};
@@ -24,6 +24,8 @@ pub trait Server {
     ghost serves: { Self → RequestSeen → ℕ → ResponseSeen → Self → Type 0 };
     /// How it may halt at a request at a moment, and what it is then.
     ghost halts: { Self → RequestSeen → ℕ → ServerFaultSeen → Self → Type 0 };
+    /// Whether a request is the last one of its session: nothing behind it is answered.
+    ghost last: { RequestSeen → Bool };
 
     /// Answers one request. Want of memory is a reply as well, where the server can go on. After a fault no further request is answered.
     fn answer(&mut self, alloc: Global, request: Request, now: u64) -> Result<Response, ServerFault>
@@ -31,4 +33,8 @@ pub trait Server {
         ensures ready { OnOk result (ready self.new) }
         ensures served { IfOk result (λ response. serves self.old request now response self.new) }
         ensures halted { IfErr result (λ fault. halts self.old request now fault self.new) };
+
+    /// Whether a request is the last one of its session.
+    fn is_last(&self, request: &Request) -> bool
+        ensures { result ≡ last request.now };
 }

@@ -1,8 +1,9 @@
-ghost use Rattle.std.specs.Prelude.{◌≡◌, ℕ, List, OnOk, Option, None, Ok, Err, false, []};
+ghost use Rattle.std.specs.Prelude.{◌≡◌, ℕ, List, OnOk, Option, None, Ok, Err, []};
 ghost use Rattle.std.specs.Io.KnownBytes.{IsAtEnd, prepend_known};
 ghost use Rattle.sw_outside.specs.Readings.{TicksEach};
 ghost use Rattle.sw_session.specs.Passages.{passage};
 ghost use Rattle.sw_session.specs.Session.{IsSession};
+ghost use Rattle.sw_session.specs.declared.session.Turned.TheVariants as turns;
 ghost use Rattle.sw_session.specs.Turn.{IsCounted, IsReceived, IsRefusal, IsTurn};
 
 use crate::server::{Server, ServerFault};
@@ -76,7 +77,8 @@ fn receive<R: Source, W: Sink>(
     source: &mut R,
     out: &mut W,
 ) -> Result<Option<Request>, SessionFault>
-    ensures received { IsReceived (prepend_known held.old (R.left source.old)) (prepend_known held.new (R.left source.new)) (W.taken out.old) (W.taken out.new) result }
+    ensures received { IsReceived (prepend_known held.old (R.left source.old)) (prepend_known held.new (R.left source.new)) (W.taken out.old)
+        (W.taken out.new) result }
     ensures at_end { result ≡ Ok None → IsAtEnd (R.left source.new) }
     ensures counted { IsCounted (R.faults source.old) (R.faults source.new) (W.faults out.old) (W.faults out.new) result }
 {
@@ -89,8 +91,19 @@ fn receive<R: Source, W: Sink>(
     }
 }
 
-/// Reads one request, has it answered at the moment that the clock then shows, and writes the reply. Answers false where the input
-/// ended in place of a request. Nothing is written in place of a reply where the server halts.
+/// What a turn of a session's loop did.
+#[derive(Clone, Copy)]
+enum Turned {
+    /// One request was answered, and the session goes on.
+    Answered,
+    /// The last one was answered.
+    Closed,
+    /// The input ended in place of a request.
+    Ended,
+}
+
+/// Reads one request, has it answered at the moment that the clock then shows, and writes the reply. Nothing is written in place of a reply
+/// where the server halts.
 ///
 /// The room for the moment is made first, so that no request is read whose moment couldn't be kept.
 fn turn<V: Server, R: Source, W: Sink, C: Clock>(
@@ -101,30 +114,37 @@ fn turn<V: Server, R: Source, W: Sink, C: Clock>(
     source: &mut R,
     out: &mut W,
     clock: &mut C,
-) -> Result<bool, SessionFault>
+) -> Result<Turned, SessionFault>
     requires ready { V.ready server.old }
     ensures ready { OnOk result (V.ready server.new) }
-    ensures turn { IsTurn V.serves V.halts server.old server.new moments.old.items moments.new.items (prepend_known held.old (R.left source.old))
+    ensures turn { IsTurn V.last V.serves V.halts server.old server.new moments.old.items moments.new.items (prepend_known held.old (R.left source.old))
         (prepend_known held.new (R.left source.new)) (W.taken out.old) (W.taken out.new) result }
-    ensures ticks { (start : Option (List ℕ)) → TicksEach start (C.readings clock.old) moments.old.items → TicksEach start (C.readings clock.new) moments.new.items }
-    ensures at_end { result ≡ Ok false → IsAtEnd (R.left source.new) }
+    ensures ticks { (start : Option (List ℕ)) → TicksEach start (C.readings clock.old) moments.old.items
+        → TicksEach start (C.readings clock.new) moments.new.items }
+    ensures at_end { result ≡ Ok turns.Ended → IsAtEnd (R.left source.new) }
     ensures counted { IsCounted (R.faults source.old) (R.faults source.new) (W.faults out.old) (W.faults out.new) result }
 {
     if moments.reserve(1).is_err() {
         return Err(SessionFault::NoMemory);
     }
     let Some(request) = receive(alloc, held, source, out)? else {
-        return Ok(false);
+        return Ok(Turned::Ended);
     };
     let now = clock.now();
     moments.push_reserved(now);
+    let last = server.is_last(&request);
     let response = server.answer(alloc, request, now)?;
     write_response(alloc, out, &response)?;
-    Ok(true)
+    Ok(if last {
+        Turned::Closed
+    } else {
+        Turned::Answered
+    })
 }
 
-/// Answers the requests that come from the source, one after the other, to the end of the input, each at the moment that the clock shows
-/// once it was read, or to the first request at which the server halts. `moments` is empty at the call, and holds these moments at the end.
+/// Answers the requests that come from the source, one after the other, each at the moment that the clock shows once it was read: to the
+/// end of the input, or to the first request that is a last one, or at which the server halts. Behind that one nothing is read.
+/// `moments` is empty at the call, and holds these moments at the end.
 pub fn serve<V: Server, R: Source, W: Sink, C: Clock>(
     alloc: Global,
     server: &mut V,
@@ -135,14 +155,15 @@ pub fn serve<V: Server, R: Source, W: Sink, C: Clock>(
 ) -> Result<(), SessionFault>
     requires none_read { moments.old.items ≡ [] }
     requires ready { V.ready server.old }
-    ensures session { IsSession V.serves V.halts server.old (passage R.left R.faults source.old source.new) (passage W.taken W.faults out.old out.new)
+    ensures session { IsSession V.last V.serves V.halts server.old (passage R.left R.faults source.old source.new) (passage W.taken W.faults out.old out.new)
         moments.new.items server.new result }
     ensures ticks { TicksEach (C.readings clock.old) (C.readings clock.new) moments.new.items }
 {
     let mut held = Held::new(alloc);
     for _ in 0..MOST_REQUESTS {
-        if !turn(alloc, server, moments, &mut held, source, out, clock)? {
-            return Ok(());
+        match turn(alloc, server, moments, &mut held, source, out, clock)? {
+            Turned::Answered => {}
+            Turned::Closed | Turned::Ended => return Ok(()),
         }
     }
     Err(SessionFault::TooLong)

@@ -2,13 +2,13 @@ use Rattle.std.proofs.Common.{ap, arith, refl, ◌∙◌, Ok}
 use Rattle.std.specs.Io.KnownBytes.{prepend_known}
 use Rattle.std.proofs.lemmas.Result.{err_from_is_err_and}
 use Rattle.sw_session.specs.Passages.{Passage, passage}
-use Rattle.sw_session.proofs.Ends.{begun_with, ended, ended_by, filled, turn_made}
+use Rattle.sw_session.proofs.Ends.{begun_with, ended_by, ended_well, filled, turn_made}
 use Rattle.sw_session.proofs.session.serve.Goals as goal
 
 pub loop-init : goal.loop-init
 loop-init g c = record {
   ready = c.requires.ready;
-  progress = rw c.requires.none_read (rw c.new-held.ensures (begun_with g.V.Server.serves _ _ _));
+  progress = rw c.requires.none_read (rw c.new-held.ensures (begun_with g.V.Server.last g.V.Server.serves _ _ _));
   ticks = rw c.requires.none_read refl;
   reads = refl;
   writes = refl;
@@ -24,27 +24,26 @@ returns-in_err-turn-clause-session g c =
     let source : Passage = passage g.R.Source.left g.R.Source.faults c.args.source.now c.turn.new.source in
     let sink : Passage = passage g.W.Sink.taken g.W.Sink.faults c.args.out.now c.turn.new.out in
     rw (exit.1, exit.2) (
-    ended_by g.V.Server.serves g.V.Server.halts _ _ _ source sink _ (prepend_known c.turn.new.held (g.R.Source.left c.turn.new.source))
+    ended_by g.V.Server.last g.V.Server.serves g.V.Server.halts _ _ _ source sink _ (prepend_known c.turn.new.held (g.R.Source.left c.turn.new.source))
     _ _ _ _ _ _ _ c.loop.invariant.progress c.loop-test.true c.in_err-turn.ensures.turn
     c.loop.invariant.reads c.loop.invariant.writes c.in_err-turn.ensures.counted
     )
 
--- the input ended
-pub returns-then-not-branch-clause-session : goal.returns-then-not-branch-clause-session
-returns-then-not-branch-clause-session g c =
+-- the input ended, or the last request was answered
+pub returns-in-Closed-clause-session : goal.returns-in-Closed-clause-session
+returns-in-Closed-clause-session g c =
     let source : Passage = passage g.R.Source.left g.R.Source.faults c.args.source.now c.turn.new.source in
     let sink : Passage = passage g.W.Sink.taken g.W.Sink.faults c.args.out.now c.turn.new.out in
-    ended g.V.Server.serves g.V.Server.halts _ _ _ source sink _ (prepend_known c.turn.new.held (g.R.Source.left c.turn.new.source))
-    _ _ _ _ _ _ c.loop.invariant.progress c.loop-test.true (rw c.if-not-branch.true at c.in_ok-turn.ensures.turn)
-    (c.in_ok-turn.ensures.at_end (ap Ok c.if-not-branch.true))
-    c.loop.invariant.reads c.loop.invariant.writes c.in_ok-turn.ensures.counted
+    ended_well g.V.Server.last g.V.Server.serves g.V.Server.halts _ _ _ source sink _ (prepend_known c.turn.new.held (g.R.Source.left c.turn.new.source))
+    _ _ _ _ _ _ c.in_ok-turn.field-0 c.in-Closed.is c.loop.invariant.progress c.loop-test.true c.in_ok-turn.ensures.turn
+    (λ is. c.in_ok-turn.ensures.at_end (ap Ok is)) c.loop.invariant.reads c.loop.invariant.writes c.in_ok-turn.ensures.counted
 
 -- one request more
 pub loop-preserved : goal.loop-preserved
 loop-preserved g c = record {
   ready = c.in_ok-turn.ensures.ready;
-  progress = turn_made g.V.Server.serves g.V.Server.halts _ _ _ _ _ _ _ _ _ _ _ _ c.loop.invariant.progress
-      (rw c.if-not-branch.false at c.in_ok-turn.ensures.turn);
+  progress = turn_made g.V.Server.last g.V.Server.serves g.V.Server.halts _ _ _ _ _ _ _ _ _ _ _ _ c.loop.invariant.progress
+      (rw c.in-Answered.is at c.in_ok-turn.ensures.turn);
   ticks = c.turn.ensures.ticks _ c.loop.invariant.ticks;
   reads = c.in_ok-turn.ensures.counted.0 ∙ c.loop.invariant.reads;
   writes = c.in_ok-turn.ensures.counted.1 ∙ c.loop.invariant.writes;
@@ -52,5 +51,8 @@ loop-preserved g c = record {
 
 -- as many requests were answered as a session has at most
 pub returns-clause-session : goal.returns-clause-session
-returns-clause-session g c =
-    (filled g.V.Server.serves _ _ _ _ _ _ _ _ c.loop.invariant.progress (omega (arith, c.loop-test.false, c.loop.auto.counter-end)), c.loop.invariant.reads, c.loop.invariant.writes)
+returns-clause-session g c = (
+  filled g.V.Server.last g.V.Server.serves _ _ _ _ _ _ _ _ c.loop.invariant.progress (omega (arith, c.loop-test.false, c.loop.auto.counter-end)),
+  c.loop.invariant.reads,
+  c.loop.invariant.writes,
+)

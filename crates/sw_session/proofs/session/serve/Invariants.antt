@@ -8,7 +8,7 @@ use Rattle.sw_session.proofs.session.serve.Given as goal
 abbrev pub invariant-loop : goal.invariant-loop
 invariant-loop g l = record {
   ready : g.V.Server.ready l.server;
-  progress : Progress g.V.Server.serves l.initial.server (g.R.Source.left l.initial.source) (prepend_known l.held (g.R.Source.left l.source))
+  progress : Progress g.V.Server.last g.V.Server.serves l.initial.server (g.R.Source.left l.initial.source) (prepend_known l.held (g.R.Source.left l.source))
       (g.W.Sink.taken l.initial.out) (g.W.Sink.taken l.out) l.moments.items l.server l.counter;
   ticks : TicksEach (g.C.Clock.readings l.initial.clock) (g.C.Clock.readings l.clock) l.moments.items;
   reads : g.R.Source.faults l.source ≡ g.R.Source.faults l.initial.source;

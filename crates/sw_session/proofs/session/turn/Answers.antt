@@ -1,13 +1,16 @@
 use Rattle.std.proofs.lemmas.Result.{err_from_is_err_and}
-use Rattle.sw_session.proofs.Turns.{answered_step, broken_step, halted_step, kept_moment, one_more_tick}
+use Rattle.std.proofs.Common.{◌≡◌, ◌∙◌, ap, sym}
+use Rattle.sw_session.proofs.Turns.{answered_step, broken_step, halted_step, kept_moment, one_more_tick, turned}
 use Rattle.sw_session.proofs.session.turn.Goals as goal
+use Rattle.sw_session.proofs.session.turn.Goals.{then-last, else-last}
 
 -- the server halted
 pub returns-in_err-response-clause-turn : goal.returns-in_err-response-clause-turn
 returns-in_err-response-clause-turn g c =
     let exit = err_from_is_err_and c.from_residual-in_err-response.result c.from_residual-in_err-response.ensures.1 in
     rw (exit.1, exit.2) (
-    halted_step g.V.Server.serves g.V.Server.halts c.args.server.now c.answer.new.self _ _ _ _ _ _ _ c.now-now.result c.in_err-response.field-0.0
+    halted_step g.V.Server.last g.V.Server.serves g.V.Server.halts c.args.server.now c.answer.new.self _ _ _ _ _ _ _ c.now-now.result
+    c.in_err-response.field-0.0
     (rw c.in-Some.is at c.in_ok-request.ensures.received) c.in_err-response.ensures.halted
     (kept_moment _ _ _ c.now-now.result c.reserve.ensures.items c.push_reserved.ensures.items)
     )
@@ -21,7 +24,7 @@ pub returns-in_err-write_response-clause-turn : goal.returns-in_err-write_respon
 returns-in_err-write_response-clause-turn g c =
     let exit = err_from_is_err_and c.from_residual-in_err-write_response.result c.from_residual-in_err-write_response.ensures.1 in
     rw (exit.1, exit.2) (
-    broken_step g.V.Server.serves g.V.Server.halts c.args.server.now c.answer.new.self _ _ _ _ _ _ _ _ c.now-now.result
+    broken_step g.V.Server.last g.V.Server.serves g.V.Server.halts c.args.server.now c.answer.new.self _ _ _ _ _ _ _ _ c.now-now.result
     c.in_ok-response.response c.in_err-write_response.field-0.0 (rw c.in-Some.is at c.in_ok-request.ensures.received)
     c.in_ok-response.ensures.served
     (kept_moment _ _ _ c.now-now.result c.reserve.ensures.items c.push_reserved.ensures.items)
@@ -35,10 +38,16 @@ returns-in_err-write_response-clause-ticks g c = λ start each.
 -- or written whole
 pub returns-clause-turn : goal.returns-clause-turn
 returns-clause-turn g c =
-    answered_step g.V.Server.serves g.V.Server.halts c.args.server.now c.answer.new.self _ _ _ _ _ _ _ _ c.now-now.result
-    c.in_ok-response.response (rw c.in-Some.is at c.in_ok-request.ensures.received) c.in_ok-response.ensures.served
+    let turned_is : c.if-last.result ≡ turned c.is_last-last.result = elim c.if-last.branch [
+      | then-last w ↦ w.result-is ∙ ap turned (sym w.if-last.true)
+      | else-last w ↦ w.result-is ∙ ap turned (sym w.if-last.false)
+    ] in
+    rw turned_is (
+    answered_step g.V.Server.last g.V.Server.serves g.V.Server.halts c.args.server.now c.answer.new.self _ _ _ _ _ _ _ _ c.now-now.result
+    c.in_ok-response.response c.is_last-last.result (rw c.in-Some.is at c.in_ok-request.ensures.received) c.in_ok-response.ensures.served
     (kept_moment _ _ _ c.now-now.result c.reserve.ensures.items c.push_reserved.ensures.items)
-    c.in_ok-write_response.ensures.whole
+    c.in_ok-write_response.ensures.whole c.is_last-last.ensures
+    )
 
 pub returns-clause-ticks : goal.returns-clause-ticks
 returns-clause-ticks g c = λ start each.
