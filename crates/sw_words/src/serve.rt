@@ -35,7 +35,8 @@ pub fn serve_options(words: &[String]) -> Option<ServeOptions>
     }
 }
 
-/// Whether the program offers this. Until connections are served by threads that is one worker and no passes: this line alone changes then.
+/// Whether the program offers this. Until connections are served by threads that is one worker and no passes. What it offers then is changed here alone,
+/// and in `IsOffered`.
 fn is_offered(options: &ServeOptions) -> bool
     ensures { IsTrue result ↔ IsOffered options.now }
 {
