@@ -1,0 +1,113 @@
+-- What a call is over a door that keeps a trail, it is over one that keeps none.
+use Rattle.std.proofs.Common.{◌≡◌, ℕ, Bool, true, false, List, [], ◌∷◌, ◌++◌, refl, sym, ap, subst, inl, None, Result, Ok, Err}
+use Rattle.std.specs.Bool.{⊤}
+use Rattle.sw_core.proofs.Anew.{restarts}
+use Rattle.sw_core.specs.Worlds.{AllNodes, Lifts, SetsDown, restart_line, sight_of}
+use Rattle.sw_diskfile.specs.declared.file_name.FileName.{FileName}
+use Rattle.sw_hashpath.specs.HashParts.{suffix_of}
+use Rattle.sw_hashpath.specs.declared.name.Name.{Name}
+use Rattle.sw_peer.specs.Journals.{Hash}
+use Rattle.sw_peer.specs.Parts.{AreHashes, AreLines, IsFile}
+use Rattle.sw_peer.specs.Sights.{Calls, Comes, IsAt, IsFilesRead, IsHashesRead, IsInPart, IsMade, IsPartRead, IsRead, IsSame, IsWriteRead}
+use Rattle.sw_peer.specs.Sights.{Moves, Nodes, Restarts, Sight}
+use Rattle.sw_peer.specs.declared.change.Change.{Change}
+use Rattle.sw_peer.specs.declared.dir_fault.DirFault.{DirFault}
+use Rattle.sw_peer.specs.declared.link.Link.{Link}
+use Rattle.sw_peer.specs.declared.link.Lost.{Lost}
+use Rattle.sw_peer.specs.declared.part_read.PartRead.{PartRead}
+use Rattle.sw_peer.specs.declared.part_read.PartRead.TheVariants.{Files, Hashes, Write}
+use Rattle.sw_state.specs.declared.state.State.{State}
+use Rattle.sw_volume.specs.Tree.{Folders}
+use Rattle.sw_quiet.specs.Laws.{LiftingRestartsQuietly}
+use Rattle.sw_quiet.specs.Quiet.{SetsDownQuietly, quiet_sight_of, without_trail}
+
+-- a step knows its trail alone by the line that it adds, and none where none is kept
+abbrev pub IsBlind : {A : Type 0} → (Sight → A → Sight → Type 0) → Type 0
+IsBlind {A} step = (s t : Sight) (x : A) → step s x t → step (without_trail s) x (without_trail t)
+
+moves-quiet : (at : ℕ → Hash → Type 0) (s t : Sight) → Moves at s t → Moves at (without_trail s) (without_trail t)
+moves-quiet at s t p = record { nodes = p.nodes; objects = p.objects; containers = p.containers; alone = p.alone; faults = p.faults }
+
+same-quiet : (s t : Sight) → IsSame s t → IsSame (without_trail s) (without_trail t)
+same-quiet s t p = record { same = ap without_trail p.same; faults = p.faults }
+
+pub made-blind : (link : Link) (device : ℕ) (name : Name) (change : Change) → IsBlind (IsMade link device name change)
+made-blind link device name change s t x step = record { moves = moves-quiet (IsAt device name.hash) s t step.moves; step = step.step; trail = inl refl }
+
+pub read-blind : (link : Link) (device : ℕ) (name : Name) → IsBlind (IsRead link device name)
+read-blind link device name s t x step = record {
+  moves = moves-quiet (IsAt device name.hash) s t step.moves;
+  holds_all = step.holds_all;
+  step = step.step;
+  trail = inl refl;
+}
+
+pub part-blind : {A : Type 0} (link : Link) (device part : ℕ) (at : Hash → Type 0) (damages : Bool)
+    (reading : Nodes → Bool → (Hash → State) → A → Type 0) (read : Result A DirFault → PartRead)
+    → IsBlind (IsPartRead link device part at damages reading read)
+part-blind link device part at damages reading read s t x step = record {
+  moves = moves-quiet (IsInPart s.nodes.power device part at) s t step.moves;
+  holds_all = step.holds_all;
+  step = step.step;
+  trail = inl refl;
+}
+
+pub hashes-blind : (link : Link) (device part : ℕ) → IsBlind (IsHashesRead link device part)
+hashes-blind link device part =
+    part-blind link device part (λ hash. ⊤) false (λ nodes told s got. AreHashes nodes.power part told s got.items) (λ got. Hashes part got)
+
+pub files-blind : (link : Link) (device part suffix : ℕ) → IsBlind (IsFilesRead link device part suffix)
+files-blind link device part suffix =
+    part-blind link device part (λ hash. suffix_of hash ≡ suffix) false
+    (λ nodes told s got. AreLines nodes.power part suffix told s got.items) (λ got. Files part suffix got)
+
+pub write-blind : (link : Link) (device part : ℕ) (hash : Hash) (file : FileName) → IsBlind (IsWriteRead link device part hash file)
+write-blind link device part hash file =
+    part-blind link device part (λ other. other ≡ hash) true (λ nodes told s got. IsFile nodes.fits hash file told s got) (λ got. Write part hash file got)
+
+module _ {A : Type 0} (step : Sight → A → Sight → Type 0) (blind : IsBlind step) where
+  comes-quiet : (s : Sight) (xs : List A) (t : Sight) → Comes step s xs t → Comes step (without_trail s) xs (without_trail t)
+  comes-quiet s [] t p = same-quiet s t p
+  comes-quiet s (x ∷ xs) t p = (without_trail p.0, blind s p.0 x p.1, comes-quiet p.0 xs t p.2)
+
+  -- a call, however often its step came
+  pub calls-quiet : (s : Sight) (link : Link) (r : Result A Lost) (t : Sight) → Calls step s link r t → Calls step (without_trail s) link r (without_trail t)
+  calls-quiet s link (Ok x) t p = (p.0, p.1, comes-quiet s (p.0 ++ x ∷ []) t p.2, p.3)
+  calls-quiet s link (Err lost) t p = (p.0, p.1, (p.2.0, comes-quiet s p.2.0 t p.2.1, p.2.2))
+
+-- ---- lifting and setting down
+
+restarts-blind : (device : ℕ) (s t : Sight) → Restarts device s t → Restarts device (without_trail s) (without_trail t)
+restarts-blind device s t r = record {
+  nodes = r.nodes;
+  others = r.others;
+  told = r.told;
+  opening = r.opening;
+  entries = r.entries;
+  doubts = r.doubts;
+  max_entries = r.max_entries;
+  max_bytes = r.max_bytes;
+  faults = r.faults;
+  holds = r.holds;
+  elsewhere = r.elsewhere;
+  alone = r.alone;
+  containers = r.containers;
+  counts = r.counts;
+  trail = refl;
+}
+
+-- what was set down, and its line let go
+pub sets-quietly : {V : Type 0} (old : AllNodes V) (device : ℕ) (volumes : List V) (mid new : AllNodes V) → SetsDown old device volumes mid
+    → new ≡ record mid { lines = [] } → SetsDownQuietly old device volumes new
+sets-quietly {V} old device volumes mid new sets gone =
+    subst (λ (w : AllNodes V). SetsDownQuietly old device volumes w) (sym gone)
+    (record { down = sets.down; rest = ap (λ (w : AllNodes V). record w { lines = [] }) sets.rest })
+
+module _ {V : Type 0} (tells : V → Bool) (files : V → Folders) (faults : V → ℕ) where
+  pub lifting-restarts : LiftingRestartsQuietly tells files faults
+  lifting-restarts old mid new device given up sets =
+      let kept : AllNodes V = record mid { slots = new.slots; lines = mid.lines ++ restart_line device ∷ []; lifted = None } in
+      let down : SetsDown mid device given kept = record { down = sets.down; rest = refl } in
+      let plain = restarts tells files faults old mid kept device given up.whole up.is_device up down in
+      subst (λ (w : AllNodes V). Restarts device (quiet_sight_of tells files faults old) (quiet_sight_of tells files faults w)) (sym sets.rest)
+      (restarts-blind device (sight_of tells files faults old) (sight_of tells files faults kept) plain)

@@ -1,0 +1,5 @@
+use Rattle.sw_quiet.proofs.Trails.{lifting-restarts}
+use Rattle.sw_quiet.proofs.laws.lifting_restarts_quietly.Goals as goal
+
+pub returns : goal.returns
+returns g c = let v = g.V.Volume in lifting-restarts v.tells v.holds v.faults
