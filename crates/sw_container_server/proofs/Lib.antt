@@ -1,0 +1,5 @@
+mod Decided
+mod Names
+mod OneAsking
+mod OneReply
+mod RowTypes

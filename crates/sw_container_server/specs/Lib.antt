@@ -1,0 +1,7 @@
+pub mod Asking
+pub mod Laws
+pub mod Places
+pub mod Replies
+pub mod RowFields
+pub mod Targets
+pub mod Verdicts

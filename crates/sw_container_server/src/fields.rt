@@ -1,0 +1,98 @@
+ghost use Rattle.std.specs.Prelude.{◌≡◌, ◌<◌, ℕ, true, false, IfSome, decimal};
+ghost use Rattle.std.specs.Option.{option_copied};
+ghost use Rattle.std.specs.Str.{bytes_eq};
+ghost use Rattle.sw_fields.specs.Fields.{is_type as is_type_text};
+ghost use Rattle.sw_message.specs.Framing.{length_of};
+ghost use Rattle.sw_container_server.specs.RowFields.{IsNumberBelow, IsReplica, etag_in as etag_in_text, etag_of as etag_of_fields, size_of as size_of_fields, type_of as type_of_fields};
+
+use hex::FromHex;
+use itoa::Buffer;
+use sw_message::FieldList;
+use sw_outside::is_utf8;
+use sw_ring::Ring;
+
+/// A size has at most so many digits.
+const MAX_SIZE_DIGITS: usize = 18;
+
+/// How many bytes the object of a row has, by X-Size: 1 to 18 digits.
+pub(crate) fn size_of(fields: &FieldList) -> Option<u64>
+    ensures { result ≡ size_of_fields fields.now }
+{
+    size_in(fields.value_of(b"x-size")?)
+}
+
+/// The number that 1 to 18 digits write.
+fn size_in(value: &[u8]) -> Option<u64>
+    ensures { result ≡ length_of value.now }
+{
+    if value.is_empty() || value.len() > MAX_SIZE_DIGITS {
+        return None;
+    }
+    let mut number: u64 = 0;
+    for digit in value {
+        if !digit.is_ascii_digit() {
+            return None;
+        }
+        number = number * 10 + u64::from(*digit - b'0');
+    }
+    Some(number)
+}
+
+/// The media type of the object of a row, by X-Content-Type: UTF-8, and not empty.
+pub(crate) fn type_of(fields: &FieldList) -> Option<&[u8]>
+    ensures { option_copied result ≡ type_of_fields fields.now }
+{
+    let value = fields.value_of(b"x-content-type")?;
+    if is_type(value) { Some(value) } else { None }
+}
+
+fn is_type(value: &[u8]) -> bool
+    ensures { result ≡ is_type_text value.now }
+{
+    !value.is_empty() && is_utf8(value)
+}
+
+/// The ETag of the object of a row, by X-Etag: 32 hexadecimal digits in either case.
+pub(crate) fn etag_of(fields: &FieldList) -> Option<[u8; 16]>
+    ensures { result ≡ etag_of_fields fields.now }
+{
+    etag_in(fields.value_of(b"x-etag")?)
+}
+
+fn etag_in(text: &[u8]) -> Option<[u8; 16]>
+    ensures { result ≡ etag_in_text text.now }
+{
+    <[u8; 16] as FromHex>::from_hex(text).ok()
+}
+
+/// Whether X-Swc-Shard-Replica, where it is given, is the number of a replica.
+pub(crate) fn asks_replica(ring: &Ring, fields: &FieldList) -> bool
+    ensures yes { result ≡ true → IsReplica ring.now fields.now }
+    ensures no { result ≡ false → ¬ (IsReplica ring.now fields.now) }
+{
+    match fields.value_of(b"x-swc-shard-replica") {
+        Some(text) => is_number_below(ring.replicas, text),
+        None => true,
+    }
+}
+
+/// Whether a text is a decimal number below this one, without leading zeros.
+fn is_number_below(count: u8, text: &[u8]) -> bool
+    ensures yes { result ≡ true → IsNumberBelow count text.now }
+    ensures no { result ≡ false → ¬ (IsNumberBelow count text.now) }
+{
+    for number in 0..count {
+        if has_number(text, u32::from(number)) {
+            return true;
+        }
+    }
+    false
+}
+
+/// Whether the text is the decimal form of the number.
+pub(crate) fn has_number(text: &[u8], number: u32) -> bool
+    ensures { result ≡ bytes_eq text.now (decimal number) }
+{
+    let mut buffer = Buffer::new();
+    text == buffer.format(number).as_bytes()
+}

@@ -1,0 +1,56 @@
+ghost use Rattle.std.specs.Prelude.{◌≡◌, IfOk};
+ghost use Rattle.sw_container_server.specs.Targets.{is_for_containers as is_for_containers_of, is_row as is_row_path, target_of as target_of_path};
+
+use std::alloc::Global;
+use sw_fields::has_value;
+use sw_message::Request;
+use sw_object_server::{at_slash, decoded, slash_count};
+use sw_outside::{Bytes, NoMemory};
+
+/// The path of a container has so many slashes, one before each of its segments. That of a row has more.
+const CONTAINER_SLASHES: usize = 4;
+
+/// What the segments of a path say.
+#[derive(Debug, Drop)]
+pub(crate) struct Target {
+    pub device: Bytes,
+    pub partition: Bytes,
+    pub account: Bytes,
+    pub container: Bytes,
+    /// All that follows the container, slashes and all. It is empty where nothing does.
+    pub object: Bytes,
+}
+
+/// Whether a request is for the container server: its path has four segments; or it has more, and a field says that it is a container's row.
+pub fn is_for_containers(request: &Request) -> bool
+    ensures { result ≡ is_for_containers_of request.now }
+{
+    let path = request.path.as_slice();
+    path.starts_with(b"/")
+        && (slash_count(path) == CONTAINER_SLASHES
+            || (is_row(path) && has_value(&request.fields, b"x-swc-server", b"container")))
+}
+
+/// Whether a path is a row's.
+pub(crate) fn is_row(path: &[u8]) -> bool
+    ensures { result ≡ is_row_path path.now }
+{
+    CONTAINER_SLASHES < slash_count(path)
+}
+
+/// What a path names. Each segment is decoded by itself.
+pub(crate) fn target_of(alloc: Global, path: &[u8]) -> Result<Target, NoMemory>
+    ensures { IfOk result (λ target. target ≡ target_of_path path.now) }
+{
+    let (device, rest) = at_slash(&path[path.len().min(1)..]);
+    let (partition, rest) = at_slash(rest);
+    let (account, rest) = at_slash(rest);
+    let (container, object) = at_slash(rest);
+    Ok(Target {
+        device: decoded(alloc, device)?,
+        partition: decoded(alloc, partition)?,
+        account: decoded(alloc, account)?,
+        container: decoded(alloc, container)?,
+        object: decoded(alloc, object)?,
+    })
+}
