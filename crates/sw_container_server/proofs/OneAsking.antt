@@ -1,5 +1,5 @@
 -- A request for containers asks for one thing: each test has one outcome, and its fields and its query are read in one way.
-use Rattle.std.proofs.Common.{◌≡◌, ℕ, ◌<◌, List, [], ◌∷◌, Bool, true, false, Option, Some, None, refl, sym, ap, ◌∙◌, subst, inl, inr}
+use Rattle.std.proofs.Common.{◌≡◌, ℕ, ◌<◌, List, [], ◌∷◌, Option, Some, None, sym, ap, ◌∙◌, subst, inl, inr}
 use Rattle.std.proofs.Props.{props}
 use Rattle.std.proofs.lemmas.Option.{same_Some}
 use Rattle.std.specs.Option.{ForSome}
@@ -23,7 +23,6 @@ use Rattle.sw_container_server.specs.Laws.{AsksForOne}
 use Rattle.sw_container_server.specs.Places.{place_in}
 use Rattle.sw_container_server.specs.Targets.{is_row, target_of, verb_of}
 use Rattle.sw_container_server.specs.Verdicts.{IsDeletedRowOf, IsRowOf, Yields}
-use Rattle.sw_container_server.specs.declared.asked.ContAsked.{ContAsked}
 use Rattle.sw_container_server.specs.declared.asked.ContAsked.TheVariants as asks
 use Rattle.sw_container_server.specs.declared.target.Target.{Target}
 use Rattle.sw_container_server.specs.declared.verb.Verb.{Verb}

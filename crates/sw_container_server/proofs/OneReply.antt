@@ -1,5 +1,5 @@
 -- What was told of a container has one reply: its listing has one text.
-use Rattle.std.proofs.Common.{◌≡◌, ℕ, List, Bool, true, false, sym, ap, ◌∙◌, Result, Ok, Err}
+use Rattle.std.proofs.Common.{◌≡◌, ℕ, List, Bool, true, false, sym, ap, ◌∙◌, Ok, Err}
 use Rattle.sw_listing.specs.declared.entry.Entry.{Entry}
 use Rattle.sw_listing_json.proofs.Unique.{has-one-json}
 use Rattle.sw_container_server.specs.Laws.{HasOneReply}

@@ -1,6 +1,6 @@
 -- What a verb asks for at its container: its tests in their order, each with the status that refuses what fails it, and what is asked for where
 -- all are passed. (OpenStack Swift's container server; the order of the tests is this project's own.)
-use Rattle.std.specs.Prelude.{◌≡◌, ℕ, true, false, List, [], ◌∷◌, codes, Option, None, Some, IsSome}
+use Rattle.std.specs.Prelude.{◌≡◌, ℕ, true, false, List, [], ◌∷◌, codes, None, Some, IsSome}
 use Rattle.std.specs.Option.{option_map_or}
 use Rattle.md5.specs.Md5.{md5}
 use Rattle.sw_container_steps.specs.declared.cont_change.ContChange.TheVariants as changes

@@ -52,6 +52,9 @@ const SIZE: (&[u8], &[u8]) = (b"X-Size", b"3");
 
 const TYPE: (&[u8], &[u8]) = (b"X-Content-Type", b"a/b");
 
+/// A replica that a ring of two replicas hasn't.
+const REPLICA: (&[u8], &[u8]) = (b"x-swc-shard-replica", b"2");
+
 const ETAG: (&[u8], &[u8]) = (b"X-Etag", b"900150983CD24FB0D6963F7D28E17f72");
 
 #[test]
@@ -92,14 +95,13 @@ fn containers_are_refused_in_the_order_of_their_tests(rt: HostRuntime) -> Result
 
 #[test]
 fn listings_are_refused_in_the_order_of_their_tests(rt: HostRuntime) -> Result<(), Fail> {
-    let replica: (&[u8], &[u8]) = (b"x-swc-shard-replica", b"2");
     let table: [(Asking, u16); 14] = [
         (
-            (b"GET", b"/sda/0/a/c", b"marker=%FF&limit=10001", &[replica]),
+            (b"GET", b"/sda/0/a/c", b"marker=%FF&limit=10001", &[REPLICA]),
             404,
         ),
         (
-            (b"GET", b"/sdb/0/a/c", b"marker=%FF&limit=10001", &[replica]),
+            (b"GET", b"/sdb/0/a/c", b"marker=%FF&limit=10001", &[REPLICA]),
             400,
         ),
         (
@@ -107,7 +109,7 @@ fn listings_are_refused_in_the_order_of_their_tests(rt: HostRuntime) -> Result<(
                 b"GET",
                 b"/sdb/0/a/c",
                 b"limit=10001&delimiter=ab&format=xml",
-                &[replica],
+                &[REPLICA],
             ),
             412,
         ),
@@ -116,19 +118,19 @@ fn listings_are_refused_in_the_order_of_their_tests(rt: HostRuntime) -> Result<(
                 b"GET",
                 b"/sdb/0/a/c",
                 b"limit=10000&delimiter=ab&format=xml",
-                &[replica],
+                &[REPLICA],
             ),
             412,
         ),
         (
-            (b"GET", b"/sdb/0/a/c", b"delimiter=a&format=XML", &[replica]),
+            (b"GET", b"/sdb/0/a/c", b"delimiter=a&format=XML", &[REPLICA]),
             400,
         ),
         (
-            (b"GET", b"/sdb/0/a/c", b"limit=ten&format=json", &[replica]),
+            (b"GET", b"/sdb/0/a/c", b"limit=ten&format=json", &[REPLICA]),
             400,
         ),
-        ((b"HEAD", b"/sdb/0/a/c", b"format=xml", &[replica]), 400),
+        ((b"HEAD", b"/sdb/0/a/c", b"format=xml", &[REPLICA]), 400),
         (
             (b"GET", b"/sdb/0/a/c", b"", &[(b"X-Swc-Shard-Replica", b"")]),
             400,
@@ -156,7 +158,7 @@ fn listings_are_refused_in_the_order_of_their_tests(rt: HostRuntime) -> Result<(
                 b"GET",
                 b"/sdb/0/a/c",
                 b"",
-                &[replica, (b"X-Swc-Shard-Replica", b"1")],
+                &[REPLICA, (b"X-Swc-Shard-Replica", b"1")],
             ),
             TAKEN,
         ),
@@ -170,7 +172,7 @@ fn listings_are_refused_in_the_order_of_their_tests(rt: HostRuntime) -> Result<(
             TAKEN,
         ),
         ((b"GET", b"/sdb/0/a/c", b"limit=10001&limit=9", &[]), TAKEN),
-        ((b"PUT", b"/sdb/0/a/c", b"", &[TIME, replica]), TAKEN),
+        ((b"PUT", b"/sdb/0/a/c", b"", &[TIME, REPLICA]), TAKEN),
     ];
     assert_statuses(&rt, rt.alloc(), &table)
 }
