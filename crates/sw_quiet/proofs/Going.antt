@@ -1,21 +1,21 @@
 -- A run goes on by each call at the device itself, and by a restart, though nobody keeps its lines.
-use Rattle.std.proofs.Common.{◌≡◌, ℕ, Bool, true, List, [], ◌∷◌, ◌++◌, refl, sym, ◌∙◌, ap, subst, Result, Ok}
+use Rattle.std.proofs.Common.{◌≡◌, ℕ, Bool, true, List, refl, sym, ◌∙◌, ap, subst}
 use Rattle.sw_core.proofs.Reaching.{joins}
 use Rattle.sw_core.proofs.Sessions.{comes-once, stands-same}
 use Rattle.sw_core.proofs.Standing.{change_runs, files_runs, hashes_runs, read_runs, restart_runs, write_runs}
 use Rattle.sw_core.specs.Doors.{StandsFor}
-use Rattle.sw_core.specs.Machine.{Came, Machine, MachineComes, RunLine, Runs}
+use Rattle.sw_core.specs.Machine.{Machine, MachineComes, Runs}
 use Rattle.sw_peer.specs.Sights.{IsFilesRead, IsHashesRead, IsMade, IsRead, IsSame, IsWriteRead, Nodes, Sight}
 use Rattle.sw_peer.specs.declared.entry.ObjEntry.{ObjEntry}
 use Rattle.sw_peer.specs.declared.line.Event.{Event}
-use Rattle.sw_peer.specs.declared.line.Event.TheVariants.{Changed, Read, ReadPart, Restarted}
+use Rattle.sw_peer.specs.declared.line.Event.TheVariants.{Changed, Read, ReadPart}
 use Rattle.sw_peer.specs.declared.link.Link.TheVariants.{Local}
 use Rattle.sw_peer.specs.declared.part_read.PartRead.TheVariants.{Files, Hashes, Write}
 use Rattle.sw_volume.specs.Tree.{Folders}
 use Rattle.sw_quiet.proofs.Trails.{lifting-restarts}
 use Rattle.sw_quiet.specs.Laws.{ChangeGoesOn, FilesGoOn, HashesGoOn, ReadGoesOn, WriteGoesOn}
-use Rattle.sw_quiet.specs.Laws.{GoesOn, GoesOnBy, GoingOnJoins, LiftingGoesOn, RestartGoesOn, StandsOn}
-use Rattle.sw_quiet.specs.Quiet.{quiet_sight_of, without_trail}
+use Rattle.sw_quiet.specs.Laws.{GoesOnBy, GoingOnJoins, LiftingGoesOn, RestartGoesOn, StandsOn}
+use Rattle.sw_quiet.specs.Quiet.{quiet_sight_of}
 
 pub stands_on : StandsOn
 stands_on s m stands = record { states = stands.states; seen = stands.seen; told = stands.told }

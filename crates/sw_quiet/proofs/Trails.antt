@@ -2,7 +2,7 @@
 use Rattle.std.proofs.Common.{◌≡◌, ℕ, Bool, true, false, List, [], ◌∷◌, ◌++◌, refl, sym, ap, subst, inl, None, Result, Ok, Err}
 use Rattle.std.specs.Bool.{⊤}
 use Rattle.sw_core.proofs.Anew.{restarts}
-use Rattle.sw_core.specs.Worlds.{AllNodes, Lifts, SetsDown, restart_line, sight_of}
+use Rattle.sw_core.specs.Worlds.{AllNodes, SetsDown, restart_line, sight_of}
 use Rattle.sw_diskfile.specs.declared.file_name.FileName.{FileName}
 use Rattle.sw_hashpath.specs.HashParts.{suffix_of}
 use Rattle.sw_hashpath.specs.declared.name.Name.{Name}
