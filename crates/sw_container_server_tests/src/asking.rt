@@ -52,10 +52,10 @@ const SIZE: (&[u8], &[u8]) = (b"X-Size", b"3");
 
 const TYPE: (&[u8], &[u8]) = (b"X-Content-Type", b"a/b");
 
+const ETAG: (&[u8], &[u8]) = (b"X-Etag", b"900150983CD24FB0D6963F7D28E17f72");
+
 /// A replica that a ring of two replicas hasn't.
 const REPLICA: (&[u8], &[u8]) = (b"x-swc-shard-replica", b"2");
-
-const ETAG: (&[u8], &[u8]) = (b"X-Etag", b"900150983CD24FB0D6963F7D28E17f72");
 
 #[test]
 fn containers_are_refused_in_the_order_of_their_tests(rt: HostRuntime) -> Result<(), Fail> {
