@@ -1,6 +1,6 @@
 ghost use Rattle.std.specs.Prelude.{◌≡◌, ◌*◌, ◌<◌, ◌≤◌, ◌^◌, [], length, IfOk, IfErr, OnErr, None, Some};
 ghost use Rattle.sw_core.specs.Stopping.{Gives};
-ghost use Rattle.sw_core.specs.Worlds.{IsWorld, Lifts, opened, volumes_of};
+ghost use Rattle.sw_core.specs.Worlds.{IsWorld, Lifts, opened, volumes_of, without_lines};
 ghost use Rattle.sw_quiet.specs.Quiet.{SetsDownQuietly};
 
 mod door;
@@ -51,6 +51,22 @@ impl<V: Volume + Drop> QuietWorld<V> {
     {
         let QuietWorld { world } = self;
         world.stop()
+    }
+
+    /// These nodes, which keep no trail from now on: the lines that they have are let go.
+    pub fn over(alloc: Global, world: World<V>) -> QuietWorld<V>
+        ensures { result ≡ without_lines world }
+    {
+        let mut world = world;
+        let _ = world.take_trail(alloc);
+        QuietWorld { world }
+    }
+
+    /// The nodes, which may keep a trail from now on. It takes no memory.
+    pub fn into_world(self) -> World<V>
+        ensures { result ≡ self }
+    {
+        self.world
     }
 
     /// Takes the volumes of a device out, one a stripe. Until it is set down again no step can be made.
