@@ -1,11 +1,11 @@
--- What a request for replicas leaves of the nodes: they are those that were there, whatever run of the machine they stood for goes on, and no line
--- tells of a restart.
+-- What a request for replicas leaves of the nodes: they are those that were there, whatever run of the machine they stood for goes on, whether its
+-- lines are kept or not, and no line tells of a restart.
 use Rattle.std.proofs.Common.{◌≡◌, ℕ, ◌^◌, ◌<◌, true, List, [], ◌∷◌, refl, sym, ◌∙◌, ap, subst, Option, None, Some, Result, Ok, Err, inl, inr, ◌⊎◌}
 use Rattle.std.specs.Bool.{⊤}
 use Rattle.std.specs.declared.alloc.Global.{Global}
 use Rattle.std.specs.declared.vec.Vec.{Vec}
 use Rattle.sw_core.proofs.Copies.{run-files-call, run-hashes-call}
-use Rattle.sw_core.specs.Doors.{HasRun}
+use Rattle.sw_core.specs.Doors.{HasRun, StandsFor}
 use Rattle.sw_core.specs.Machine.{Machine}
 use Rattle.sw_hashpath.specs.HashParts.{suffix_of}
 use Rattle.sw_message.specs.declared.request.Request.{Request}
@@ -25,6 +25,7 @@ use Rattle.sw_ring.specs.declared.ring.Ring.{Ring}
 use Rattle.sw_suffix.specs.declared.dir_line.DirLine.{DirLine}
 use Rattle.sw_suffix.specs.declared.told.SuffixHash.{SuffixHash}
 use Rattle.sw_cluster.proofs.Calming.{IsCalm, calm-same, files-calm, hashes-calm}
+use Rattle.sw_cluster.proofs.Going.{Goes, GoesFrom, files-go, from-join, from-same, goes-same, hashes-go}
 
 -- ---- the partition that is asked for is one of the ring's
 
@@ -52,6 +53,7 @@ pub record Steady (part : ℕ) (s t : Sight) : Type 0 where
   pub alone : t.alone ≡ true → s.alone ≡ true
   pub calm : IsCalm s t
   pub runs : (start : Machine) (hash : Hash) → t.alone ≡ true → IsOfPart s.nodes.power part hash → HasRun start s → HasRun start t
+  pub goes : (m : Machine) (hash : Hash) → t.alone ≡ true → IsOfPart s.nodes.power part hash → StandsFor s m → GoesFrom s m t
 
 steady-same : (part : ℕ) (s t : Sight) → t ≡ s → Steady part s t
 steady-same part s t same = record {
@@ -59,6 +61,7 @@ steady-same part s t same = record {
   alone = λ alone. sym (ap (λ (x : Sight). x.alone) same) ∙ alone;
   calm = calm-same s t same;
   runs = λ start hash alone is has. subst (HasRun start) (sym same) has;
+  goes = λ m hash alone is stands. from-same s t m same stands;
 }
 
 steady-join : (part : ℕ) (a b c : Sight) → Steady part a b → Steady part b c → Steady part a c
@@ -68,6 +71,10 @@ steady-join part a b c p q = record {
   calm = q.calm ∙ p.calm;
   runs = λ start hash alone is has.
       q.runs start hash alone (subst (λ (n : Nodes). IsOfPart n.power part hash) (sym p.nodes) is) (p.runs start hash (q.alone alone) is has);
+  goes = λ m hash alone is stands.
+      let first = p.goes m hash (q.alone alone) is stands in
+      from-join a b c m first
+      (q.goes first.1.after hash alone (subst (λ (n : Nodes). IsOfPart n.power part hash) (sym p.nodes) is) first.1.stands);
 }
 
 hashes-steady : (device part : ℕ) (s : Sight) (got : Result (Vec SuffixHash Global) DirFault) (t : Sight) → Calls (IsHashesRead Local device part) s Local (Ok got) t
@@ -79,6 +86,7 @@ hashes-steady device part s got t p =
       alone = moves.alone;
       calm = hashes-calm Local device part s (Ok got) t p;
       runs = λ start hash alone is has. run-hashes-call start Local device part hash s (Ok got) t is alone p has;
+      goes = λ m hash alone is stands. hashes-go device part s got t m hash is stands alone p;
     }
 
 files-steady : (device part suffix : ℕ) (s : Sight) (got : Result (Vec DirLine Global) DirFault) (t : Sight)
@@ -92,6 +100,7 @@ files-steady device part suffix s got t p =
       alone = moves.alone;
       calm = files-calm Local device part suffix s (Ok got) t p;
       runs = λ start hash alone is has. run-files-call start Local device part hash suffix s (Ok got) t is alone p has;
+      goes = λ m hash alone is stands. files-go device part suffix s got t m hash is stands alone p;
     }
 
 several-steady : (device part : ℕ) (suffixes : List ℕ) (s : Sight) (found : List DirLine) (t : Sight) → AreFilesRead device part suffixes s found t → Steady part s t
@@ -120,12 +129,14 @@ pub record Stays (ring : Ring) (s t : Sight) : Type 0 where
   pub calm : IsCalm s t
   pub runs : (start : Machine) → t.alone ≡ true → ((part : ℕ) → part < 2 ^ ring.power → (hash : Hash) × IsOfPart s.nodes.power part hash)
       → HasRun start s → HasRun start t
+  pub goes : t.alone ≡ true → ((part : ℕ) → part < 2 ^ ring.power → (hash : Hash) × IsOfPart s.nodes.power part hash) → Goes s t
 
 stays-same : (ring : Ring) (s t : Sight) → t ≡ s → Stays ring s t
 stays-same ring s t same = record {
   nodes = ap (λ (x : Sight). x.nodes) same;
   calm = calm-same s t same;
   runs = λ start alone hashes has. subst (HasRun start) (sym same) has;
+  goes = λ alone hashes. goes-same s t same;
 }
 
 stays-of : (ring : Ring) (part : ℕ) (s t : Sight) → part < 2 ^ ring.power → Steady part s t → Stays ring s t
@@ -133,6 +144,10 @@ stays-of ring part s t within p = record {
   nodes = p.nodes;
   calm = p.calm;
   runs = λ start alone hashes has. let there = hashes part within in p.runs start there.0 alone there.1 has;
+  goes = λ alone hashes. record {
+    nodes = p.nodes;
+    on = λ m stands. let there = hashes part within in p.goes m there.0 alone there.1 stands;
+  };
 }
 
 module _ {D : Type 0} (sight : D → Sight) (ring : Ring) (request : Request) (old new : D) where

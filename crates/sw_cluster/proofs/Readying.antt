@@ -6,6 +6,10 @@ use Rattle.sw_peer.specs.Journals.{Hash}
 use Rattle.sw_peer.specs.Parts.{IsOfPart}
 use Rattle.sw_peer.specs.Sights.{Nodes}
 use Rattle.sw_ring.specs.declared.ring.Ring.{Ring}
+use Rattle.sw_hashdir.proofs.Stored.{hashed-is}
+use Rattle.sw_hashdir.specs.Steps.{IsHashed}
+use Rattle.sw_hashpath.specs.declared.secrets.Secrets.{Secrets}
+use Rattle.sw_cluster.specs.Connections.{AreNodesOf}
 use Rattle.sw_cluster.specs.Nodes.{IsReady, places_of}
 
 pub ready-of : {V S : Type 0} (out : S → ℕ → ℕ → Bool) (ring : Ring) (w : AllNodes V) (stores : S) → w.lifted ≡ None
@@ -28,3 +32,16 @@ part_hash ring power same part within =
       hash_with power part 0,
       of-part power part 0 (subst (λ (n : ℕ). n ≤ 32) (sym same) (omega (arith, few))) (subst (λ (n : ℕ). part < 2 ^ n) (sym same) within),
     )
+
+-- then they are the ring's, for whoever asks them
+pub ready-nodes : {V S : Type 0} (out : S → ℕ → ℕ → Bool) (ring : Ring) (w : AllNodes V) (stores : S) → IsReady out ring w stores
+    → AreNodesOf ring (nodes_of (shown w.lifted w.devices) w.lock_bits w.power w.secrets)
+ready-nodes out ring w stores ready =
+    let devices : shown w.lifted w.devices ≡ length ring.devices = ap (λ (n : Nodes). n.devices) ready.nodes in
+    record {
+      devices = omega (arith, devices);
+      power = sym ready.power;
+      fits = λ name hashed.
+          let plain : IsHashed ring.secrets name = record { hashed = sym hashed.0; good = hashed.1 } in
+          hashed-is w.secrets name (subst (λ (secrets : Secrets). IsHashed secrets name) (sym ready.secrets) plain);
+    }

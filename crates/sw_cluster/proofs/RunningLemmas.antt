@@ -12,10 +12,11 @@ use Rattle.sw_object_server.specs.declared.asked.Asked.TheVariants as asks
 use Rattle.sw_core.proofs.Sessions.{run-changed-call, run-read-call}
 use Rattle.sw_core.specs.Doors.{HasRun}
 use Rattle.sw_core.specs.Machine.{Machine}
+use Rattle.sw_cluster.proofs.Going.{Goes, goes-same, made-goes, read-goes}
 
 -- ---- requests
 
-module _ {D : Type 0} (sight : D → Sight) (alone : (d : D) → (sight d).alone ≡ true) where
+module _ {D : Type 0} (sight : D → Sight) where
   -- the nodes are those that were there
   pub answered_nodes : (ring : Ring) (old new : D) (request : Request) (moment : ℕ) (response : Response) → IsAnswered sight old new ring request moment response
       → (sight new).nodes ≡ (sight old).nodes
@@ -39,6 +40,7 @@ module _ {D : Type 0} (sight : D → Sight) (alone : (d : D) → (sight d).alone
       by_asked (asks.Read device name head_only) gone =
           (calls-moves (Moves (IsAt device name.hash)) (IsRead Local device name) (read-step Local device name) (sight old) Local (Ok gone.0) (sight new) gone.1.called).nodes
 
+module _ {D : Type 0} (sight : D → Sight) (alone : (d : D) → (sight d).alone ≡ true) where
   -- and a run goes on
   pub answered_runs : (ring : Ring) (old new : D) (request : Request) (moment : ℕ) (response : Response) → IsAnswered sight old new ring request moment response
       → (start : Machine) → HasRun start (sight old) → HasRun start (sight new)
@@ -58,3 +60,22 @@ module _ {D : Type 0} (sight : D → Sight) (alone : (d : D) → (sight d).alone
       by_asked (asks.Refused status) gone = absurd gone
       by_asked (asks.Change device name change) gone = run-changed-call start device name change (sight old) gone.0 (sight new) (alone new) gone.1.called r
       by_asked (asks.Read device name head_only) gone = run-read-call start device name (sight old) gone.0 (sight new) (alone new) gone.1.called r
+
+  -- also where nobody keeps its lines
+  pub answered_goes : (ring : Ring) (old new : D) (request : Request) (moment : ℕ) (response : Response) → IsAnswered sight old new ring request moment response
+      → Goes (sight old) (sight new)
+  answered_goes ring old new request moment response answered = by_asked answered.0 answered.2
+    where
+      by_asked : (asked : Asked) → IsServed sight old new moment asked response → Goes (sight old) (sight new)
+      by_asked (asks.Refused status) served = goes-same (sight old) (sight new) (ap sight served.0)
+      by_asked (asks.Change device name change) served = made-goes device name change (sight old) served.0 (sight new) (alone new) served.1.called
+      by_asked (asks.Read device name head_only) served = read-goes device name (sight old) served.0 (sight new) (alone new) served.1.called
+
+  pub left_goes : (ring : Ring) (old new : D) (request : Request) (moment : ℕ) → IsGivenUp sight old new ring request moment → Goes (sight old) (sight new)
+  left_goes ring old new request moment (inl same) = goes-same (sight old) (sight new) (ap sight same)
+  left_goes ring old new request moment (inr left) = by_asked left.0 left.2
+    where
+      by_asked : (asked : Asked) → IsLeft (sight old) (sight new) moment asked → Goes (sight old) (sight new)
+      by_asked (asks.Refused status) gone = absurd gone
+      by_asked (asks.Change device name change) gone = made-goes device name change (sight old) gone.0 (sight new) (alone new) gone.1.called
+      by_asked (asks.Read device name head_only) gone = read-goes device name (sight old) gone.0 (sight new) (alone new) gone.1.called

@@ -74,12 +74,12 @@ module _ {V : Type 0} (tells : V → Bool) (files : V → Folders) (faults : V �
     pub answered_on : (ring : Ring) (w after : AllNodes V) (stores : S) (request : Request) (moment : ℕ) (response : Response) → IsReady out ring w stores
         → IsAnswered see w after ring request moment response → IsReady out ring after stores
     answered_on ring w after stores request moment response ready answered =
-        goes_on ring w after stores ready (answered_nodes see (λ w. refl) ring w after request moment response answered)
+        goes_on ring w after stores ready (answered_nodes see ring w after request moment response answered)
 
     pub left_on : (ring : Ring) (w after : AllNodes V) (stores : S) (request : Request) (moment : ℕ) → IsReady out ring w stores
         → IsGivenUp see w after ring request moment → IsReady out ring after stores
     left_on ring w after stores request moment ready left =
-        goes_on ring w after stores ready (left_nodes see (λ w. refl) ring w after request moment left)
+        goes_on ring w after stores ready (left_nodes see ring w after request moment left)
 
   -- ---- a request of the nodes
 
@@ -93,7 +93,7 @@ module _ {V : Type 0} (tells : V → Bool) (files : V → Folders) (faults : V �
       may = record {
         answers = on_false _ _ (is_control request.path) is (on_false _ _ (is_replication_of request) object
             (request_served see (λ w. w.lines) (λ w. refl) ring w after request moment response answered));
-        nodes = answered_nodes see (λ w. refl) ring w after request moment response answered;
+        nodes = answered_nodes see ring w after request moment response answered;
         runs = answered_runs see (λ w. refl) ring w after request moment response answered;
       };
       faults_are = refl;
@@ -115,7 +115,7 @@ module _ {V : Type 0} (tells : V → Bool) (files : V → Folders) (faults : V �
       may = record {
         answers = on_false _ _ (is_control request.path) is (on_false _ _ (is_replication_of request) object
             (inr (reply, request_left see (λ w. w.lines) (λ w. refl) ring w after request moment left)));
-        nodes = left_nodes see (λ w. refl) ring w after request moment left;
+        nodes = left_nodes see ring w after request moment left;
         runs = left_runs see (λ w. refl) ring w after request moment left;
       };
       faults_are = refl;

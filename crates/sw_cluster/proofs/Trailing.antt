@@ -50,7 +50,7 @@ use Rattle.sw_cluster.specs.Nodes.{IsReady, NodesAnswer, NodesHalt, faults_by, o
 use Rattle.sw_cluster.specs.Server.{MayAnswer, MayHalt}
 use Rattle.sw_cluster.specs.Statuses as statuses
 use Rattle.sw_cluster.specs.declared.server.Nodes.{Nodes}
-use Rattle.sw_cluster.proofs.Resting.{among-place}
+use Rattle.sw_cluster.proofs.Storing.{rests-before, same-devices, stands-begun, stored}
 
 some-is : {A : Type 0} {x y : A} → Some x ≡ Some y → x ≡ y
 some-is is = cc
@@ -60,10 +60,6 @@ swap-and true true = refl
 swap-and true false = refl
 swap-and false true = refl
 swap-and false false = refl
-
--- a world none of whose devices is out has as many as are shown
-same-devices : (lifted : Option ℕ) (devices n : ℕ) → lifted ≡ None → shown lifted devices ≡ n → devices ≡ n
-same-devices lifted devices n whole is = sym (ap (λ (o : Option ℕ). shown o devices) whole) ∙ is
 
 abbrev ring_in : {S V : Type 0} → Nodes S V → Ring
 ring_in n = n.ring.now
@@ -78,34 +74,6 @@ module _ {V : Type 0} (tells : V → Bool) (files : V → Folders) (faults : V �
   abbrev see : AllNodes V → Sight
   see w = sight_of tells files faults w
 
-  lock-same : (w : AllNodes V) → w.lock_bits ≡ ring.lock_bits → w.power ≡ ring.power → (device : ℕ) (hash : Hash)
-      → lock_of w.lock_bits w.power device hash ≡ lock_of ring.lock_bits ring.power device hash
-  lock-same w bits power device hash = ap (λ (b : ℕ). lock_of b w.power device hash) bits ∙ ap (λ (p : ℕ). lock_of ring.lock_bits p device hash) power
-
-  -- ---- how a run begins
-
-  -- where all locks tell what they hold, the nodes stand for the machine that holds it
-  pub stands-begun : (w : AllNodes V) → w.lock_bits ≡ ring.lock_bits → w.power ≡ ring.power → length w.slots ≡ length ring.devices * 2 ^ ring.lock_bits
-      → AllTold tells files faults ring w
-      → StandsFor (sight_of tells files faults w) (machine_of (sight_of tells files faults w))
-  stands-begun w bits power count told = record {
-    states = λ device hash. sym (state_of-writes_of (held_of tells files faults (slice_get w.slots (lock_of w.lock_bits w.power device hash)) hash));
-    seen = λ l. refl;
-    told = λ device hash.
-        subst (λ (l : ℕ). (seen_of tells files faults (slice_get w.slots l)).told ≡ true) (sym (lock-same w bits power device hash))
-        (each device hash (cases_lt device (length ring.devices)));
-  }
-    where
-      each : (device : ℕ) (hash : Hash) → (device < length ring.devices) ⊎ (length ring.devices ≤ device)
-          → (seen_of tells files faults (slice_get w.slots (lock_of ring.lock_bits ring.power device hash))).told ≡ true
-      each device hash (inl here) = told device hash here
-      each device hash (inr past) =
-          let beyond : length w.slots ≤ lock_of ring.lock_bits ring.power device hash = rw count (further device (length ring.devices) past) in
-          ap (λ (o : Option (Slot V)). (seen_of tells files faults o).told) (slice_get_past w.slots (lock_of ring.lock_bits ring.power device hash) beyond)
-        where
-          further : (d n : ℕ) → n ≤ d → n * 2 ^ ring.lock_bits ≤ d * 2 ^ ring.lock_bits + stripe_at ring.lock_bits ring.power (partition_of hash ring.power)
-          further d n h = grind (arith, rows)
-
   -- ---- what its trail tells
 
   -- the run of a world none of whose devices is out, whose volumes came to rest at the places of their locks
@@ -113,55 +81,6 @@ module _ {V : Type 0} (tells : V → Bool) (files : V → Folders) (faults : V �
       (nodes : nodes_of (shown w.lifted w.devices) w.lock_bits w.power w.secrets ≡ nodes_of (length ring.devices) ring.lock_bits ring.power ring.secrets)
       (run : HasRun (machine_of (sight_of tells files faults began)) (sight_of tells files faults w)) (rests : ℕ → ℕ → Option V)
       (resting : (l : ℕ) (k : Kept V) → slice_get w.slots l ≡ Some (slots.Open k) → at_place rests (2 ^ ring.lock_bits) l ≡ Some k.volume) where
-    devices-are : w.devices ≡ length ring.devices
-    devices-are = same-devices w.lifted w.devices (length ring.devices) whole (ap (λ (n : SightNodes). n.devices) nodes)
-
-    bits-are : w.lock_bits ≡ ring.lock_bits
-    bits-are = ap (λ (n : SightNodes). n.lock_bits) nodes
-
-    power-are : w.power ≡ ring.power
-    power-are = ap (λ (n : SightNodes). n.power) nodes
-
-    stored : (device : ℕ) (hash : Hash) → device < length ring.devices → IsStored tells files faults ring run.after rests device hash
-    stored device hash here = by (open-at w is whole (lock_of ring.lock_bits ring.power device hash) within)
-      where
-        low : stripe_at ring.lock_bits ring.power (partition_of hash ring.power) < 2 ^ ring.lock_bits
-        low = stripe-below ring.lock_bits ring.power (partition_of hash ring.power)
-
-        within : lock_of ring.lock_bits ring.power device hash < length w.slots
-        within = rw (is.count, devices-are, bits-are) (under device (length ring.devices) (stripe_at ring.lock_bits ring.power (partition_of hash ring.power))
-            (2 ^ ring.lock_bits) here low)
-          where
-            under : (d n s b : ℕ) → d < n → s < b → d * b + s < n * b
-            under d n s b h g = grind (arith, rows)
-
-        by : (k : Kept V) × (slice_get w.slots (lock_of ring.lock_bits ring.power device hash) ≡ Some (slots.Open k)) × (k.secrets ≡ w.secrets) × (k.power ≡ w.power)
-            × HasLimits k
-            → IsStored tells files faults ring run.after rests device hash
-        by there =
-            let told : (seen_of tells files faults (Some (slots.Open there.0))).told ≡ true =
-            subst (λ (o : Option (Slot V)). (seen_of tells files faults o).told ≡ true) there.1
-            (subst (λ (l : ℕ). (seen_of tells files faults (slice_get w.slots l)).told ≡ true) (lock-same w bits-are power-are device hash) (run.stands.told device hash)) in
-            let held : held_of tells files faults (Some (slots.Open there.0)) hash ≡ state run.after device hash =
-            subst (λ (o : Option (Slot V)). held_of tells files faults o hash ≡ state run.after device hash) there.1
-            (subst (λ (l : ℕ). held_of tells files faults (slice_get w.slots l) hash ≡ state run.after device hash) (lock-same w bits-are power-are device hash)
-            (run.stands.states device hash)) in
-            let secrets : there.0.secrets ≡ ring.secrets = there.2 ∙ ap (λ (n : SightNodes). n.secrets) nodes in
-            let power : there.0.power ≡ ring.power = there.3 ∙ ap (λ (n : SightNodes). n.power) nodes in
-            record {
-              volume = there.0.volume;
-              resting = subst (λ (s : ℕ). rests device s ≡ Some there.0.volume)
-                  (mod-mul-add device (2 ^ ring.lock_bits) (stripe_at ring.lock_bits ring.power (partition_of hash ring.power)) low)
-                  (subst (λ (d : ℕ). rests d (lock_of ring.lock_bits ring.power device hash % 2 ^ ring.lock_bits) ≡ Some there.0.volume)
-                  (div-mul-add device (2 ^ ring.lock_bits) (stripe_at ring.lock_bits ring.power (partition_of hash ring.power)) low)
-                  (resting (lock_of ring.lock_bits ring.power device hash) there.0 there.1));
-              stands = subst (λ (s : _). holds s ring.power (files there.0.volume) hash ≡ state run.after device hash) secrets
-                  (subst (λ (p : ℕ). holds there.0.secrets p (files there.0.volume) hash ≡ state run.after device hash) power
-                  (sym (held-told tells files faults there.0 hash told) ∙ held));
-              counts = sym (ap (λ h. h.faults) (run.stands.seen (lock_of ring.lock_bits ring.power device hash)))
-                  ∙ ap (λ (o : Option (Slot V)). (seen_of tells files faults o).faults) there.1;
-            }
-
     -- the lines of the run are those of the world
     lines-are : w.lines ≡ came_in run.lines
     lines-are = some-is run.kept
@@ -172,7 +91,7 @@ module _ {V : Type 0} (tells : V → Bool) (files : V → Folders) (faults : V �
       came = sym (are ∙ lines-are);
       machine = run.after;
       run = subst (λ (n : SightNodes). Runs n (machine_of (sight_of tells files faults began)) run.lines run.after) nodes run.run;
-      stored = stored;
+      stored = stored tells files faults ring w is whole nodes run.after run.stands rests resting;
     }
 
   -- ---- request by request
@@ -254,7 +173,7 @@ module _ {V : Type 0} (tells : V → Bool) (files : V → Folders) (faults : V �
           ∙ ap (λ (w : AllNodes V). raised_by (restarts_in w.lines * 2 ^ ring.lock_bits) (store_calls stores.now)) (sym is);
       same_stores = refl;
       runs = λ told. run-begins (machine_of (sight_of tells files faults began)) (sight_of tells files faults began)
-          (stands-begun began (ap (λ (w : AllNodes V). w.lock_bits) is) (ap (λ (w : AllNodes V). w.power) is)
+          (stands-begun tells files faults ring began (ap (λ (w : AllNodes V). w.lock_bits) is) (ap (λ (w : AllNodes V). w.power) is)
           (ap (λ (w : AllNodes V). length w.slots) is ∙ (simp length-map count)) told)
           (ap (λ (w : AllNodes V). Some w.lines) is);
     }
@@ -334,30 +253,12 @@ module _ {V : Type 0} (tells : V → Bool) (files : V → Folders) (faults : V �
       out-is : after.lifted ≡ Some h.device
       out-is = ap (λ (x : AllNodes V). x.lifted) h.up.rest
 
-      lifted-in : AreLifted (first_of ring.lock_bits h.device) (past_of ring.lock_bits h.device) h.w.slots after.slots h.given
-      lifted-in = subst (λ (b : ℕ). AreLifted (first_of b h.device) (past_of b h.device) h.w.slots after.slots h.given) old-bits h.up.lifted
-
       -- where the volumes came to rest that were there before the device was lifted
       rests-old : (now : ℕ → ℕ → Option V)
           → ((l : ℕ) (k : Kept V) → slice_get after.slots l ≡ Some (slots.Open k) → at_place now (2 ^ ring.lock_bits) l ≡ Some k.volume)
           → ((device : ℕ) → after.lifted ≡ Some device → (d s : ℕ) → places_at ring device d s ≡ true → now d s ≡ rests stores_now.now d s)
           → (l : ℕ) (k : Kept V) → slice_get h.w.slots l ≡ Some (slots.Open k) → at_place now (2 ^ ring.lock_bits) l ≡ Some k.volume
-      rests-old now resting same l k at = by (cases_lt l (first_of ring.lock_bits h.device)) (cases_lt l (past_of ring.lock_bits h.device))
-        where
-          by : (l < first_of ring.lock_bits h.device) ⊎ (first_of ring.lock_bits h.device ≤ l) → (l < past_of ring.lock_bits h.device)
-              ⊎ (past_of ring.lock_bits h.device ≤ l)
-              → at_place now (2 ^ ring.lock_bits) l ≡ Some k.volume
-          by (inl low) any = resting l k (lifted-in.outside l (inl low) ∙ at)
-          by (inr from) (inr behind) = resting l k (lifted-in.outside l (inr behind) ∙ at)
-          by (inr from) (inl below) =
-              let there : first_of ring.lock_bits h.device + (l - first_of ring.lock_bits h.device) ≡ l = omega (arith, from) in
-              let gives : slice_get h.given (l - first_of ring.lock_bits h.device) ≡ Some k.volume =
-              lifted-in.gives (l - first_of ring.lock_bits h.device) k (omega (arith, from, below)) (ap (slice_get h.w.slots) there ∙ at) in
-              same h.device out-is (l / 2 ^ ring.lock_bits) (l % 2 ^ ring.lock_bits)
-              (among-place (2 ^ ring.lock_bits) (first_of ring.lock_bits h.device) (2 ^ ring.lock_bits) l (pow_pos ring.lock_bits) from below)
-              ∙ subst (λ (p : ℕ). at_place (rests stores_now.now) (2 ^ ring.lock_bits) p ≡ Some k.volume) there
-              (resting-at (rests stores_now.now) (2 ^ ring.lock_bits) (first_of ring.lock_bits h.device) h.given
-              (l - first_of ring.lock_bits h.device) k.volume h.resting gives)
+      rests-old now resting same = rests-before tells files faults ring h.w after old-bits h.device h.given h.up (rests stores_now.now) now h.resting resting same
 
       halt-ended : IsEnded (faults_by (store_faults stores.now) fault) after stores_now
       halt-ended = record {

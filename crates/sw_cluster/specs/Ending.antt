@@ -15,6 +15,8 @@ use Rattle.sw_core.specs.Worlds.{AllNodes, lock_of, nodes_of, opened, sight_of, 
 use Rattle.sw_hashdir.specs.Places.{holds}
 use Rattle.sw_hashpath.specs.HashParts.{partition_of}
 use Rattle.sw_outside.specs.Counts.{raised}
+use Rattle.sw_outside.specs.declared.store_error.StoreError.{StoreError}
+use Rattle.sw_outside.specs.declared.store_error.StoreError.TheVariants as store_errors
 use Rattle.sw_peer.specs.declared.line.Line.{Line}
 use Rattle.sw_stores.specs.Places.{IsAsItWas}
 use Rattle.sw_stores.specs.Volumes.{AreStarted, RestsAgain}
@@ -90,14 +92,24 @@ module _ {V : Type 0} (tells : V → Bool) (files : V → Folders) (faults : V �
     pub over : IsRunOver ring (opened ring volumes) rests_now store_faults store_faults_now
         (raised_by (length ring.devices * 2 ^ ring.lock_bits) store_calls) store_calls_now source sink clock clock_now trail status
 
--- no session was run: the volumes couldn't be started, or there was no memory for the nodes. Those that were started rest again
-pub record IsUnbegun {V : Type 0} (first : V → Type 0) (ring : Ring) (rests rests_now : ℕ → ℕ → Option V) (store_faults store_faults_now : ℕ)
-    (store_calls store_calls_now : ℕ) (source sink : Passage) (clock clock_now : Option (List ℕ)) (trail : Trail) (status : ℕ) : Type 0 where
+-- the status of a command whose volumes couldn't be started
+abbrev pub start_status : StoreError → ℕ
+start_status store_errors.Failed = statuses.store_fault
+start_status store_errors.NoMemory = statuses.no_memory
+
+-- the volumes of a ring's nodes couldn't be started, or there was no memory for the nodes. Those that were started rest again
+pub record AreUnstarted {V : Type 0} (first : V → Type 0) (ring : Ring) (rests rests_now : ℕ → ℕ → Option V) (store_faults store_faults_now : ℕ)
+    (store_calls store_calls_now : ℕ) (status : ℕ) : Type 0 where
   pub why : ((status ≡ statuses.store_fault) × (store_faults_now ≡ raised store_faults)) ⊎ ((status ≡ statuses.no_memory) × (store_faults_now ≡ store_faults))
   pub tried : ℕ
   pub most : tried ≤ length ring.devices * 2 ^ ring.lock_bits
   pub store_calls_are : store_calls_now ≡ raised_by tried store_calls
   pub resting : (device stripe : ℕ) → RestsAgain first (rests device stripe) (rests_now device stripe)
+
+-- so no session was run
+pub record IsUnbegun {V : Type 0} (first : V → Type 0) (ring : Ring) (rests rests_now : ℕ → ℕ → Option V) (store_faults store_faults_now : ℕ)
+    (store_calls store_calls_now : ℕ) (source sink : Passage) (clock clock_now : Option (List ℕ)) (trail : Trail) (status : ℕ) : Type 0 where
+  pub unstarted : AreUnstarted first ring rests rests_now store_faults store_faults_now store_calls store_calls_now status
   pub nothing_read : (source.now ≡ source.before) × (source.faults_now ≡ source.faults)
   pub nothing_written : (sink.now ≡ sink.before) × (sink.faults_now ≡ sink.faults)
   pub no_tick : clock_now ≡ clock

@@ -14,9 +14,10 @@ line_of status =
     if status == statuses.usage then codes "sw: usage\n" else (
     if status == statuses.write_fault then codes "sw: write fault\n" else (
     if status == statuses.store_fault then codes "sw: store fault\n" else (
+    if status == statuses.door_fault then codes "sw: door fault\n" else (
     if status == statuses.too_long then codes "sw: session too long\n" else (
     if status == statuses.bad_input then codes "sw: bad input\n" else (
-    if status == statuses.no_memory then codes "sw: want of memory\n" else []))))))
+    if status == statuses.no_memory then codes "sw: want of memory\n" else [])))))))
 
 -- the line of what is wrong with a ring: its number is a digit
 abbrev pub ring_line : BadRing → List ℕ

@@ -25,6 +25,10 @@ write_fault = 4
 abbrev pub store_fault : ℕ
 store_fault = 5
 
+-- it couldn't be listened, or a connection couldn't be accepted
+abbrev pub door_fault : ℕ
+door_fault = 6
+
 -- as many requests were answered as a session has at most
 abbrev pub too_long : ℕ
 too_long = 7

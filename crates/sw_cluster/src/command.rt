@@ -1,4 +1,4 @@
-ghost use Rattle.std.specs.Prelude.{◌≡◌, ◌≢◌, ℕ, true, false, [], map};
+ghost use Rattle.std.specs.Prelude.{◌≡◌, ◌≢◌, ◌≤◌, ◌⊎◌, ℕ, true, false, [], length, map};
 ghost use Rattle.std.specs.String.{string_bytes};
 ghost use Rattle.sw_ring.specs.declared.bad_ring.BadRing.{BadRing};
 ghost use Rattle.sw_ring.specs.declared.ring.Ring.{Ring};
@@ -8,41 +8,51 @@ ghost use Rattle.sw_cluster.specs.Ending.{Runs};
 ghost use Rattle.sw_cluster.specs.Locating.{Locates};
 ghost use Rattle.sw_cluster.specs.Opening.{EndsWith, IsRingRefused};
 ghost use Rattle.sw_cluster.specs.Report.{Reports, line_of as line_of_status, ring_line as line_of_ring};
+ghost use Rattle.sw_cluster.specs.Rounds.{Serves, counts, doors_told};
 ghost use Rattle.sw_cluster.specs.Statuses as statuses;
 ghost use Rattle.sw_cluster.specs.Words.{account_word, are_run_words, are_where_words, container_word, object_word, ring_word};
+ghost use Rattle.sw_words.specs.Serve.{IsServe};
+ghost use Rattle.sw_words.specs.declared.serve.ServeOptions.{ServeOptions as ServeOptionsSeen};
 
 use crate::locate::locate;
 use crate::opening::{OpenFault, open_ring};
 use crate::running::run_session;
+use crate::rounds::serve_connections;
 use crate::status::{BAD_RING, NO_MEMORY, STORE_FAULT, USAGE, line_of, ring_line};
 use crate::words::{is_run, is_where, ring_of};
 use std::alloc::Global;
+use sw_clap_words::read_serve;
 use sw_core::Trail;
-use sw_outside::{Clock, Sink, Source};
+use sw_outside::{Clock, Doors, NoMemory, Sink, Source};
 use sw_stores::Stores;
+use sw_words::ServeOptions;
 
 /// Runs the command that the words of the command line name, without the program's own name, and answers its status.
 ///
 /// `run RING` answers the requests that come from `source` and writes the replies to `out`. `where RING ACCOUNT [CONTAINER [OBJECT]]` writes
-/// where a name is. The ring is read from `stores`, from which `run` also has its volumes and to which it gives them back, and the moments of
-/// requests from `clock`. `trail` is empty at the call; `run` leaves in it what came to the devices and the moments of the requests. The line
-/// that tells a status other than 0 goes to `errors`; a fault there changes nothing.
-pub fn cluster<R: Source, W: Sink, E: Sink, S: Stores, C: Clock>(
+/// where a name is. `serve RING --port P --workers W --connections K --passes M` answers the requests of the connections that come to `doors`, and
+/// writes to `out` once it is listened and once all were served. The ring is read from `stores`, from which `run` and `serve` also have their volumes
+/// and to which they give them back, and the moments of requests from `clock`. `trail` is empty at the call; `run` leaves in it what came to the
+/// devices and the moments of the requests. The line that tells a status other than 0 goes to `errors`; a fault there changes nothing.
+pub fn cluster<R: Source, W: Sink, E: Sink, S: Stores, N: Doors, C: Clock>(
     alloc: Global,
     words: &[String],
     source: &mut R,
     out: &mut W,
     errors: &mut E,
     stores: &mut S,
+    doors: &mut N,
     clock: &mut C,
     trail: &mut Trail,
 ) -> u8
     requires no_steps { trail.old.steps ≡ [] }
     requires no_moments { trail.old.moments ≡ [] }
     requires home { (d s : ℕ) → S.out stores.old d s ≡ false }
+    requires doors { length (N.finished doors.old) ≤ length (N.accepts doors.old) }
 
     // The words are those of no command, and then nothing is read or written.
-    ensures usage { are_run_words (map string_bytes words.now) ≡ false → are_where_words (map string_bytes words.now) ≡ false → (result ≡ statuses.usage) × (source.new ≡ source.old) × (out.new ≡ out.old) × (stores.new ≡ stores.old) × (clock.new ≡ clock.old) × (trail.new ≡ trail.old) }
+    ensures usage { are_run_words (map string_bytes words.now) ≡ false → are_where_words (map string_bytes words.now) ≡ false
+        → ((options : ServeOptionsSeen) → ¬ IsServe (map string_bytes words.now) options) → (result ≡ statuses.usage) × (source.new ≡ source.old) × (out.new ≡ out.old) × (stores.new ≡ stores.old) × (clock.new ≡ clock.old) × (trail.new ≡ trail.old) }
 
     // The replies to the requests of the input, for the ring that the stores have under the name, by the status. The stores are
     // asked for the ring once, then once for each volume, and once more for each whenever its device is restarted.
@@ -61,7 +71,23 @@ pub fn cluster<R: Source, W: Sink, E: Sink, S: Stores, C: Clock>(
         (λ bad. Reports (E.taken errors.old) (E.taken errors.new) (E.faults errors.old) (E.faults errors.new) (line_of_ring bad))
         (λ ring. (S.faults stores.new ≡ S.faults stores.old) × Locates ring (account_word (map string_bytes words.now)) (container_word (map string_bytes words.now)) (object_word (map string_bytes words.now)) (W.taken out.old) (W.taken out.new) (W.faults out.old) (W.faults out.new) result)
         result }
+
+    // The connections that come, for that ring: each is answered, finished with its own status, and then all devices are restarted. Where there was no
+    // memory to read the words, nothing was done. The input isn't read, and no trail kept.
+    ensures served { (options : ServeOptionsSeen) → IsServe (map string_bytes words.now) options → (source.new ≡ source.old) × (trail.new ≡ trail.old)
+        × (((result ≡ statuses.no_memory) × (out.new ≡ out.old) × (stores.new ≡ stores.old) × (doors.new ≡ doors.old) × (clock.new ≡ clock.old))
+        ⊎ EndsWith (S.text stores.old (ring_word (map string_bytes words.now))) (S.faults stores.old) (S.faults stores.new)
+        ((out.new ≡ out.old) × (doors.new ≡ doors.old) × (clock.new ≡ clock.old) × (S.calls stores.new ≡ raised (S.calls stores.old)))
+        (λ bad. Reports (E.taken errors.old) (E.taken errors.new) (E.faults errors.old) (E.faults errors.new) (line_of_ring bad))
+        (λ ring. Serves S.V.tells S.V.holds S.V.faults S.first ring options.port options.connections (S.rests stores.old) (S.rests stores.new)
+        (doors_told N.accepts N.finished N.calls N.faults doors.old) (doors_told N.accepts N.finished N.calls N.faults doors.new)
+        (passage W.taken W.faults out.old out.new) (C.readings clock.old) (C.readings clock.new)
+        (counts S.calls S.faults stores.old) (counts S.calls S.faults stores.new) result)
+        result) }
     ensures line { result ≢ statuses.bad_ring → Reports (E.taken errors.old) (E.taken errors.new) (E.faults errors.old) (E.faults errors.new) (line_of_status result) }
+
+    // Only `serve` has to do with doors.
+    ensures doors { ((options : ServeOptionsSeen) → ¬ IsServe (map string_bytes words.now) options) → doors.new ≡ doors.old }
 
     // `where` asks the stores for the ring once, and for nothing else. At the end of every command they have all volumes.
     ensures asked { are_where_words (map string_bytes words.now) ≡ true → S.calls stores.new ≡ raised (S.calls stores.old) }
@@ -82,8 +108,69 @@ pub fn cluster<R: Source, W: Sink, E: Sink, S: Stores, C: Clock>(
     if is_where(words) {
         return locate(alloc, words, out, errors, stores);
     }
-    report(errors, USAGE);
-    USAGE
+    match read_serve(alloc, words) {
+        Ok(Some(options)) => serve(
+            alloc,
+            ring_of(words),
+            options,
+            out,
+            errors,
+            stores,
+            doors,
+            clock,
+        ),
+        Ok(None) => {
+            report(errors, USAGE);
+            USAGE
+        }
+        Err(NoMemory) => {
+            report(errors, NO_MEMORY);
+            NO_MEMORY
+        }
+    }
+}
+
+/// `serve` with the ring of this name.
+fn serve<W: Sink, E: Sink, S: Stores, N: Doors, C: Clock>(
+    alloc: Global,
+    name: &str,
+    options: ServeOptions,
+    out: &mut W,
+    errors: &mut E,
+    stores: &mut S,
+    doors: &mut N,
+    clock: &mut C,
+) -> u8
+    requires home { (d s : ℕ) → S.out stores.old d s ≡ false }
+    requires doors { length (N.finished doors.old) ≤ length (N.accepts doors.old) }
+    ensures home { (d s : ℕ) → S.out stores.new d s ≡ false }
+    ensures ends { EndsWith (S.text stores.old name.now) (S.faults stores.old) (S.faults stores.new)
+        ((out.new ≡ out.old) × (doors.new ≡ doors.old) × (clock.new ≡ clock.old) × (S.calls stores.new ≡ raised (S.calls stores.old)))
+        (λ bad. Reports (E.taken errors.old) (E.taken errors.new) (E.faults errors.old) (E.faults errors.new) (line_of_ring bad))
+        (λ ring. Serves S.V.tells S.V.holds S.V.faults S.first ring options.port options.connections (S.rests stores.old) (S.rests stores.new)
+        (doors_told N.accepts N.finished N.calls N.faults doors.old) (doors_told N.accepts N.finished N.calls N.faults doors.new)
+        (passage W.taken W.faults out.old out.new) (C.readings clock.old) (C.readings clock.new)
+        (counts S.calls S.faults stores.old) (counts S.calls S.faults stores.new) result)
+        result }
+    ensures line { result ≢ statuses.bad_ring → Reports (E.taken errors.old) (E.taken errors.new) (E.faults errors.old) (E.faults errors.new) (line_of_status result) }
+{
+    match open_ring(alloc, stores, name) {
+        Ok(ring) => {
+            let status = serve_connections(
+                alloc,
+                &ring,
+                options.port,
+                options.connections,
+                out,
+                stores,
+                doors,
+                clock,
+            );
+            report(errors, status);
+            status
+        }
+        Err(fault) => refuse_ring(errors, fault),
+    }
 }
 
 /// `run` with the ring of this name.

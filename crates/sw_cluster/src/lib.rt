@@ -9,16 +9,20 @@
 #![tactic(auto)]
 
 mod command;
+mod connection;
 pub mod laws;
 mod locate;
 mod opening;
+mod rounds;
 mod running;
 mod server;
 mod status;
+mod volumes;
 mod whereabouts;
 mod words;
 
 pub use command::{cluster, report};
+pub use connection::{DoorServer, serve_connection};
 pub use running::run_session;
 pub use server::Nodes;
 pub use status::NO_MEMORY;

@@ -17,6 +17,8 @@ pub const BAD_RING: u8 = 3;
 pub const WRITE_FAULT: u8 = 4;
 /// The ring couldn't be read from the host, or the volume of an object lock not started.
 pub const STORE_FAULT: u8 = 5;
+/// It couldn't be listened, or a connection not be accepted.
+pub const DOOR_FAULT: u8 = 6;
 /// As many requests were answered as one session has at most.
 pub const TOO_LONG: u8 = 7;
 /// The rest of the input is no request.
@@ -49,6 +51,7 @@ pub fn line_of(status: u8) -> &'static [u8]
         USAGE => b"sw: usage\n",
         WRITE_FAULT => b"sw: write fault\n",
         STORE_FAULT => b"sw: store fault\n",
+        DOOR_FAULT => b"sw: door fault\n",
         TOO_LONG => b"sw: session too long\n",
         BAD_INPUT => b"sw: bad input\n",
         NO_MEMORY => b"sw: want of memory\n",

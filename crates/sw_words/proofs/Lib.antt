@@ -1,3 +1,3 @@
 mod Numerals
 mod Pairs
-mod Serving
+pub mod Serving

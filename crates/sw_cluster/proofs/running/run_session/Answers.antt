@@ -1,56 +1,46 @@
-use Rattle.std.proofs.Common.{rules, ◌≡◌, ℕ, ◌*◌, ◌^◌, ◌<◌, ◌≤◌, ◌+◌, length, inr, arith, ap, sym, ◌∙◌, List, subst}
-use Rattle.sw_stores.specs.Volumes.{AreStarted}
-use Rattle.sw_cluster.proofs.Undoing.{given-back, undone}
+use Rattle.std.proofs.Common.{◌≡◌, ◌*◌, ◌^◌, ℕ, length, inl, inr, refl, subst, sym}
+use Rattle.sw_core.specs.Worlds.{AllNodes}
+use Rattle.sw_session.specs.Passages.{passage}
+use Rattle.sw_volume.specs.Volume.{raised_by}
+use Rattle.sw_cluster.specs.Ending.{AreUnstarted, IsRunOver}
 use Rattle.sw_cluster.proofs.running.run_session.Goals as goal
 
-pub returns-in-Err-Failed-clause-run : goal.returns-in-Err-Failed-clause-run
-returns-in-Err-Failed-clause-run g c = inr (record {
-  why = search rules;
-  tried = c.in-Err-Failed.ensures.tried.0;
-  most = search rules;
-  store_calls_are = search rules;
-  resting = undone g.S.Stores.first _ (g.S.Stores.rests c.args.stores.now) (g.S.Stores.rests c.start_range.new.stores)
-      c.in-Err-Failed.ensures.rests c.start_range.ensures.others;
-  nothing_read = search rules;
-  nothing_written = search rules;
-  no_tick = search rules;
-  no_steps = search rules;
-  no_moments = search rules;
-})
-
-pub returns-in-Err-NoMemory-clause-run : goal.returns-in-Err-NoMemory-clause-run
-returns-in-Err-NoMemory-clause-run g c = inr (record {
-  why = search rules;
-  tried = c.in-Err-NoMemory.ensures.tried.0;
-  most = search rules;
-  store_calls_are = search rules;
-  resting = undone g.S.Stores.first _ (g.S.Stores.rests c.args.stores.now) (g.S.Stores.rests c.start_range.new.stores)
-      c.in-Err-NoMemory.ensures.rests c.start_range.ensures.others;
-  nothing_read = search rules;
-  nothing_written = search rules;
-  no_tick = search rules;
-  no_steps = search rules;
-  no_moments = search rules;
-})
+pub returns-in-Ok-clause-run : goal.returns-in-Ok-clause-run
+returns-in-Ok-clause-run g c =
+    let s = g.S.Stores in let v = g.S.V.Volume in let begun = c.in-Ok.ensures.begun in
+    inl (record {
+      volumes = begun.0;
+      started = begun.1;
+      count = begun.2;
+      over = subst (λ (w : AllNodes _). IsRunOver v.tells v.holds v.faults c.args.ring.now w (s.rests c.session.new.stores)
+          (s.faults c.args.stores.now) (s.faults c.session.new.stores)
+          (raised_by (length c.args.ring.now.devices * 2 ^ c.args.ring.now.lock_bits) (s.calls c.args.stores.now)) (s.calls c.session.new.stores)
+          (passage g.R.Source.left g.R.Source.faults c.args.source.now c.session.new.source)
+          (passage g.W.Sink.taken g.W.Sink.faults c.args.out.now c.session.new.out)
+          (g.C.Clock.readings c.args.clock.now) (g.C.Clock.readings c.session.new.clock) c.session.new.trail c.session.result) begun.3
+          (subst (λ (n : ℕ). IsRunOver v.tells v.holds v.faults c.args.ring.now c.in-Ok.world (s.rests c.session.new.stores)
+          (s.faults c.args.stores.now) (s.faults c.session.new.stores) n (s.calls c.session.new.stores)
+          (passage g.R.Source.left g.R.Source.faults c.args.source.now c.session.new.source)
+          (passage g.W.Sink.taken g.W.Sink.faults c.args.out.now c.session.new.out)
+          (g.C.Clock.readings c.args.clock.now) (g.C.Clock.readings c.session.new.clock) c.session.new.trail c.session.result) c.in-Ok.ensures.calls
+          (subst (λ (n : ℕ). IsRunOver v.tells v.holds v.faults c.args.ring.now c.in-Ok.world (s.rests c.session.new.stores)
+          n (s.faults c.session.new.stores) (s.calls c.open_nodes.new.stores) (s.calls c.session.new.stores)
+          (passage g.R.Source.left g.R.Source.faults c.args.source.now c.session.new.source)
+          (passage g.W.Sink.taken g.W.Sink.faults c.args.out.now c.session.new.out)
+          (g.C.Clock.readings c.args.clock.now) (g.C.Clock.readings c.session.new.clock) c.session.new.trail c.session.result) c.in-Ok.ensures.kept
+          c.session.ensures.run));
+    })
 
 pub returns-in-Err-clause-run : goal.returns-in-Err-clause-run
 returns-in-Err-clause-run g c =
-    let back : c.in-Ok.volumes.items ≡ c.in-Err.parts.volumes.items = search rules in
+    let s = g.S.Stores in
     inr (record {
-      why = search rules;
-      tried = length c.args.ring.now.devices * 2 ^ c.args.ring.now.lock_bits;
-      most = search rules;
-      store_calls_are = search rules;
-      resting = given-back g.S.Stores.first _ _ (g.S.Stores.rests c.args.stores.now) (g.S.Stores.rests c.start_range.new.stores)
-          (g.S.Stores.rests c.give_range.new.stores) c.in-Err.parts.volumes.items
-          (sym (ap length back) ∙ c.in-Ok.ensures.count)
-          (subst (λ (vs : List _). AreStarted g.S.Stores.first (g.S.Stores.rests c.args.stores.now) c.stripes-stripes.result 0 vs) back c.in-Ok.ensures.started)
-          c.start_range.ensures.others
-          c.give_range.ensures.rests
-          c.give_range.ensures.others;
-      nothing_read = search rules;
-      nothing_written = search rules;
-      no_tick = search rules;
-      no_steps = search rules;
-      no_moments = search rules;
+      unstarted = subst (AreUnstarted s.first c.args.ring.now (s.rests c.args.stores.now) (s.rests c.open_nodes.new.stores)
+          (s.faults c.args.stores.now) (s.faults c.open_nodes.new.stores) (s.calls c.args.stores.now) (s.calls c.open_nodes.new.stores))
+          (sym c.status_of_start.ensures) c.in-Err.ensures.unstarted;
+      nothing_read = (refl, refl);
+      nothing_written = (refl, refl);
+      no_tick = refl;
+      no_steps = c.requires.no_steps;
+      no_moments = c.requires.no_moments;
     })

@@ -3,7 +3,7 @@ use Rattle.sw_core.specs.Stopping.{gap_first, gap_past}
 use Rattle.sw_stores.specs.Places.{ComeHome, IsSameBut, at_place, is_around}
 use Rattle.sw_stores.specs.Volumes.{AreResting}
 use Rattle.sw_cluster.proofs.Resting.{all-home, gap-same, rests-each}
-use Rattle.sw_cluster.proofs.running.give_back.Goals as goal
+use Rattle.sw_cluster.proofs.volumes.give_back.Goals as goal
 
 abbrev of_four : (P : ℕ → ℕ → ℕ → ℕ → Type 0) (a b c d e f g h : ℕ) → a ≡ e → b ≡ f → c ≡ g → d ≡ h → P a b c d → P e f g h
 of_four P a b c d e f g h p q r s x =

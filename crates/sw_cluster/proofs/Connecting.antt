@@ -1,0 +1,171 @@
+-- What a connection over a door leaves of its nodes, and how it follows from the session over its server.
+use Rattle.std.proofs.Common.{◌≡◌, ℕ, ◌≤◌, Bool, true, false, List, [], ◌∷◌, Option, Some, All, length, MatchBool, refl, sym, ◌∙◌, ap, subst, inl, inr, ◌⊎◌, MutBor, Result}
+use Rattle.std.specs.Bool.{⊤}
+use Rattle.std.proofs.lemmas.List.Elements.{All-nil, All-cons}
+use Rattle.sw_control.specs.Asking.{is_control}
+use Rattle.sw_message.specs.declared.request.Request.{Request}
+use Rattle.sw_message.specs.declared.response.Response.{Response}
+use Rattle.sw_object_server.specs.Replies.{bare}
+use Rattle.sw_object_server.specs.Serving as objects
+use Rattle.sw_outside.specs.Readings.{TicksEach}
+use Rattle.sw_peer.specs.Sights.{Nodes, Sight}
+use Rattle.sw_replica_server.specs.Serving as replicas
+use Rattle.sw_replica_server.specs.Targets.{is_replication_of}
+use Rattle.sw_ring.specs.declared.ring.Ring.{Ring}
+use Rattle.sw_session.proofs.Mapping.{session-keeps, session-mapped}
+use Rattle.sw_session.specs.Closing.{asks_to_close_of}
+use Rattle.sw_session.specs.Passages.{Passage}
+use Rattle.sw_session.specs.Session.{IsSession}
+use Rattle.sw_session.specs.declared.server.ServerFault.{ServerFault}
+use Rattle.sw_session.specs.declared.session.SessionFault.{SessionFault}
+use Rattle.sw_cluster.proofs.Comparing.{answered-stays, given_up-stays}
+use Rattle.sw_cluster.proofs.Controlling.{on_true}
+use Rattle.sw_cluster.proofs.Going.{Goes, goes-join, goes-same}
+use Rattle.sw_cluster.proofs.Readying.{part_hash}
+use Rattle.sw_cluster.proofs.RunningLemmas.{answered_goes, answered_nodes, left_goes, left_nodes}
+use Rattle.sw_cluster.proofs.Serving.{on_false}
+use Rattle.sw_cluster.specs.Connections.{AreNodesOf, DoorAnswers, IsConnection, NeverHalts}
+use Rattle.sw_cluster.specs.Ending.{status_by}
+use Rattle.sw_cluster.specs.declared.connection.DoorServer.{DoorServer}
+
+abbrev pub ring_in : {D : Type 0} → DoorServer D → Ring
+ring_in s = s.ring.now
+
+abbrev pub door_in : {D : Type 0} → DoorServer D → MutBor D
+door_in s = s.door
+
+-- a clock that stands still gives one reading each time
+pub still-each : (now : ℕ) (readings : List ℕ) (after : Option (List ℕ)) → TicksEach (Some (now ∷ [])) after readings → All (λ m. m ≡ now) readings
+still-each now [] after ticks = All-nil (λ (m : ℕ). m ≡ now)
+still-each now (reading ∷ readings) after ticks =
+    All-cons (λ (m : ℕ). m ≡ now) reading readings ticks.1.0
+    (still-each now readings after (subst (λ (o : Option (List ℕ)). TicksEach o after readings) ticks.1.1 ticks.2))
+
+module _ {D : Type 0} (sight : D → Sight) (ring : Ring) where
+  -- ---- one request
+
+  module _ (old new : D) (r : Request) (moment : ℕ) (response : Response) where
+    -- the nodes are those that were there
+    pub answers-nodes : DoorAnswers sight ring old r moment response new → (sight new).nodes ≡ (sight old).nodes
+    answers-nodes answers = by (is_control r.path) (is_replication_of r) answers
+      where
+        by : (control replication : Bool) → MatchBool control ((new ≡ old) × ((response ≡ bare 404) ⊎ (response ≡ bare 500)))
+            (MatchBool replication
+            (replicas.IsAnswered sight old new ring r response ⊎ ((response ≡ bare 500) × replicas.IsGivenUp sight old new ring r))
+            (objects.IsAnswered sight old new ring r moment response ⊎ ((response ≡ bare 500) × objects.IsGivenUp sight old new ring r moment)))
+            → (sight new).nodes ≡ (sight old).nodes
+        by true replication same = ap (λ (d : D). (sight d).nodes) same.0
+        by false true (inl answered) = (answered-stays sight ring r old new response answered).nodes
+        by false true (inr left) = (given_up-stays sight ring r old new left.1).nodes
+        by false false (inl answered) = answered_nodes sight ring old new r moment response answered
+        by false false (inr left) = left_nodes sight ring old new r moment left.1
+
+    pub answers-replicas : is_control r.path ≡ false → is_replication_of r ≡ true
+        → replicas.IsAnswered sight old new ring r response ⊎ ((response ≡ bare 500) × replicas.IsGivenUp sight old new ring r)
+        → DoorAnswers sight ring old r moment response new
+    answers-replicas nodes is said = on_false _ _ (is_control r.path) nodes (on_true _ _ (is_replication_of r) is said)
+
+    pub answers-objects : is_control r.path ≡ false → is_replication_of r ≡ false
+        → objects.IsAnswered sight old new ring r moment response ⊎ ((response ≡ bare 500) × objects.IsGivenUp sight old new ring r moment)
+        → DoorAnswers sight ring old r moment response new
+    answers-objects nodes is said = on_false _ _ (is_control r.path) nodes (on_false _ _ (is_replication_of r) is said)
+
+  module _ (d : D) (r : Request) (moment : ℕ) (response : Response) where
+    pub not-found : is_control r.path ≡ true → response ≡ bare 404 → DoorAnswers sight ring d r moment response d
+    not-found is reply = on_true _ _ (is_control r.path) is (refl, inl reply)
+
+    -- it was answered by want of memory before anything was done with it
+    pub unanswered : response ≡ bare 500 → DoorAnswers sight ring d r moment response d
+    unanswered reply = by (is_control r.path) (is_replication_of r)
+      where
+        by : (control replication : Bool) → MatchBool control ((d ≡ d) × ((response ≡ bare 404) ⊎ (response ≡ bare 500)))
+            (MatchBool replication
+            (replicas.IsAnswered sight d d ring r response ⊎ ((response ≡ bare 500) × replicas.IsGivenUp sight d d ring r))
+            (objects.IsAnswered sight d d ring r moment response ⊎ ((response ≡ bare 500) × objects.IsGivenUp sight d d ring r moment)))
+        by true replication = (refl, inr reply)
+        by false true = inr (reply, inl refl)
+        by false false = inr (reply, inl refl)
+
+  pub ready-on : (old new : D) (r : Request) (moment : ℕ) (response : Response) → AreNodesOf ring (sight old).nodes
+      → DoorAnswers sight ring old r moment response new → AreNodesOf ring (sight new).nodes
+  ready-on old new r moment response ready answers = subst (AreNodesOf ring) (sym (answers-nodes old new r moment response answers)) ready
+
+  -- ---- a connection
+
+  module _ (P : D → Type 0) (keeps : (old : D) (r : Request) (moment : ℕ) (response : Response) (new : D) → P old
+      → DoorAnswers sight ring old r moment response new → P new) where
+    -- what each reply keeps of the door, a connection keeps
+    pub connection-keeps : (moment : ℕ) (old : D) (source sink : Passage) (new : D) (status : ℕ) → P old
+        → IsConnection sight ring moment old source sink new status → P new
+    connection-keeps moment old source sink new status p c =
+        session-keeps asks_to_close_of (DoorAnswers sight ring) NeverHalts P keeps (λ before r m fault after q halt. absurd halt)
+        old source sink c.moments new c.ends.ended p c.ends.session
+
+  pub connection-nodes : (moment : ℕ) (old : D) (source sink : Passage) (new : D) (status : ℕ) → IsConnection sight ring moment old source sink new status
+      → (sight new).nodes ≡ (sight old).nodes
+  connection-nodes moment old source sink new status c =
+      connection-keeps (λ (d : D). (sight d).nodes ≡ (sight old).nodes)
+      (λ before r m response after same answers. answers-nodes before after r m response answers ∙ same) moment old source sink new status refl c
+
+  -- the session over a server that has a ring and a door
+  module _ {N : Type 0} (ring_of : N → Ring) (door_of : N → MutBor D) where
+    abbrev pub ServesBy : N → Request → ℕ → Response → N → Type 0
+    ServesBy old r moment response new = (ring_of new ≡ ring_of old) × ((door_of new).ghost_name ≡ (door_of old).ghost_name)
+        × DoorAnswers sight (ring_of old) (door_of old).now r moment response (door_of new).now
+
+    abbrev pub HaltsBy : N → Request → ℕ → ServerFault → N → Type 0
+    HaltsBy old r moment fault new = NeverHalts (door_of old).now r moment fault (door_of new).now
+
+    module _ (start : N) (source sink : Passage) (moments : List ℕ) (after : N) (result : Result ⊤ SessionFault) (same : ring_of start ≡ ring)
+        (session : IsSession asks_to_close_of ServesBy HaltsBy start source sink moments after result) where
+      abbrev IsOurs : N → Type 0
+      IsOurs n = (ring_of n ≡ ring) × ((door_of n).ghost_name ≡ (door_of start).ghost_name)
+
+      ours-on : (old : N) (r : Request) (moment : ℕ) (response : Response) (new : N) → IsOurs old → ServesBy old r moment response new → IsOurs new
+      ours-on old r moment response new p answer = (answer.0 ∙ p.0, answer.1 ∙ p.1)
+
+      pub same-door : (door_of after).ghost_name ≡ (door_of start).ghost_name
+      same-door = (session-keeps asks_to_close_of ServesBy HaltsBy IsOurs ours-on (λ before r m fault then p halt. absurd halt)
+          start source sink moments after result (same, refl) session).1
+
+      pub connection-of : (moment status : ℕ) → All (λ m. m ≡ moment) moments → status ≡ status_by result
+          → IsConnection sight ring moment (door_of start).now source sink (door_of after).now status
+      connection-of moment status still status_is = record {
+        moments = moments;
+        still = still;
+        ends = record {
+          ended = result;
+          status_is = status_is;
+          session = session-mapped asks_to_close_of ServesBy HaltsBy IsOurs ours-on (DoorAnswers sight ring) NeverHalts (λ (n : N). (door_of n).now)
+              (λ old r m response new p answer.
+              subst (λ (x : Ring). DoorAnswers sight x (door_of old).now r m response (door_of new).now) p.0 answer.2)
+              (λ old r m fault new p halt. halt) start source sink moments after result (same, refl) session;
+        };
+      }
+
+-- ---- a run goes on by a connection
+
+module _ {D : Type 0} (sight : D → Sight) (alone : (d : D) → (sight d).alone ≡ true) (ring : Ring) where
+  answers-go : (old new : D) (r : Request) (moment : ℕ) (response : Response) → (sight old).nodes.power ≡ ring.power
+      → DoorAnswers sight ring old r moment response new → Goes (sight old) (sight new)
+  answers-go old new r moment response power answers = by (is_control r.path) (is_replication_of r) answers
+    where
+      by : (control replication : Bool) → MatchBool control ((new ≡ old) × ((response ≡ bare 404) ⊎ (response ≡ bare 500)))
+          (MatchBool replication
+          (replicas.IsAnswered sight old new ring r response ⊎ ((response ≡ bare 500) × replicas.IsGivenUp sight old new ring r))
+          (objects.IsAnswered sight old new ring r moment response ⊎ ((response ≡ bare 500) × objects.IsGivenUp sight old new ring r moment)))
+          → Goes (sight old) (sight new)
+      by true replication same = goes-same (sight old) (sight new) (ap sight same.0)
+      by false true (inl answered) =
+          (answered-stays sight ring r old new response answered).goes (alone new) (part_hash ring (sight old).nodes.power power)
+      by false true (inr left) = (given_up-stays sight ring r old new left.1).goes (alone new) (part_hash ring (sight old).nodes.power power)
+      by false false (inl answered) = answered_goes sight alone ring old new r moment response answered
+      by false false (inr left) = left_goes sight alone ring old new r moment left.1
+
+  pub connection-goes : (moment : ℕ) (old : D) (source sink : Passage) (new : D) (status : ℕ) → (sight old).nodes.power ≡ ring.power
+      → IsConnection sight ring moment old source sink new status → Goes (sight old) (sight new)
+  connection-goes moment old source sink new status power c =
+      connection-keeps sight ring (λ (d : D). Goes (sight old) (sight d))
+      (λ before r m response after so_far answers. goes-join (sight old) (sight before) (sight after) so_far
+      (answers-go before after r m response (ap (λ (n : Nodes). n.power) so_far.nodes ∙ power) answers))
+      moment old source sink new status (goes-same (sight old) (sight old) refl) c

@@ -1,0 +1,178 @@
+-- What connections that were served leave: a run of the machine, and files that stand for what reached in it.
+use Rattle.std.proofs.Common.{◌≡◌, ℕ, zero, suc, ◌*◌, ◌^◌, ◌<◌, Bool, true, false, not, ◌&&◌, List, [], ◌∷◌, length, Option, None, Some, Result, Ok, Err, ◌⊎◌, inl, inr}
+use Rattle.std.proofs.Common.{refl, sym, ◌∙◌, ap, subst}
+use Rattle.std.specs.Bool.{⊤}
+use Rattle.std.specs.List.{slice_get}
+use Rattle.std.proofs.lemmas.List.{length-map}
+use Rattle.sw_core.specs.Doors.{StandsFor}
+use Rattle.sw_core.specs.Machine.{Machine, Runs, machine_of}
+use Rattle.sw_core.specs.Worlds.{AllNodes, IsWorld, nodes_of, opened, shown, sight_of, without_lines}
+use Rattle.sw_core.specs.declared.slot.Slot.TheVariants as slots
+use Rattle.sw_objdir.specs.Directories.{Kept}
+use Rattle.sw_peer.specs.Journals.{Hash}
+use Rattle.sw_peer.specs.Sights.{Nodes as SightNodes, Sight}
+use Rattle.sw_quiet.specs.Quiet.{quiet_sight_of}
+use Rattle.sw_ring.specs.declared.ring.Ring.{Ring}
+use Rattle.sw_session.specs.Passages.{Passage}
+use Rattle.sw_stores.specs.Places.{at_place}
+use Rattle.sw_volume.specs.Tree.{Folders}
+use Rattle.sw_cluster.proofs.Connecting.{connection-goes, connection-nodes}
+use Rattle.sw_cluster.proofs.Going.{Goes, goes-join, goes-same, restart-goes}
+use Rattle.sw_cluster.proofs.Serving.{goes_on}
+use Rattle.sw_cluster.proofs.Storing.{out-is, rests-before, stands-begun, stored}
+use Rattle.sw_cluster.specs.Ending.{AllTold, IsStored}
+use Rattle.sw_cluster.specs.Leaving.{AreLeft, IsOut}
+use Rattle.sw_cluster.specs.Nodes.{IsReady, out_but, places_at, places_of}
+use Rattle.sw_cluster.specs.Rounds.{Counts, DoorsTold, EndsServing, HasServed, IsServed, RestartsDevice, RestartsFirst, Round, ServesAll, ServesOne, StopsRestarting, StopsWaiting, read_in, written_in}
+use Rattle.sw_cluster.specs.declared.rounds.ServeFault.{ServeFault}
+use Rattle.sw_cluster.specs.declared.rounds.ServeFault.TheVariants as serve_faults
+
+module _ {V : Type 0} (tells : V → Bool) (files : V → Folders) (faults : V → ℕ) (ring : Ring) where
+  abbrev pub see : AllNodes V → Sight
+  see w = quiet_sight_of tells files faults w
+
+  -- ---- a run goes on
+
+  power-on : (w after : AllNodes V) → w.power ≡ ring.power → Goes (see w) (see after) → after.power ≡ ring.power
+  power-on w after power goes = ap (λ (n : SightNodes). n.power) goes.nodes ∙ power
+
+  restarted-goes : (w after : AllNodes V) (device : ℕ) → RestartsDevice tells files faults ring device w after → Goes (see w) (see after)
+  restarted-goes w after device again = restart-goes tells files faults w again.mid after device again.given again.up again.down
+
+  first-go : (n : ℕ) (w after : AllNodes V) → RestartsFirst tells files faults ring n w after → Goes (see w) (see after)
+  first-go zero w after same = goes-same (see w) (see after) (ap see same)
+  first-go (suc n) w after again = goes-join (see w) (see again.0) (see after) (first-go n w again.0 again.1) (restarted-goes again.0 after n again.2)
+
+  all-go : (w after : AllNodes V) (rounds : List Round) → w.power ≡ ring.power → ServesAll tells files faults ring w rounds after → Goes (see w) (see after)
+  all-go w after [] power same = goes-same (see w) (see after) (ap see same)
+  all-go w after (round ∷ rounds) power serves =
+      let one = connection-goes see (λ w. refl) ring round.moment w _ _ serves.0 _ power serves.2 in
+      let round_goes = goes-join (see w) (see serves.0) (see serves.1) one (first-go (length ring.devices) serves.0 serves.1 serves.3) in
+      goes-join (see w) (see serves.1) (see after) round_goes (all-go serves.1 after rounds (power-on w serves.1 power round_goes) serves.4)
+
+  module _ (began after : AllNodes V) (power : began.power ≡ ring.power) (a b : DoorsTold) (t u : Option (List ℕ)) (s x : Counts) (connections : ℕ) where
+    waiting-goes : StopsWaiting tells files faults ring connections began after a b t u s x → Goes (see began) (see after)
+    waiting-goes w = all-go began after w.rounds power w.serves
+
+    restarting-goes : StopsRestarting tells files faults ring connections began after a b t u s x → Goes (see began) (see after)
+    restarting-goes w =
+        let first = all-go began w.then w.rounds power w.serves in
+        let one = connection-goes see (λ w. refl) ring w.last.moment w.then _ _ w.served _ (power-on began w.then power first) w.one in
+        goes-join (see began) (see w.then) (see after) first
+        (goes-join (see w.then) (see w.served) (see after) one (first-go w.device w.served after w.restarted))
+
+    served-goes : (result : Result ⊤ ServeFault) → IsServed tells files faults ring connections began after a b t u s x result → Goes (see began) (see after)
+    served-goes (Ok done) served = all-go began after served.rounds power served.serves
+    served-goes (Err serve_faults.Door) served = waiting-goes served.0
+    served-goes (Err serve_faults.Store) served = restarting-goes served.0
+    served-goes (Err serve_faults.NoMemory) (inl waits, d, e) = waiting-goes waits
+    served-goes (Err serve_faults.NoMemory) (inr stops, d, e) = restarting-goes stops
+    served-goes (Err serve_faults.Write) served = absurd served
+
+  pub ends-go : (port connections : ℕ) (began after : AllNodes V) (a b : DoorsTold) (out : Passage) (t u : Option (List ℕ)) (s x : Counts)
+      (ended : Result ⊤ ServeFault) → began.power ≡ ring.power → EndsServing tells files faults ring port connections began after a b out t u s x ended
+      → Goes (see began) (see after)
+  ends-go port connections began after a b out t u s x ended power (inl deaf) = goes-same (see began) (see after) (ap see deaf.nothing_came)
+  ends-go port connections began after a b out t u s x ended power (inr (inl mute)) = goes-same (see began) (see after) (ap see mute.nothing_came)
+  ends-go port connections began after a b out t u s x ended power (inr (inr over)) =
+      served-goes began after power _ b t u s x connections over.came over.served
+
+  -- the nodes are ready for what comes behind a connection
+  pub ready-after : {S : Type 0} (out : S → ℕ → ℕ → Bool) (w after : AllNodes V) (stores : S) (round : Round) → IsReady out ring w stores
+      → ServesOne tells files faults ring w round after → IsReady out ring after stores
+  ready-after out w after stores round ready one =
+      goes_on tells files faults out ring w after stores ready (connection-nodes see ring round.moment w (read_in round) (written_in round) after round.finished.status one)
+
+  -- ---- how the nodes are left
+
+  swap-and : (a b : Bool) → (not a && b) ≡ (b && not a)
+  swap-and true true = refl
+  swap-and true false = refl
+  swap-and false true = refl
+  swap-and false false = refl
+
+  none-lifted : (device : ℕ) → None ≡ Some device → ⊥
+  none-lifted device is = cc
+
+  some-is : {A : Type 0} {x y : A} → Some x ≡ Some y → x ≡ y
+  some-is is = cc
+
+  module _ {S : Type 0} (store_calls : S → ℕ) (rests : S → ℕ → ℕ → Option V) (out : S → ℕ → ℕ → Bool) where
+    -- what giving their volumes back asks for
+    pub record CanBeGiven (w : AllNodes V) (stores : S) : Type 0 where
+      pub devices : w.devices ≡ length ring.devices
+      pub lock_bits : w.lock_bits ≡ ring.lock_bits
+      pub lifted : (device : ℕ) → w.lifted ≡ Some device → device < length ring.devices
+      pub are_out : (d s : ℕ) → out stores d s ≡ out_but ring w.lifted d s
+
+    whole-given : (w : AllNodes V) (stores : S) → IsReady out ring w stores → CanBeGiven w stores
+    whole-given w stores ready = record {
+      devices = ready.devices;
+      lock_bits = ready.lock_bits;
+      lifted = λ device is. absurd (none-lifted device (sym ready.whole ∙ is));
+      are_out = λ d s. ready.are_out d s ∙ sym (ap (λ (o : Option ℕ). out_but ring o d s) ready.whole);
+    }
+
+    out-given : (whole w : AllNodes V) (stores : S) → IsOut tells files faults store_calls rests out ring whole w stores → CanBeGiven w stores
+    out-given whole w stores is =
+        let up = is.fails.up in
+        let lifted : w.lifted ≡ Some is.device = ap (λ (x : AllNodes V). x.lifted) up.rest in
+        record {
+          devices = ap (λ (x : AllNodes V). x.devices) up.rest ∙ is.ready.devices;
+          lock_bits = ap (λ (x : AllNodes V). x.lock_bits) up.rest ∙ is.ready.lock_bits;
+          lifted = λ device same. subst (λ (d : ℕ). d < length ring.devices) (some-is (sym lifted ∙ same))
+              (subst (λ (n : ℕ). is.device < n) is.ready.devices up.is_device);
+          are_out = λ d s. is.fails.home d s ∙ (ap (λ (b : Bool). not (places_at ring is.device d s) && b) (is.ready.are_out d s)
+              ∙ (swap-and (places_at ring is.device d s) (places_of ring d s) ∙ sym (ap (λ (o : Option ℕ). out_but ring o d s) lifted)));
+        }
+
+    pub left-given : (whole w : AllNodes V) (stores : S) → AreLeft tells files faults store_calls rests out ring whole w stores → CanBeGiven w stores
+    left-given whole w stores (inl (same, ready)) =
+        subst (λ (x : AllNodes V). CanBeGiven x stores) (sym same) (whole-given whole stores ready)
+    left-given whole w stores (inr is) = out-given whole w stores is
+
+    -- ---- what rests
+
+    module _ (whole w : AllNodes V) (stores : S) (rests_now : ℕ → ℕ → Option V) (is : IsWorld w)
+        (resting : (l : ℕ) (k : Kept V) → slice_get w.slots l ≡ Some (slots.Open k) → at_place rests_now (2 ^ ring.lock_bits) l ≡ Some k.volume)
+        (same_out : (device : ℕ) → w.lifted ≡ Some device → (d s : ℕ) → places_at ring device d s ≡ true → rests_now d s ≡ rests stores d s)
+        (machine : Machine) (stands : StandsFor (see whole) machine) where
+      abbrev AllStored : Type 0
+      AllStored = (device : ℕ) (hash : Hash) → device < length ring.devices → IsStored tells files faults ring machine rests_now device hash
+
+      plainly : StandsFor (sight_of tells files faults whole) machine
+      plainly = record { states = stands.states; seen = stands.seen; told = stands.told }
+
+      pub left-stored : AreLeft tells files faults store_calls rests out ring whole w stores → AllStored
+      left-stored (inl (same, ready)) =
+          stored tells files faults ring whole (subst (λ (x : AllNodes V). IsWorld x) same is) ready.whole ready.nodes machine plainly rests_now
+          (λ l k at. resting l k (ap (λ (x : AllNodes V). slice_get x.slots l) same ∙ at))
+      left-stored (inr gone) =
+          stored tells files faults ring whole gone.fails.up.world gone.fails.up.whole gone.ready.nodes machine plainly rests_now
+          (rests-before tells files faults ring whole w gone.ready.lock_bits gone.device gone.fails.given gone.fails.up (rests stores) rests_now
+          gone.fails.resting resting same_out)
+
+  -- where all locks tell what they hold, the nodes stand for the machine that holds it, which nothing reached yet
+  pub begun-stands : (volumes : List V) → length volumes ≡ length ring.devices * 2 ^ ring.lock_bits → AllTold tells files faults ring (opened ring volumes)
+      → StandsFor (see (opened ring volumes)) (machine_of (see (opened ring volumes)))
+  begun-stands volumes count told =
+      let stands = stands-begun tells files faults ring (opened ring volumes) refl refl (length-map volumes _ ∙ count) told in
+      record { states = stands.states; seen = stands.seen; told = stands.told }
+
+  -- what was served, once the volumes were given back
+  module _ {S : Type 0} (store_calls : S → ℕ) (rests : S → ℕ → ℕ → Option V) (out : S → ℕ → ℕ → Bool) (volumes : List V)
+      (count : length volumes ≡ length ring.devices * 2 ^ ring.lock_bits) (whole w : AllNodes V) (stores : S)
+      (left : AreLeft tells files faults store_calls rests out ring whole w stores) (goes : Goes (see (opened ring volumes)) (see whole))
+      (rests_now : ℕ → ℕ → Option V) (is : IsWorld w)
+      (resting : (l : ℕ) (k : Kept V) → slice_get w.slots l ≡ Some (slots.Open k) → at_place rests_now (2 ^ ring.lock_bits) l ≡ Some k.volume)
+      (same_out : (device : ℕ) → w.lifted ≡ Some device → (d s : ℕ) → places_at ring device d s ≡ true → rests_now d s ≡ rests stores d s) where
+    pub has-served : AllTold tells files faults ring (opened ring volumes) → HasServed tells files faults ring (opened ring volumes) whole rests_now
+    has-served told =
+        let went = goes.on (machine_of (see (opened ring volumes))) (begun-stands volumes count told) in
+        record {
+          lines = went.0;
+          machine = went.1.after;
+          run = went.1.run;
+          stands = went.1.stands;
+          stored = left-stored store_calls rests out whole w stores rests_now is resting same_out went.1.after went.1.stands left;
+        }

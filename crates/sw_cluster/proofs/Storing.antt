@@ -1,0 +1,151 @@
+-- What a world stands for where nothing has happened, and what the files of its volumes stand for where they rest.
+use Rattle.std.proofs.Common.{◌≡◌, ℕ, ◌+◌, ◌-◌, ◌*◌, ◌/◌, ◌%◌, ◌^◌, ◌<◌, ◌≤◌, Bool, true, List, length, arith, Option, Some, None}
+use Rattle.std.proofs.Common.{refl, sym, ◌∙◌, ap, subst, ◌⊎◌, inl, inr}
+use Rattle.std.specs.List.{slice_get}
+use Rattle.std.proofs.lemmas.Bool.{cases_lt}
+use Rattle.std.proofs.lemmas.Nat.{div-mul-add, mod-mul-add, pow_pos, rows}
+use Rattle.std.proofs.lemmas.Option.{slice_get_past}
+use Rattle.sw_hashpath.specs.HashParts.{partition_of}
+use Rattle.sw_hashdir.specs.Places.{holds}
+use Rattle.sw_objdir.proofs.Looking.{held-told}
+use Rattle.sw_objdir.specs.Directories.{Kept}
+use Rattle.sw_peer.specs.Journals.{Hash}
+use Rattle.sw_peer.specs.Sights.{Nodes as SightNodes}
+use Rattle.sw_ring.specs.declared.ring.Ring.{Ring}
+use Rattle.sw_state.proofs.StateLaws.{state_of-writes_of}
+use Rattle.sw_stores.proofs.AtPlaces.{resting-at}
+use Rattle.sw_stores.specs.Places.{at_place}
+use Rattle.sw_stores.specs.Volumes.{AreResting}
+use Rattle.sw_volume.specs.Tree.{Folders}
+use Rattle.sw_core.proofs.Placed.{stripe-below}
+use Rattle.sw_core.proofs.Wholes.{open-at}
+use Rattle.sw_core.specs.Doors.{StandsFor}
+use Rattle.sw_core.specs.Machine.{Machine, machine_of, state}
+use Rattle.sw_core.specs.Worlds.{AllNodes, AreLifted, HasLimits, IsWorld, Lifts, first_of, held_of, lock_of, nodes_of, past_of, seen_of, shown, sight_of, stripe_at}
+use Rattle.sw_core.specs.declared.slot.Slot.{Slot}
+use Rattle.sw_core.specs.declared.slot.Slot.TheVariants as slots
+use Rattle.sw_cluster.proofs.Resting.{among-place}
+use Rattle.sw_cluster.specs.Ending.{AllTold, IsStored}
+use Rattle.sw_cluster.specs.Nodes.{places_at}
+
+-- a world none of whose devices is out has as many as are shown
+pub same-devices : (lifted : Option ℕ) (devices n : ℕ) → lifted ≡ None → shown lifted devices ≡ n → devices ≡ n
+same-devices lifted devices n whole is = sym (ap (λ (o : Option ℕ). shown o devices) whole) ∙ is
+
+module _ {V : Type 0} (tells : V → Bool) (files : V → Folders) (faults : V → ℕ) (ring : Ring) where
+  lock-same : (w : AllNodes V) → w.lock_bits ≡ ring.lock_bits → w.power ≡ ring.power → (device : ℕ) (hash : Hash)
+      → lock_of w.lock_bits w.power device hash ≡ lock_of ring.lock_bits ring.power device hash
+  lock-same w bits power device hash = ap (λ (b : ℕ). lock_of b w.power device hash) bits ∙ ap (λ (p : ℕ). lock_of ring.lock_bits p device hash) power
+
+  -- ---- how a run begins
+
+  -- where all locks tell what they hold, the nodes stand for the machine that holds it
+  pub stands-begun : (w : AllNodes V) → w.lock_bits ≡ ring.lock_bits → w.power ≡ ring.power → length w.slots ≡ length ring.devices * 2 ^ ring.lock_bits
+      → AllTold tells files faults ring w
+      → StandsFor (sight_of tells files faults w) (machine_of (sight_of tells files faults w))
+  stands-begun w bits power count told = record {
+    states = λ device hash. sym (state_of-writes_of (held_of tells files faults (slice_get w.slots (lock_of w.lock_bits w.power device hash)) hash));
+    seen = λ l. refl;
+    told = λ device hash.
+        subst (λ (l : ℕ). (seen_of tells files faults (slice_get w.slots l)).told ≡ true) (sym (lock-same w bits power device hash))
+        (each device hash (cases_lt device (length ring.devices)));
+  }
+    where
+      each : (device : ℕ) (hash : Hash) → (device < length ring.devices) ⊎ (length ring.devices ≤ device)
+          → (seen_of tells files faults (slice_get w.slots (lock_of ring.lock_bits ring.power device hash))).told ≡ true
+      each device hash (inl here) = told device hash here
+      each device hash (inr past) =
+          let beyond : length w.slots ≤ lock_of ring.lock_bits ring.power device hash = rw count (further device (length ring.devices) past) in
+          ap (λ (o : Option (Slot V)). (seen_of tells files faults o).told) (slice_get_past w.slots (lock_of ring.lock_bits ring.power device hash) beyond)
+        where
+          further : (d n : ℕ) → n ≤ d → n * 2 ^ ring.lock_bits ≤ d * 2 ^ ring.lock_bits + stripe_at ring.lock_bits ring.power (partition_of hash ring.power)
+          further d n h = grind (arith, rows)
+
+  -- ---- what rests
+
+  -- a world that stands for a machine, none of whose devices is out, and whose volumes came to rest at the places of their locks
+  module _ (w : AllNodes V) (is : IsWorld w) (whole : w.lifted ≡ None)
+      (nodes : nodes_of (shown w.lifted w.devices) w.lock_bits w.power w.secrets ≡ nodes_of (length ring.devices) ring.lock_bits ring.power ring.secrets)
+      (machine : Machine) (stands : StandsFor (sight_of tells files faults w) machine) (rests : ℕ → ℕ → Option V)
+      (resting : (l : ℕ) (k : Kept V) → slice_get w.slots l ≡ Some (slots.Open k) → at_place rests (2 ^ ring.lock_bits) l ≡ Some k.volume) where
+    devices-are : w.devices ≡ length ring.devices
+    devices-are = same-devices w.lifted w.devices (length ring.devices) whole (ap (λ (n : SightNodes). n.devices) nodes)
+
+    bits-are : w.lock_bits ≡ ring.lock_bits
+    bits-are = ap (λ (n : SightNodes). n.lock_bits) nodes
+
+    power-are : w.power ≡ ring.power
+    power-are = ap (λ (n : SightNodes). n.power) nodes
+
+    pub stored : (device : ℕ) (hash : Hash) → device < length ring.devices → IsStored tells files faults ring machine rests device hash
+    stored device hash here = by (open-at w is whole (lock_of ring.lock_bits ring.power device hash) within)
+      where
+        low : stripe_at ring.lock_bits ring.power (partition_of hash ring.power) < 2 ^ ring.lock_bits
+        low = stripe-below ring.lock_bits ring.power (partition_of hash ring.power)
+
+        within : lock_of ring.lock_bits ring.power device hash < length w.slots
+        within = rw (is.count, devices-are, bits-are) (under device (length ring.devices) (stripe_at ring.lock_bits ring.power (partition_of hash ring.power))
+            (2 ^ ring.lock_bits) here low)
+          where
+            under : (d n s b : ℕ) → d < n → s < b → d * b + s < n * b
+            under d n s b h g = grind (arith, rows)
+
+        by : (k : Kept V) × (slice_get w.slots (lock_of ring.lock_bits ring.power device hash) ≡ Some (slots.Open k)) × (k.secrets ≡ w.secrets) × (k.power ≡ w.power)
+            × HasLimits k
+            → IsStored tells files faults ring machine rests device hash
+        by there =
+            let told : (seen_of tells files faults (Some (slots.Open there.0))).told ≡ true =
+            subst (λ (o : Option (Slot V)). (seen_of tells files faults o).told ≡ true) there.1
+            (subst (λ (l : ℕ). (seen_of tells files faults (slice_get w.slots l)).told ≡ true) (lock-same w bits-are power-are device hash) (stands.told device hash)) in
+            let held : held_of tells files faults (Some (slots.Open there.0)) hash ≡ state machine device hash =
+            subst (λ (o : Option (Slot V)). held_of tells files faults o hash ≡ state machine device hash) there.1
+            (subst (λ (l : ℕ). held_of tells files faults (slice_get w.slots l) hash ≡ state machine device hash) (lock-same w bits-are power-are device hash)
+            (stands.states device hash)) in
+            let secrets : there.0.secrets ≡ ring.secrets = there.2 ∙ ap (λ (n : SightNodes). n.secrets) nodes in
+            let power : there.0.power ≡ ring.power = there.3 ∙ ap (λ (n : SightNodes). n.power) nodes in
+            record {
+              volume = there.0.volume;
+              resting = subst (λ (s : ℕ). rests device s ≡ Some there.0.volume)
+                  (mod-mul-add device (2 ^ ring.lock_bits) (stripe_at ring.lock_bits ring.power (partition_of hash ring.power)) low)
+                  (subst (λ (d : ℕ). rests d (lock_of ring.lock_bits ring.power device hash % 2 ^ ring.lock_bits) ≡ Some there.0.volume)
+                  (div-mul-add device (2 ^ ring.lock_bits) (stripe_at ring.lock_bits ring.power (partition_of hash ring.power)) low)
+                  (resting (lock_of ring.lock_bits ring.power device hash) there.0 there.1));
+              stands = subst (λ (s : _). holds s ring.power (files there.0.volume) hash ≡ state machine device hash) secrets
+                  (subst (λ (p : ℕ). holds there.0.secrets p (files there.0.volume) hash ≡ state machine device hash) power
+                  (sym (held-told tells files faults there.0 hash told) ∙ held));
+              counts = sym (ap (λ h. h.faults) (stands.seen (lock_of ring.lock_bits ring.power device hash)))
+                  ∙ ap (λ (o : Option (Slot V)). (seen_of tells files faults o).faults) there.1;
+            }
+
+  -- ---- a device that is out
+
+  -- a device of a world of this ring was lifted
+  module _ (whole after : AllNodes V) (bits : whole.lock_bits ≡ ring.lock_bits) (device : ℕ) (given : List V)
+      (up : Lifts tells files faults whole device given after) where
+    pub out-is : after.lifted ≡ Some device
+    out-is = ap (λ (x : AllNodes V). x.lifted) up.rest
+
+    lifted-in : AreLifted (first_of ring.lock_bits device) (past_of ring.lock_bits device) whole.slots after.slots given
+    lifted-in = subst (λ (b : ℕ). AreLifted (first_of b device) (past_of b device) whole.slots after.slots given) bits up.lifted
+
+    -- where the volumes came to rest that were there before: those of the device are as they rested then
+    pub rests-before : (then now : ℕ → ℕ → Option V) → AreResting then (2 ^ ring.lock_bits) (first_of ring.lock_bits device) given
+        → ((l : ℕ) (k : Kept V) → slice_get after.slots l ≡ Some (slots.Open k) → at_place now (2 ^ ring.lock_bits) l ≡ Some k.volume)
+        → ((d : ℕ) → after.lifted ≡ Some d → (e s : ℕ) → places_at ring d e s ≡ true → now e s ≡ then e s)
+        → (l : ℕ) (k : Kept V) → slice_get whole.slots l ≡ Some (slots.Open k) → at_place now (2 ^ ring.lock_bits) l ≡ Some k.volume
+    rests-before then now there resting same l k at = by (cases_lt l (first_of ring.lock_bits device)) (cases_lt l (past_of ring.lock_bits device))
+      where
+        by : (l < first_of ring.lock_bits device) ⊎ (first_of ring.lock_bits device ≤ l) → (l < past_of ring.lock_bits device)
+            ⊎ (past_of ring.lock_bits device ≤ l)
+            → at_place now (2 ^ ring.lock_bits) l ≡ Some k.volume
+        by (inl low) any = resting l k (lifted-in.outside l (inl low) ∙ at)
+        by (inr from) (inr behind) = resting l k (lifted-in.outside l (inr behind) ∙ at)
+        by (inr from) (inl below) =
+            let here : first_of ring.lock_bits device + (l - first_of ring.lock_bits device) ≡ l = omega (arith, from) in
+            let gives : slice_get given (l - first_of ring.lock_bits device) ≡ Some k.volume =
+            lifted-in.gives (l - first_of ring.lock_bits device) k (omega (arith, from, below)) (ap (slice_get whole.slots) here ∙ at) in
+            same device out-is (l / 2 ^ ring.lock_bits) (l % 2 ^ ring.lock_bits)
+            (among-place (2 ^ ring.lock_bits) (first_of ring.lock_bits device) (2 ^ ring.lock_bits) l (pow_pos ring.lock_bits) from below)
+            ∙ subst (λ (p : ℕ). at_place then (2 ^ ring.lock_bits) p ≡ Some k.volume) here
+            (resting-at then (2 ^ ring.lock_bits) (first_of ring.lock_bits device) given
+            (l - first_of ring.lock_bits device) k.volume there gives)

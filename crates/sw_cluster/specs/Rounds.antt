@@ -1,0 +1,273 @@
+-- Connections that are served one after the other, over the nodes of a ring. (This project's own.)
+use Rattle.std.specs.Prelude.{◌≡◌, ⊤, ℕ, zero, suc, ◌+◌, ◌*◌, ◌^◌, ◌<◌, ◌≤◌, Bool, List, [], ◌∷◌, ◌++◌, length, map, codes, decimal, Option, Result, Ok, Err, ◌⊎◌}
+use Rattle.std.specs.Io.KnownBytes.{Appends}
+use Rattle.sw_core.specs.Doors.{StandsFor}
+use Rattle.sw_core.specs.Machine.{Machine, RunLine, machine_of}
+use Rattle.sw_core.specs.Machine as machines
+use Rattle.sw_core.specs.Worlds.{AllNodes, Lifts, nodes_of, opened}
+use Rattle.sw_outside.specs.Counts.{raised}
+use Rattle.sw_outside.specs.Doors.{Accepted, Finished}
+use Rattle.sw_outside.specs.Readings.{TicksEach}
+use Rattle.sw_outside.specs.Taken.{AppendsPart}
+use Rattle.sw_peer.specs.Journals.{Hash}
+use Rattle.sw_quiet.specs.Quiet.{SetsDownQuietly, quiet_sight_of}
+use Rattle.sw_ring.specs.declared.ring.Ring.{Ring}
+use Rattle.sw_session.specs.Passages.{Passage}
+use Rattle.sw_stores.specs.Places.{IsAsItWas}
+use Rattle.sw_stores.specs.Volumes.{AreStarted}
+use Rattle.sw_volume.specs.Tree.{Folders}
+use Rattle.sw_volume.specs.Volume.{raised_by}
+use Rattle.sw_cluster.specs.Connections.{IsConnection}
+use Rattle.sw_cluster.specs.Ending.{AllTold, AreUnstarted, IsStored}
+use Rattle.sw_cluster.specs.Statuses as statuses
+use Rattle.sw_cluster.specs.declared.rounds.ServeFault.{ServeFault}
+use Rattle.sw_cluster.specs.declared.rounds.ServeFault.TheVariants as serve_faults
+
+-- ---- what is told
+
+-- what doors tell
+pub record DoorsTold : Type 0 where
+  pub accepted : List Accepted
+  pub finished : List Finished
+  pub calls : ℕ
+  pub faults : ℕ
+
+abbrev pub doors_told : {N : Type 0} → (N → List Accepted) → (N → List Finished) → (N → ℕ) → (N → ℕ) → N → DoorsTold
+doors_told accepted finished calls faults doors =
+    record { accepted = accepted doors; finished = finished doors; calls = calls doors; faults = faults doors }
+
+-- what stores count
+pub record Counts : Type 0 where
+  pub calls : ℕ
+  pub faults : ℕ
+
+abbrev pub counts : {S : Type 0} → (S → ℕ) → (S → ℕ) → S → Counts
+counts calls faults stores = record { calls = calls stores; faults = faults stores }
+
+-- the line that says that it is listened, and the one that says how many connections were served
+abbrev pub listening_line : ℕ → List ℕ
+listening_line port = (codes "listening " ++ decimal port) ++ 10 ∷ []
+
+abbrev pub connections_line : ℕ → List ℕ
+connections_line connections = (codes "connections " ++ decimal connections) ++ 10 ∷ []
+
+-- the status by which serving ended
+abbrev pub serve_status : Result ⊤ ServeFault → ℕ
+serve_status (Ok _) = statuses.complete
+serve_status (Err serve_faults.Write) = statuses.write_fault
+serve_status (Err serve_faults.Store) = statuses.store_fault
+serve_status (Err serve_faults.Door) = statuses.door_fault
+serve_status (Err serve_faults.NoMemory) = statuses.no_memory
+
+-- ---- lines
+
+-- a line was put whole; or a front of it, where the output failed; or nothing, where there was no memory for it
+abbrev pub SaysLine : List ℕ → Passage → Result ⊤ ServeFault → Type 0
+SaysLine line out (Ok _) = Appends out.before out.now line × (out.faults_now ≡ out.faults)
+SaysLine line out (Err serve_faults.Write) = AppendsPart out.before out.now line × (out.faults_now ≡ raised out.faults)
+SaysLine line out (Err serve_faults.NoMemory) = (out.now ≡ out.before) × (out.faults_now ≡ out.faults)
+SaysLine line out (Err serve_faults.Store) = ⊥
+SaysLine line out (Err serve_faults.Door) = ⊥
+
+-- ---- rounds
+
+-- a connection that was served
+pub record Round : Type 0 where
+  pub accepted : Accepted  -- its ends, as they were when it was accepted
+  pub finished : Finished  -- and when it was finished, with its status
+  pub moment : ℕ  -- at which its requests were answered
+
+-- what it made of its source, and of its sink
+abbrev pub read_in : Round → Passage
+read_in r = record {
+  before = r.accepted.source.left;
+  now = r.finished.source.left;
+  faults = r.accepted.source.faults;
+  faults_now = r.finished.source.faults;
+}
+
+abbrev pub written_in : Round → Passage
+written_in r = record {
+  before = r.accepted.sink.taken;
+  now = r.finished.sink.taken;
+  faults = r.accepted.sink.faults;
+  faults_now = r.finished.sink.faults;
+}
+
+-- the doors accepted and finished these connections in their order, and the clock was read once for each
+pub record AreHeard (rounds : List Round) (doors doors_now : DoorsTold) (clock clock_now : Option (List ℕ)) : Type 0 where
+  pub accepted : doors_now.accepted ≡ doors.accepted ++ map (λ r. r.accepted) rounds
+  pub finished : doors_now.finished ≡ doors.finished ++ map (λ r. r.finished) rounds
+  pub ticks : TicksEach clock clock_now (map (λ r. r.moment) rounds)
+
+module _ {V : Type 0} (tells : V → Bool) (files : V → Folders) (faults : V → ℕ) (ring : Ring) where
+  -- a device was restarted: its volumes were given back, and the same ones started again
+  pub record RestartsDevice (device : ℕ) (w after : AllNodes V) : Type 0 where
+    pub given : List V
+    pub mid : AllNodes V
+    pub up : Lifts tells files faults w device given mid
+    pub down : SetsDownQuietly mid device given after
+
+  -- so many first devices were restarted, in order
+  abbrev pub RestartsFirst : ℕ → AllNodes V → AllNodes V → Type 0
+  RestartsFirst zero w after = after ≡ w
+  RestartsFirst (suc n) w after = (mid : AllNodes V) × RestartsFirst n w mid × RestartsDevice n mid after
+
+  -- the requests of a connection were answered
+  abbrev pub ServesOne : AllNodes V → Round → AllNodes V → Type 0
+  ServesOne w r after = IsConnection (quiet_sight_of tells files faults) ring r.moment w (read_in r) (written_in r) after r.finished.status
+
+  -- those of these connections were, each over the nodes as the ones before it left them, and after each all devices were restarted
+  abbrev pub ServesAll : AllNodes V → List Round → AllNodes V → Type 0
+  ServesAll w [] after = after ≡ w
+  ServesAll w (r ∷ rounds) after =
+      (served : AllNodes V) × (again : AllNodes V) × ServesOne w r served × RestartsFirst (length ring.devices) served again × ServesAll again rounds after
+
+  -- all were served, `after` are the nodes then, and no call failed
+  pub record AllServed (connections : ℕ) (began after : AllNodes V) (doors doors_now : DoorsTold) (clock clock_now : Option (List ℕ))
+      (stores stores_now : Counts) : Type 0 where
+    pub rounds : List Round
+    pub serves : ServesAll began rounds after
+    pub heard : AreHeard rounds doors doors_now clock clock_now
+    pub count : length rounds ≡ connections
+    pub door_calls : doors_now.calls ≡ raised_by (length rounds) doors.calls
+    pub door_faults : doors_now.faults ≡ doors.faults
+    pub store_calls : stores_now.calls ≡ raised_by (length rounds * length ring.devices * 2 ^ ring.lock_bits) stores.calls
+    pub store_faults : stores_now.faults ≡ stores.faults
+
+  -- some were, and the next one couldn't be accepted
+  pub record StopsWaiting (connections : ℕ) (began after : AllNodes V) (doors doors_now : DoorsTold) (clock clock_now : Option (List ℕ))
+      (stores stores_now : Counts) : Type 0 where
+    pub rounds : List Round
+    pub serves : ServesAll began rounds after
+    pub heard : AreHeard rounds doors doors_now clock clock_now
+    pub few : length rounds < connections
+    pub door_calls : doors_now.calls ≡ raised_by (length rounds + 1) doors.calls
+    pub store_calls : stores_now.calls ≡ raised_by (length rounds * length ring.devices * 2 ^ ring.lock_bits) stores.calls
+
+  -- some were, and the next one as well, but after it a device couldn't be restarted, though those before it were. `after` are the nodes before that
+  pub record StopsRestarting (connections : ℕ) (began after : AllNodes V) (doors doors_now : DoorsTold) (clock clock_now : Option (List ℕ))
+      (stores stores_now : Counts) : Type 0 where
+    pub rounds : List Round
+    pub then : AllNodes V
+    pub serves : ServesAll began rounds then
+    pub last : Round
+    pub served : AllNodes V
+    pub one : ServesOne then last served
+    pub device : ℕ
+    pub is_device : device < length ring.devices
+    pub restarted : RestartsFirst device served after
+    pub heard : AreHeard (rounds ++ last ∷ []) doors doors_now clock clock_now
+    pub few : length rounds < connections
+    pub door_calls : doors_now.calls ≡ raised_by (length rounds + 1) doors.calls
+    pub tried : ℕ  -- how many of its volumes were to be started
+    pub most : tried ≤ 2 ^ ring.lock_bits
+    pub store_calls : stores_now.calls ≡ raised_by (tried + (length rounds * length ring.devices + device) * 2 ^ ring.lock_bits) stores.calls
+
+  -- what became of the connections that were to be served. One call failed where that ended it, and else none
+  abbrev pub IsServed : ℕ → AllNodes V → AllNodes V → DoorsTold → DoorsTold → Option (List ℕ) → Option (List ℕ) → Counts → Counts → Result ⊤ ServeFault → Type 0
+  IsServed connections began after doors doors_now clock clock_now stores stores_now (Ok _) =
+      AllServed connections began after doors doors_now clock clock_now stores stores_now
+  IsServed connections began after doors doors_now clock clock_now stores stores_now (Err serve_faults.Door) =
+      StopsWaiting connections began after doors doors_now clock clock_now stores stores_now
+      × (doors_now.faults ≡ raised doors.faults) × (stores_now.faults ≡ stores.faults)
+  IsServed connections began after doors doors_now clock clock_now stores stores_now (Err serve_faults.Store) =
+      StopsRestarting connections began after doors doors_now clock clock_now stores stores_now
+      × (doors_now.faults ≡ doors.faults) × (stores_now.faults ≡ raised stores.faults)
+  IsServed connections began after doors doors_now clock clock_now stores stores_now (Err serve_faults.NoMemory) =
+      (StopsWaiting connections began after doors doors_now clock clock_now stores stores_now
+      ⊎ StopsRestarting connections began after doors doors_now clock clock_now stores stores_now)
+      × (doors_now.faults ≡ doors.faults) × (stores_now.faults ≡ stores.faults)
+  IsServed connections began after doors doors_now clock clock_now stores stores_now (Err serve_faults.Write) = ⊥
+
+  -- ---- from the first call of the doors to the last line
+
+  -- it couldn't be listened
+  pub record IsDeaf (began after : AllNodes V) (doors doors_now : DoorsTold) (out : Passage) (clock clock_now : Option (List ℕ))
+      (stores stores_now : Counts) (ended : Result ⊤ ServeFault) : Type 0 where
+    pub ended_is : ended ≡ Err serve_faults.Door
+    pub nothing_came : after ≡ began
+    pub doors_are : doors_now ≡ record doors { calls = raised doors.calls; faults = raised doors.faults }
+    pub nothing_written : (out.now ≡ out.before) × (out.faults_now ≡ out.faults)
+    pub no_tick : clock_now ≡ clock
+    pub no_start : stores_now ≡ stores
+
+  -- it was listened, but that couldn't be said
+  pub record IsMute (port : ℕ) (began after : AllNodes V) (doors doors_now : DoorsTold) (out : Passage) (clock clock_now : Option (List ℕ))
+      (stores stores_now : Counts) (ended : Result ⊤ ServeFault) : Type 0 where
+    pub fault : ServeFault
+    pub ended_is : ended ≡ Err fault
+    pub nothing_came : after ≡ began
+    pub doors_are : doors_now ≡ record doors { calls = raised doors.calls }
+    pub says : SaysLine (listening_line port) out (Err fault)
+    pub no_tick : clock_now ≡ clock
+    pub no_start : stores_now ≡ stores
+
+  -- what is said in the end, by what became of the connections: how many they are, where all were served
+  abbrev pub Concludes : ℕ → Passage → Result ⊤ ServeFault → Result ⊤ ServeFault → Type 0
+  Concludes connections out (Ok _) ended = SaysLine (connections_line connections) out ended
+  Concludes connections out (Err fault) ended = (ended ≡ Err fault) × (out.now ≡ out.before) × (out.faults_now ≡ out.faults)
+
+  -- it was listened, that was said, and the connections were served
+  pub record IsOver (port connections : ℕ) (began after : AllNodes V) (doors doors_now : DoorsTold) (out : Passage)
+      (clock clock_now : Option (List ℕ)) (stores stores_now : Counts) (ended : Result ⊤ ServeFault) : Type 0 where
+    pub said : Option (List ℕ)  -- what the output had taken then, where it tells that
+    pub says : Appends out.before said (listening_line port)
+    pub came : Result ⊤ ServeFault
+    pub served : IsServed connections began after (record doors { calls = raised doors.calls }) doors_now clock clock_now stores stores_now came
+    pub concludes : Concludes connections (record out { before = said }) came ended
+
+  -- how serving ended. One call failed where that ended it, and else none
+  abbrev pub EndsServing : ℕ → ℕ → AllNodes V → AllNodes V → DoorsTold → DoorsTold → Passage → Option (List ℕ) → Option (List ℕ) → Counts → Counts
+      → Result ⊤ ServeFault → Type 0
+  EndsServing port connections began after doors doors_now out clock clock_now stores stores_now ended =
+      IsDeaf began after doors doors_now out clock clock_now stores stores_now ended
+      ⊎ (IsMute port began after doors doors_now out clock clock_now stores stores_now ended
+      ⊎ IsOver port connections began after doors doors_now out clock clock_now stores stores_now ended)
+
+  -- ---- what rests then
+
+  -- The nodes went through a run of the machine, and stand for the machine after it, and so do the files of their volumes, which rest in the stores
+  pub record HasServed (began after : AllNodes V) (rests : ℕ → ℕ → Option V) : Type 0 where
+    pub lines : List RunLine
+    pub machine : Machine
+    pub run : machines.Runs (nodes_of (length ring.devices) ring.lock_bits ring.power ring.secrets)
+        (machine_of (quiet_sight_of tells files faults began)) lines machine
+    pub stands : StandsFor (quiet_sight_of tells files faults after) machine
+    pub stored : (device : ℕ) (hash : Hash) → device < length ring.devices → IsStored tells files faults ring machine rests device hash
+
+  -- over these nodes the connections were served, and then their volumes given back
+  pub record IsServedOver (port connections : ℕ) (began : AllNodes V) (rests_now : ℕ → ℕ → Option V) (doors doors_now : DoorsTold) (out : Passage)
+      (clock clock_now : Option (List ℕ)) (stores stores_now : Counts) (status : ℕ) : Type 0 where
+    pub after : AllNodes V
+    pub ended : Result ⊤ ServeFault
+    pub status_is : status ≡ serve_status ended
+    pub ends : EndsServing port connections began after doors doors_now out clock clock_now stores stores_now ended
+    pub told : AllTold tells files faults ring began → HasServed began after rests_now
+
+  -- the volumes of a ring's nodes were started, by one call of the stores for each, and the connections served over them
+  pub record IsServing (first : V → Type 0) (port connections : ℕ) (rests rests_now : ℕ → ℕ → Option V) (doors doors_now : DoorsTold) (out : Passage)
+      (clock clock_now : Option (List ℕ)) (stores stores_now : Counts) (status : ℕ) : Type 0 where
+    pub volumes : List V
+    pub started : AreStarted first rests (2 ^ ring.lock_bits) 0 volumes
+    pub count : length volumes ≡ length ring.devices * 2 ^ ring.lock_bits
+    pub over : IsServedOver port connections (opened ring volumes) rests_now doors doors_now out clock clock_now
+        (record stores { calls = raised_by (length ring.devices * 2 ^ ring.lock_bits) stores.calls }) stores_now status
+
+-- none was served: the volumes couldn't be started, or there was no memory for the nodes. Those that were started rest again
+pub record IsUnserved {V : Type 0} (first : V → Type 0) (ring : Ring) (rests rests_now : ℕ → ℕ → Option V) (doors doors_now : DoorsTold) (out : Passage)
+    (clock clock_now : Option (List ℕ)) (stores stores_now : Counts) (status : ℕ) : Type 0 where
+  pub unstarted : AreUnstarted first ring rests rests_now stores.faults stores_now.faults stores.calls stores_now.calls status
+  pub doors_are : doors_now ≡ doors
+  pub nothing_written : (out.now ≡ out.before) × (out.faults_now ≡ out.faults)
+  pub no_tick : clock_now ≡ clock
+
+-- how `serve` goes on with a ring, which it read by one call of the stores: from what rests in them then, which is what rested before
+pub record Serves {V : Type 0} (tells : V → Bool) (files : V → Folders) (faults : V → ℕ) (first : V → Type 0) (ring : Ring) (port connections : ℕ)
+    (rests rests_now : ℕ → ℕ → Option V) (doors doors_now : DoorsTold) (out : Passage) (clock clock_now : Option (List ℕ))
+    (stores stores_now : Counts) (status : ℕ) : Type 0 where
+  pub began : ℕ → ℕ → Option V
+  pub same : IsAsItWas rests began
+  pub ends : IsServing tells files faults ring first port connections began rests_now doors doors_now out clock clock_now
+      (record stores { calls = raised stores.calls }) stores_now status
+      ⊎ IsUnserved first ring began rests_now doors doors_now out clock clock_now (record stores { calls = raised stores.calls }) stores_now status

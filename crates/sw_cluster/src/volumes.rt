@@ -1,0 +1,97 @@
+ghost use Rattle.std.specs.Prelude.{◌≡◌, ℕ, ◌*◌, ◌^◌, ◌<◌, ◌≤◌, false, true, List, length, Some, IfOk, IfErr, OnOk, OnErr};
+ghost use Rattle.std.specs.List.{slice_get};
+ghost use Rattle.sw_core.specs.Stopping.{gap_first, gap_past};
+ghost use Rattle.sw_core.specs.Worlds.{IsWorld, opened};
+ghost use Rattle.sw_core.specs.declared.slot.Slot.TheVariants as slots;
+ghost use Rattle.sw_objdir.specs.Directories.{Kept};
+ghost use Rattle.sw_stores.specs.Places.{at_place};
+ghost use Rattle.sw_stores.specs.Volumes.{AreStarted};
+ghost use Rattle.sw_volume.specs.Volume.{raised_by};
+ghost use Rattle.sw_cluster.specs.Ending.{AreUnstarted, start_status};
+ghost use Rattle.sw_cluster.specs.Nodes.{out_but, places_at, places_of};
+
+use crate::server::stripes;
+use crate::status::{NO_MEMORY, STORE_FAULT};
+use std::alloc::Global;
+use sw_core::{Parts, World};
+use sw_outside::StoreError;
+use sw_ring::Ring;
+use sw_stores::Stores;
+use sw_stores::volumes::{give_around, give_range, start_range};
+
+/// Opens the nodes of a ring over the volumes of all its locks, which the stores start, each by one call. Where that can't be done, those that were
+/// started rest in the stores again.
+pub fn open_nodes<S: Stores>(
+    alloc: Global,
+    ring: &Ring,
+    stores: &mut S,
+) -> Result<World<S::V>, StoreError>
+    requires home { (d s : ℕ) → S.out stores.old d s ≡ false }
+    ensures begun { IfOk result (λ world. (volumes : List S.V) × AreStarted S.first (S.rests stores.old) (2 ^ ring.now.lock_bits) 0 volumes
+        × (length volumes ≡ length ring.now.devices * 2 ^ ring.now.lock_bits) × (world ≡ opened ring.now volumes)) }
+    ensures out { OnOk result ((d s : ℕ) → S.out stores.new d s ≡ places_of ring.now d s) }
+    ensures calls { OnOk result (S.calls stores.new ≡ raised_by (length ring.now.devices * 2 ^ ring.now.lock_bits) (S.calls stores.old)) }
+    ensures kept { OnOk result (S.faults stores.new ≡ S.faults stores.old) }
+    ensures home { OnErr result ((d s : ℕ) → S.out stores.new d s ≡ false) }
+    ensures unstarted { IfErr result (λ error. AreUnstarted S.first ring.now (S.rests stores.old) (S.rests stores.new)
+        (S.faults stores.old) (S.faults stores.new) (S.calls stores.old) (S.calls stores.new) (start_status error)) }
+{
+    let stripes = stripes(ring);
+    let count = ring.devices.as_slice().len() * usize::from(stripes);
+    let volumes = match start_range(alloc, stores, stripes, 0, count) {
+        Ok(volumes) => volumes,
+        Err(error) => return Err(error),
+    };
+    match World::open(alloc, ring, Parts { volumes }) {
+        Ok(world) => Ok(world),
+        Err(parts) => {
+            give_range(stores, stripes, 0, parts.volumes);
+            Err(StoreError::NoMemory)
+        }
+    }
+}
+
+/// The status of a command whose volumes couldn't be started.
+pub fn status_of_start(error: StoreError) -> u8
+    ensures { result ≡ start_status error }
+{
+    match error {
+        StoreError::Failed => STORE_FAULT,
+        StoreError::NoMemory => NO_MEMORY,
+    }
+}
+
+/// Gives the volumes of all nodes back to the stores, but those of a device that is out, which rest there.
+pub fn give_back<S: Stores>(ring: &Ring, world: World<S::V>, stores: &mut S)
+    requires devices { world.devices ≡ length ring.now.devices }
+    requires lock_bits { world.lock_bits ≡ ring.now.lock_bits }
+    requires lifted { (device : ℕ) → world.lifted ≡ Some device → device < length ring.now.devices }
+    requires out { (d s : ℕ) → S.out stores.old d s ≡ out_but ring.now world.lifted d s }
+    ensures world { IsWorld world }
+    ensures home { (d s : ℕ) → S.out stores.new d s ≡ false }
+    ensures rests { (l : ℕ) (k : Kept S.V) → slice_get world.slots l ≡ Some (slots.Open k)
+        → at_place (S.rests stores.new) (2 ^ ring.now.lock_bits) l ≡ Some k.volume }
+    ensures others { (device : ℕ) → world.lifted ≡ Some device → (d s : ℕ) → places_at ring.now device d s ≡ true
+        → S.rests stores.new d s ≡ S.rests stores.old d s }
+    ensures faults { S.faults stores.new ≡ S.faults stores.old }
+    ensures calls { S.calls stores.new ≡ S.calls stores.old }
+{
+    let stripes = stripes(ring);
+    let count = ring.devices.as_slice().len() * usize::from(stripes);
+    let (first, past) = gap_of(world.lifted(), stripes);
+    give_around(stores, stripes, first, past, count, world.stop().volumes);
+}
+
+/// Where the locks of a device that is out begin and end, among those of all devices.
+fn gap_of(lifted: Option<u8>, stripes: u8) -> (usize, usize)
+    requires { stripes ≤ 16 }
+    ensures { (bits : ℕ) → stripes ≡ 2 ^ bits → (result.0 ≡ gap_first bits lifted) × (result.1 ≡ gap_past bits lifted) }
+{
+    match lifted {
+        Some(device) => {
+            let first = usize::from(device) * usize::from(stripes);
+            (first, first + usize::from(stripes))
+        }
+        None => (0, 0),
+    }
+}
