@@ -8,7 +8,7 @@ use std::alloc::Global;
 use sw_cluster::cluster;
 use sw_control::trail_text;
 use sw_core::Trail;
-use sw_outside::{Bytes, BytesList, FailingPut, MemClock, MemSink, MemSource, NoMemory};
+use sw_outside::{Bytes, BytesList, FailingPut, MemClock, MemDoors, MemSink, MemSource, NoMemory};
 use sw_stores::{MemStores, RingText};
 
 /// What a run left.
@@ -34,6 +34,7 @@ pub fn run(
     let mut output = MemSink::new(alloc, puts(alloc, &script.failing_puts, change)?);
     let mut errors = MemSink::new(alloc, Vec::from_slice(alloc, &script.failing_error_puts)?);
     let mut stores = stores(alloc, case, rings)?;
+    let mut doors = MemDoors::new(alloc, Vec::new(alloc), Vec::new(alloc));
     let mut clock = MemClock::new(Vec::from_slice(alloc, &script.clock)?);
     let mut trail = Trail::new(alloc);
     let status = cluster(
@@ -43,6 +44,7 @@ pub fn run(
         &mut output,
         &mut errors,
         &mut stores,
+        &mut doors,
         &mut clock,
         &mut trail,
     );
