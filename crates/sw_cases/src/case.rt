@@ -1,3 +1,4 @@
+use crate::connection::{Connection, Exchange};
 use std::alloc::Global;
 use sw_outside::{Bytes, FailingCall, FailingPut};
 
@@ -12,6 +13,10 @@ pub struct Script {
     pub failing_puts: Vec<FailingPut>,
     pub failing_error_puts: Vec<FailingPut>,
     pub failing_stores: Vec<u64>,
+    /// The calls of `listen` and `accept` that fail, counted from 0 over both.
+    pub failing_doors: Vec<u64>,
+    /// The connections that come, in that order.
+    pub connections: Vec<Connection>,
     pub failing_calls: Vec<LockCall>,
     /// The files that stand in volumes before the run.
     pub standing: Vec<LockFile>,
@@ -26,6 +31,8 @@ pub struct Script {
     pub status: u8,
     /// The line that is wanted on the error sink, without its line feed. An empty one stands for none.
     pub error: String,
+    /// The port at which it is wanted to be listened, where the case says it: one number, or none where it isn't to be listened.
+    pub port: Option<Vec<u64>>,
     /// The moments of the requests that are wanted in the trail, and how many steps, where the case says them.
     pub moments: Option<Vec<u64>>,
     pub steps: Option<u64>,
@@ -43,6 +50,8 @@ impl Script {
             failing_puts: Vec::new(alloc),
             failing_error_puts: Vec::new(alloc),
             failing_stores: Vec::new(alloc),
+            failing_doors: Vec::new(alloc),
+            connections: Vec::new(alloc),
             failing_calls: Vec::new(alloc),
             standing: Vec::new(alloc),
             locks: Vec::new(alloc),
@@ -51,6 +60,7 @@ impl Script {
             filling: None,
             status: 0,
             error: String::new(alloc),
+            port: None,
             moments: None,
             steps: None,
             files: Vec::new(alloc),
@@ -125,6 +135,8 @@ pub struct Case {
     pub script: Script,
     pub input: Vec<u8>,
     pub output: Vec<u8>,
+    /// The bytes of each connection of the script, in that order.
+    pub exchanges: Vec<Exchange>,
     /// The text of the trail at the end, where the case says it.
     pub trail: Option<Vec<u8>>,
 }

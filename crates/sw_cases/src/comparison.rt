@@ -1,4 +1,5 @@
 use crate::case::Case;
+use crate::connections::compare_connections;
 use crate::difference::{Difference, Part};
 use crate::run::{Ended, text_of};
 use crate::way::Ending;
@@ -10,7 +11,8 @@ use sw_stores::RingText;
 /// The refusal of a rest that is no request.
 const REFUSAL: &[u8] = b"HTTP/1.1 400 Bad Request\r\nContent-Length: 0\r\n\r\n";
 
-/// The first difference between what a run left and what is wanted of it: of the output, then of the error line, the status, the trail and the files.
+/// The first difference between what a run left and what is wanted of it: of the output, then of the error line, the status, the
+/// port and the connections, the trail and the files.
 pub fn compare(
     alloc: Global,
     case: &Case,
@@ -40,13 +42,21 @@ pub fn compare(
     }
 }
 
-/// Compares what a run that is to end as the case wants leaves besides: the trail, and then the files.
+/// Compares what a run that is to end as the case wants leaves besides: the port, the connections, the trail, and then the files.
 fn compare_rest(
     alloc: Global,
     case: &Case,
     rings: &[RingText],
     ended: &Ended,
 ) -> Result<Option<Difference>, NoMemory> {
+    let found = compare_ports(alloc, case, ended.doors.port())?;
+    if found.is_some() {
+        return Ok(found);
+    }
+    let found = compare_connections(alloc, case, ended.doors.finished())?;
+    if found.is_some() {
+        return Ok(found);
+    }
     let found = compare_trails(alloc, case, rings, &ended.trail)?;
     if found.is_some() {
         return Ok(found);
@@ -76,7 +86,12 @@ fn compare_trails(
         }
     }
     if let Some(wanted) = &case.script.moments {
-        let found = between_numbers(alloc, Part::Moments, wanted, trail.moments.as_slice())?;
+        let found = Difference::between_numbers(
+            alloc,
+            Part::Moments,
+            wanted,
+            trail.moments.as_slice(),
+        )?;
         if found.is_some() {
             return Ok(found);
         }
@@ -84,30 +99,25 @@ fn compare_trails(
     match case.script.steps {
         Some(wanted) => {
             let steps = trail.steps.as_slice().len() as u64;
-            between_numbers(alloc, Part::Steps, &[wanted], &[steps])
+            Difference::between_numbers(alloc, Part::Steps, &[wanted], &[steps])
         }
         None => Ok(None),
     }
 }
 
-/// The first difference between the texts of two lists of numbers.
-fn between_numbers(
+/// Compares the port at which it was listened, where the case says it.
+fn compare_ports(
     alloc: Global,
-    part: Part,
-    wanted: &[u64],
-    came: &[u64],
+    case: &Case,
+    came: Option<u16>,
 ) -> Result<Option<Difference>, NoMemory> {
-    let wanted = text_of_numbers(alloc, wanted)?;
-    let came = text_of_numbers(alloc, came)?;
-    Difference::between(alloc, part, wanted.as_bytes(), came.as_bytes())
-}
-
-fn text_of_numbers(alloc: Global, numbers: &[u64]) -> Result<String, NoMemory> {
-    let mut text = String::new(alloc);
-    for number in numbers {
-        write!(text, "{number} ")?;
+    let Some(wanted) = &case.script.port else {
+        return Ok(None);
+    };
+    match came {
+        Some(port) => Difference::between_numbers(alloc, Part::Port, wanted, &[u64::from(port)]),
+        None => Difference::between_numbers(alloc, Part::Port, wanted, &[]),
     }
-    Ok(text)
 }
 
 fn wanted_output(alloc: Global, case: &Case, ending: Ending) -> Result<Vec<u8>, NoMemory> {

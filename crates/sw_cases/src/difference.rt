@@ -7,6 +7,12 @@ use sw_outside::NoMemory;
 pub enum Part {
     Output,
     ErrorLine,
+    /// What was written to the connection of this number, counted from 1.
+    OutputOf(u64),
+    /// How many connections were finished.
+    Connections,
+    /// The port at which it was listened.
+    Port,
     Trail,
     Moments,
     Steps,
@@ -18,6 +24,12 @@ pub enum Part {
 #[derive(Debug, Drop)]
 pub enum Difference {
     Status {
+        wanted: u8,
+        came: u8,
+    },
+    /// The status with which the connection of this number was finished.
+    StatusOf {
+        connection: u64,
         wanted: u8,
         came: u8,
     },
@@ -38,6 +50,9 @@ impl fmt::Display for Part {
         match self {
             Part::Output => write!(f, "output"),
             Part::ErrorLine => write!(f, "error line"),
+            Part::OutputOf(connection) => write!(f, "output of connection {connection}"),
+            Part::Connections => write!(f, "number of connections"),
+            Part::Port => write!(f, "port"),
             Part::Trail => write!(f, "trail"),
             Part::Moments => write!(f, "moments"),
             Part::Steps => write!(f, "number of steps"),
@@ -51,6 +66,16 @@ impl fmt::Display for Difference {
         match self {
             Difference::Status { wanted, came } => {
                 write!(f, "status: wanted {wanted}, came {came}")
+            }
+            Difference::StatusOf {
+                connection,
+                wanted,
+                came,
+            } => {
+                write!(
+                    f,
+                    "status of connection {connection}: wanted {wanted}, came {came}"
+                )
             }
             Difference::Bytes {
                 part,
@@ -86,6 +111,26 @@ impl Difference {
             came: escaped(alloc, came, at)?,
         }))
     }
+
+    /// The first difference between the texts of two lists of numbers.
+    pub fn between_numbers(
+        alloc: Global,
+        part: Part,
+        wanted: &[u64],
+        came: &[u64],
+    ) -> Result<Option<Difference>, NoMemory> {
+        let wanted = text_of_numbers(alloc, wanted)?;
+        let came = text_of_numbers(alloc, came)?;
+        Difference::between(alloc, part, wanted.as_bytes(), came.as_bytes())
+    }
+}
+
+fn text_of_numbers(alloc: Global, numbers: &[u64]) -> Result<String, NoMemory> {
+    let mut text = String::new(alloc);
+    for number in numbers {
+        write!(text, "{number} ")?;
+    }
+    Ok(text)
 }
 
 /// How many bytes at the front of two byte strings are equal.

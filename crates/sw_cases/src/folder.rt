@@ -1,5 +1,7 @@
 use crate::case::{Case, Script};
 use crate::case_error::CaseError;
+use crate::connection::Exchange;
+use crate::line::number;
 use crate::script::read_script;
 use std::alloc::Global;
 use std::io::ErrorKind;
@@ -64,28 +66,31 @@ pub fn read_case<R: Files + AllocGlobal + Clone + Drop>(
 ) -> Result<Case, CaseError> {
     let alloc = rt.alloc();
     let folder = format!(in alloc; "{folder}/{name}")?;
-    see_known_files(rt, &folder)?;
     let script = read_case_file(rt, &folder)?;
+    see_known_files(rt, &folder, script.connections.len())?;
     let input = read_input(rt, &folder, &script)?;
     let output = read_file(rt, &folder, "output")?.unwrap_or(Vec::new(alloc));
+    let exchanges = read_exchanges(rt, &folder, script.connections.len())?;
     let trail = read_file(rt, &folder, "trail")?;
     Ok(Case {
         name: name.to_string(alloc)?,
         script,
         input,
         output,
+        exchanges,
         trail,
     })
 }
 
-/// Sees that a case has no file of another name, which nothing would read.
+/// Sees that a case with so many connections has no file of another name, which nothing would read.
 fn see_known_files<R: Files + AllocGlobal + Clone + Drop>(
     rt: &R,
     folder: &str,
+    connections: usize,
 ) -> Result<(), CaseError> {
     let alloc = rt.alloc();
     for name in names_in(rt, folder)? {
-        if !is_known_file(&name) {
+        if !is_known_file(&name, connections) {
             let path = format!(in alloc; "{folder}/{name}")?;
             return Err(CaseError::UnknownFile { path });
         }
@@ -93,10 +98,21 @@ fn see_known_files<R: Files + AllocGlobal + Clone + Drop>(
     Ok(())
 }
 
-fn is_known_file(name: &str) -> bool {
+fn is_known_file(name: &str, connections: usize) -> bool {
     match name {
         "case" | "input" | "more-input" | "output" | "trail" => true,
-        _ => false,
+        _ => match name.strip_prefix("connection-") {
+            Some(rest) => is_connection(rest.strip_suffix("-output").unwrap_or(rest), connections),
+            None => false,
+        },
+    }
+}
+
+/// Whether a text is the number of one of so many connections, counted from 1, without leading zeros.
+fn is_connection(text: &str, connections: usize) -> bool {
+    match number(text) {
+        Some(number) => !text.starts_with('0') && number <= connections as u64,
+        None => false,
     }
 }
 
@@ -123,6 +139,26 @@ fn read_input<R: Files + AllocGlobal>(
         input.extend_from_slice(&more)?;
     }
     Ok(input)
+}
+
+/// The bytes of so many connections: the files `connection-1` and `connection-1-output`, and so on, empty where they aren't there.
+fn read_exchanges<R: Files + AllocGlobal>(
+    rt: &R,
+    folder: &str,
+    connections: usize,
+) -> Result<Vec<Exchange>, CaseError> {
+    let alloc = rt.alloc();
+    let mut exchanges = Vec::new(alloc);
+    for index in 0..connections {
+        let number = index.saturating_add(1);
+        let sent = format!(in alloc; "connection-{number}")?;
+        let wanted = format!(in alloc; "connection-{number}-output")?;
+        exchanges.push(Exchange {
+            input: read_file(rt, folder, &sent)?.unwrap_or(Vec::new(alloc)),
+            output: read_file(rt, folder, &wanted)?.unwrap_or(Vec::new(alloc)),
+        })?;
+    }
+    Ok(exchanges)
 }
 
 /// The bytes of a file of a folder, where it is there.

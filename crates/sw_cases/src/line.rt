@@ -1,4 +1,5 @@
 use crate::case::{Again, Filling, Mark, Script};
+use crate::connection_line::{add_connection, add_to_connection};
 use crate::volume_line::{add_failing_calls, add_file, add_files};
 use std::alloc::{AllocError, AllocFailed, Global};
 use sw_outside::{FailingPut, NoMemory};
@@ -21,6 +22,10 @@ pub enum LineFault {
     NotCalls,
     #[error("a device, a stripe, a path with a slash and a text are wanted here")]
     NotFile,
+    #[error("the number of a connection of an earlier line, and what is said of it, are wanted here")]
+    NotConnection,
+    #[error("no connection is accepted behind one that isn't")]
+    NotAccepted,
     #[error("this key stands twice")]
     Twice,
     #[error("out of memory")]
@@ -55,18 +60,24 @@ pub fn add_line(
     match key {
         "word" => Ok(script.words.push(value.to_string(alloc)?)?),
         "error" => set_error(alloc, script, value),
-        "moments" => set_moments(alloc, script, value),
+        "port" => set_port(alloc, script, value),
+        "moments" => set_once(alloc, &mut script.moments, value),
         "steps" => set_steps(script, value),
         "input-repeat" => set_filling(script, value),
         "pieces" => add_sizes(&mut script.pieces, value),
         "clock" => add_numbers(&mut script.clock, value),
         "failing-reads" => add_numbers(&mut script.failing_reads, value),
         "failing-stores" => add_numbers(&mut script.failing_stores, value),
+        "failing-doors" => add_numbers(&mut script.failing_doors, value),
         "failing-puts" => add_puts(&mut script.failing_puts, value),
         "failing-error-puts" => add_puts(&mut script.failing_error_puts, value),
         "failing-calls" => add_failing_calls(script, value),
         "file" => add_file(alloc, script, value),
         "files" => add_files(alloc, script, value),
+        "connection" => add_connection(alloc, script, value),
+        "connection-pieces" | "connection-failing-reads" | "connection-failing-puts" => {
+            add_to_connection(script, key, value)
+        }
         _ => Ok(script.again.push(again(alloc, key, value)?)?),
     }
 }
@@ -90,16 +101,24 @@ fn set_error(alloc: Global, script: &mut Script, value: &str) -> Result<(), Line
     Ok(())
 }
 
-fn set_moments(alloc: Global, script: &mut Script, value: &str) -> Result<(), LineFault> {
-    if script.moments.is_some() {
+/// Sets numbers that one line says at most, none where it has no value.
+fn set_once(alloc: Global, said: &mut Option<Vec<u64>>, value: &str) -> Result<(), LineFault> {
+    if said.is_some() {
         return Err(LineFault::Twice);
     }
-    let mut moments = Vec::new(alloc);
+    let mut numbers = Vec::new(alloc);
     if !value.is_empty() {
-        add_numbers(&mut moments, value)?;
+        add_numbers(&mut numbers, value)?;
     }
-    script.moments = Some(moments);
+    *said = Some(numbers);
     Ok(())
+}
+
+fn set_port(alloc: Global, script: &mut Script, value: &str) -> Result<(), LineFault> {
+    if value.contains(' ') {
+        return Err(LineFault::NotNumbers);
+    }
+    set_once(alloc, &mut script.port, value)
 }
 
 fn set_steps(script: &mut Script, value: &str) -> Result<(), LineFault> {
@@ -129,7 +148,7 @@ pub fn byte(value: &str) -> Result<u8, LineFault> {
 }
 
 /// A number: decimal digits alone.
-fn number(text: &str) -> Option<u64> {
+pub fn number(text: &str) -> Option<u64> {
     if text.bytes().all(|byte| byte.is_ascii_digit()) {
         text.parse().ok()
     } else {
@@ -137,14 +156,14 @@ fn number(text: &str) -> Option<u64> {
     }
 }
 
-fn add_numbers(numbers: &mut Vec<u64>, value: &str) -> Result<(), LineFault> {
+pub fn add_numbers(numbers: &mut Vec<u64>, value: &str) -> Result<(), LineFault> {
     for text in value.split(' ') {
         numbers.push(number(text).ok_or(LineFault::NotNumbers)?)?;
     }
     Ok(())
 }
 
-fn add_sizes(sizes: &mut Vec<usize>, value: &str) -> Result<(), LineFault> {
+pub fn add_sizes(sizes: &mut Vec<usize>, value: &str) -> Result<(), LineFault> {
     for text in value.split(' ') {
         sizes.push(number(text).ok_or(LineFault::NotNumbers)? as usize)?;
     }
@@ -158,7 +177,7 @@ fn sizes(alloc: Global, value: &str) -> Result<Vec<usize>, LineFault> {
 }
 
 /// Adds the puts that fail: for each its number, and how many bytes it takes all the same.
-fn add_puts(puts: &mut Vec<FailingPut>, value: &str) -> Result<(), LineFault> {
+pub fn add_puts(puts: &mut Vec<FailingPut>, value: &str) -> Result<(), LineFault> {
     for text in value.split(' ') {
         let (call, taken) = pair(text, ':').ok_or(LineFault::NotPairs)?;
         puts.push(FailingPut {

@@ -2,6 +2,7 @@ ghost use Rattle.std.specs.Prelude.{◌≡◌, ℕ, false, IfOk};
 ghost use Rattle.sw_stores.specs.Shelf.{is_out};
 
 use crate::case::Case;
+use crate::connections::doors;
 use crate::volumes::{files_left, volumes};
 use crate::way::Change;
 use std::alloc::Global;
@@ -17,6 +18,8 @@ pub struct Ended {
     pub status: u8,
     pub output: MemSink,
     pub errors: MemSink,
+    /// With the connections that were finished, and the port at which it was listened.
+    pub doors: MemDoors,
     pub trail: Trail,
     /// The texts of the files of the devices whose files are wanted.
     pub files: Vec<Bytes>,
@@ -34,7 +37,7 @@ pub fn run(
     let mut output = MemSink::new(alloc, puts(alloc, &script.failing_puts, change)?);
     let mut errors = MemSink::new(alloc, Vec::from_slice(alloc, &script.failing_error_puts)?);
     let mut stores = stores(alloc, case, rings)?;
-    let mut doors = MemDoors::new(alloc, Vec::new(alloc), Vec::new(alloc));
+    let mut doors = doors(alloc, case)?;
     let mut clock = MemClock::new(Vec::from_slice(alloc, &script.clock)?);
     let mut trail = Trail::new(alloc);
     let status = cluster(
@@ -54,6 +57,7 @@ pub fn run(
         status,
         output,
         errors,
+        doors,
         trail,
         files,
     })
