@@ -1,5 +1,5 @@
 # `make run` shows the product at work, `make test` passes all its tests. Both need only the Rattle toolchain (`rt`) and Python 3.
-.PHONY: run example test check runs on-demand
+.PHONY: run example serve test check runs on-demand
 
 # The worked example: a PUT and a GET of one object, from standard input to standard output.
 run:
@@ -8,6 +8,10 @@ run:
 # A longer one: writes of all methods at two devices, and the trail of the steps that they made.
 example:
 	@tools/run-example examples/writes-and-trail.http
+
+# A PUT and a GET over TCP: starts the node, asks it as a client does, and looks at all that comes back.
+serve:
+	@tools/serve-run
 
 # The merge gate: proves everything from nothing where no earlier run did, and runs every test and program.
 test:

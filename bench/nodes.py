@@ -1,0 +1,115 @@
+"""What the benchmarks share: a node that is started and ended, the paths of objects, and the files that a node leaves on the disk."""
+import hashlib
+import json
+import os
+import pathlib
+import re
+import signal
+import socket
+import subprocess
+import sys
+
+TOP = pathlib.Path(__file__).resolve().parent.parent
+PROGRAM = TOP / "crates" / "sw" / "out" / "sw"
+RING = TOP / "examples" / "two-devices.ring.json"
+FILE_NAME = re.compile(r"[0-9]{10}\.[0-9]{5}\.(data|meta|ts)")
+
+
+def program():
+    """The program: the one that SW_PROGRAM names, else as it was last proved and built here."""
+    if "SW_PROGRAM" in os.environ:
+        return os.environ["SW_PROGRAM"]
+    if not PROGRAM.is_file():
+        sys.exit("there is no program yet: `rt run` in crates/sw proves and builds it")
+    return str(PROGRAM)
+
+
+class Ring:
+    def __init__(self, path=RING):
+        told = json.loads(pathlib.Path(path).read_text())
+        self.prefix, self.suffix = told["hash_prefix"].encode(), told["hash_suffix"].encode()
+        self.power, self.lock_bits, self.devices = told["part_power"], told["lock_bits"], told["devices"]
+
+    def hash_of(self, name):
+        """The hash path of an object, of which `name` is `account/container/object`."""
+        return hashlib.md5(self.prefix + b"/" + name.encode() + self.suffix).digest()
+
+    def partition_of(self, name):
+        return int.from_bytes(self.hash_of(name)[:4], "big") >> (32 - self.power)
+
+    def target(self, device, name):
+        return f"/{device}/{self.partition_of(name)}/{name}"
+
+    def directory(self, device, name):
+        """Where the files of an object stand, below the folder of the node."""
+        digest = self.hash_of(name)
+        stripe = digest[0] >> (8 - self.lock_bits)
+        digits = digest.hex()
+        return f"swc-data/{self.devices.index(device)}/{stripe:02}/objects/{self.partition_of(name)}/{digits[-3:]}/{digits}"
+
+
+class Node:
+    """A node that runs in a folder. `connections` is how many it serves before it ends by itself."""
+
+    def __init__(self, folder, connections=65536):
+        self.port = free_port()
+        words = [program(), "serve", str(RING), "--port", str(self.port), "--workers", "1", "--connections", str(connections), "--passes", "0"]
+        self.process = subprocess.Popen(words, cwd=folder, stdout=subprocess.PIPE, stderr=subprocess.PIPE)
+        line = self.process.stdout.readline()
+        if line != b"listening %d\n" % self.port:
+            self.process.kill()
+            sys.exit(f"the node doesn't listen: {line!r} {self.process.stderr.read()!r}")
+
+    def kill(self):
+        self.process.send_signal(signal.SIGKILL)
+        self.process.wait()
+        self.process.stdout.close()
+        self.process.stderr.close()
+
+    def processor_seconds(self):
+        """The seconds that the node has spent so far, its own and the kernel's for it."""
+        fields = pathlib.Path(f"/proc/{self.process.pid}/stat").read_text().rsplit(")", 1)[1].split()
+        tick = os.sysconf("SC_CLK_TCK")
+        return int(fields[11]) / tick, int(fields[12]) / tick
+
+    def memory(self):
+        """The most memory that was resident, in bytes."""
+        return int(re.search(r"VmHWM:\s+(\d+) kB", pathlib.Path(f"/proc/{self.process.pid}/status").read_text())[1]) * 1024
+
+
+def free_port():
+    with socket.socket() as taken:
+        taken.bind(("127.0.0.1", 0))
+        return taken.getsockname()[1]
+
+
+def data_file(name, time, body):
+    """The text of the file of an object without metadata. The names used here need no escape."""
+    head = f"SWC1 data\npath /{name}\ntime {time}\ntype text/plain\netag {hashlib.md5(body).hexdigest()}\nlength {len(body)}\n\n"
+    return head.encode() + body
+
+
+def fault_of(path):
+    """What is wrong with a file below `objects`, or None: it is to be one of the three kinds, whole, with its own time."""
+    kind = FILE_NAME.fullmatch(path.name)
+    if not kind:
+        return "its name isn't a write's"
+    head, found, body = path.read_bytes().partition(b"\n\n")
+    lines = head.decode(errors="replace").split("\n")
+    if not found or lines[0] != f"SWC1 {kind[1]}":
+        return "it doesn't begin as its kind does"
+    told = dict(line.partition(" ")[::2] for line in lines[1:] if not line.startswith("head "))
+    if told.get("time") != path.name.rsplit(".", 1)[0]:
+        return "its time isn't that of its name"
+    if kind[1] != "data":
+        return "there is something behind its head" if body else None
+    if told.get("length") != str(len(body)):
+        return f"it has {len(body)} bytes of body"
+    if told.get("etag") != hashlib.md5(body).hexdigest():
+        return "its body isn't that of its ETag"
+    return None
+
+
+def files_below(folder):
+    """All files below `objects` of all locks."""
+    return [path for path in pathlib.Path(folder, "swc-data").glob("*/*/objects/**/*") if path.is_file()]
