@@ -1,6 +1,6 @@
 -- What a request for replicas leaves of the nodes: they are those that were there, whatever run of the machine they stood for goes on, whether its
 -- lines are kept or not, and no line tells of a restart.
-use Rattle.std.proofs.Common.{◌≡◌, ℕ, ◌^◌, ◌<◌, true, List, [], ◌∷◌, refl, sym, ◌∙◌, ap, subst, Option, None, Some, Result, Ok, Err, inl, inr, ◌⊎◌}
+use Rattle.std.proofs.Common.{◌≡◌, ℕ, ◌^◌, ◌<◌, true, List, [], ◌∷◌, sym, ◌∙◌, ap, subst, Option, None, Some, Result, Ok, Err, inl, inr}
 use Rattle.std.specs.Bool.{⊤}
 use Rattle.std.specs.declared.alloc.Global.{Global}
 use Rattle.std.specs.declared.vec.Vec.{Vec}

@@ -1,5 +1,5 @@
 -- What a connection over a door leaves of its nodes, and how it follows from the session over its server.
-use Rattle.std.proofs.Common.{◌≡◌, ℕ, ◌≤◌, Bool, true, false, List, [], ◌∷◌, Option, Some, All, length, MatchBool, refl, sym, ◌∙◌, ap, subst, inl, inr, ◌⊎◌, MutBor, Result}
+use Rattle.std.proofs.Common.{◌≡◌, ℕ, Bool, true, false, List, [], ◌∷◌, Option, Some, All, MatchBool, refl, sym, ◌∙◌, ap, subst, inl, inr, ◌⊎◌, MutBor, Result}
 use Rattle.std.specs.Bool.{⊤}
 use Rattle.std.proofs.lemmas.List.Elements.{All-nil, All-cons}
 use Rattle.sw_control.specs.Asking.{is_control}

@@ -2,17 +2,15 @@
 use Rattle.std.proofs.Common.{◌≡◌, ◌≢◌, ℕ, Bool, true, false, ◌++◌, refl, sym, ◌∙◌, ap, subst, arith, ◌⊎◌, inl, inr, Result, Ok, Err, MatchBool}
 use Rattle.sw_control.proofs.OneControl.{asks_for_one}
 use Rattle.sw_control.proofs.ToldOutcomes.{tells_done}
-use Rattle.sw_control.specs.Asking.{IsControl, is_control}
+use Rattle.sw_control.specs.Asking.{is_control}
 use Rattle.sw_control.specs.OutcomeText.{outcome_text}
 use Rattle.sw_control.specs.Texts.{text_reply}
 use Rattle.sw_control.specs.declared.asking.Control.{Control}
 use Rattle.sw_control.specs.declared.asking.Control.TheVariants as controls
-use Rattle.sw_control.specs.declared.replication.Replication.{Replication}
 use Rattle.sw_core.specs.Worlds.{AllNodes, sight_of}
 use Rattle.sw_hashpath.specs.HashParts.{suffix_of}
 use Rattle.sw_lossy.specs.Losses.{begun}
 use Rattle.sw_lossy.specs.declared.acts.Acts.{Acts}
-use Rattle.sw_message.specs.declared.response.ReplyBody.{ReplyBody}
 use Rattle.sw_message.specs.declared.response.ReplyBody.TheVariants.{Whole}
 use Rattle.sw_message.specs.declared.response.Response.{Response}
 use Rattle.sw_object_server.specs.Replies.{bare}
@@ -29,7 +27,7 @@ use Rattle.sw_steps.proofs.Running.{sight_after}
 use Rattle.sw_steps.specs.Passing.{IsPushedOver}
 use Rattle.sw_volume.specs.Tree.{Folders}
 use Rattle.sw_cluster.specs.Exchanging.{ExchangeMeets, IsDonePush, TellsDone}
-use Rattle.sw_cluster.specs.Server.{IsControlDone, IsControlled, IsPushReply, IsReplicated, IsRight, IsWanting}
+use Rattle.sw_cluster.specs.Server.{IsControlDone, IsControlled, IsPushReply, IsReplicated}
 
 from_true : (X Y : Type 0) (b : Bool) → b ≡ true → MatchBool b X Y → X
 from_true X Y true is x = x

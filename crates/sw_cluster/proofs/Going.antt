@@ -1,17 +1,15 @@
 -- Whatever run of the machine nodes stood for goes on, by lines that nobody has to keep.
-use Rattle.std.proofs.Common.{◌≡◌, ℕ, Bool, true, List, [], ◌∷◌, ◌++◌, refl, sym, ◌∙◌, ap, subst, Result, Ok}
-use Rattle.std.specs.Bool.{⊤}
+use Rattle.std.proofs.Common.{◌≡◌, ℕ, Bool, true, List, [], ◌++◌, refl, sym, ◌∙◌, ap, subst, Result, Ok}
 use Rattle.std.specs.declared.alloc.Global.{Global}
 use Rattle.std.specs.declared.vec.Vec.{Vec}
 use Rattle.sw_core.specs.Doors.{StandsFor}
 use Rattle.sw_core.specs.Machine.{Machine, RunLine}
 use Rattle.sw_core.specs.Worlds.{AllNodes}
-use Rattle.sw_hashpath.specs.HashParts.{suffix_of}
 use Rattle.sw_hashpath.specs.declared.name.Name.{Name}
-use Rattle.sw_peer.proofs.Calls.{calls-moves, files-step, hashes-step, made-step, read-step}
+use Rattle.sw_peer.proofs.Calls.{calls-moves, made-step, read-step}
 use Rattle.sw_peer.specs.Journals.{Hash}
 use Rattle.sw_peer.specs.Parts.{IsOfPart}
-use Rattle.sw_peer.specs.Sights.{Calls, IsAt, IsFilesRead, IsHashesRead, IsMade, IsRead, Moves, PartMoves, Sight}
+use Rattle.sw_peer.specs.Sights.{Calls, IsAt, IsFilesRead, IsHashesRead, IsMade, IsRead, Moves, Sight}
 use Rattle.sw_peer.specs.declared.answer.Answer.{Answer}
 use Rattle.sw_peer.specs.declared.change.Change.{Change}
 use Rattle.sw_peer.specs.declared.dir_fault.DirFault.{DirFault}

@@ -1,5 +1,5 @@
 -- The nodes of a ring answer a request for replicas, and can go on.
-use Rattle.std.proofs.Common.{◌≡◌, ℕ, ◌+◌, ◌^◌, Bool, true, false, MatchBool, Some, refl, inl, inr, ◌⊎◌, arith, MutBor}
+use Rattle.std.proofs.Common.{◌≡◌, ℕ, ◌^◌, Bool, true, false, MatchBool, refl, inl, inr, ◌⊎◌, arith, MutBor}
 use Rattle.sw_control.specs.Asking.{is_control}
 use Rattle.sw_core.specs.Worlds.{AllNodes, sight_of}
 use Rattle.sw_message.specs.declared.request.Request.{Request}
@@ -17,7 +17,7 @@ use Rattle.sw_cluster.proofs.Restarting.{no-line, none-called, some_is}
 use Rattle.sw_cluster.proofs.Serving.{goes_on, on_false}
 use Rattle.sw_cluster.specs.Nodes.{IsReady, NodesAnswer}
 use Rattle.sw_cluster.specs.Restarts.{restarts_in}
-use Rattle.sw_cluster.specs.Server.{IsCompared, IsControlled, IsRight, IsWanting, MayAnswer}
+use Rattle.sw_cluster.specs.Server.{IsCompared, IsControlled, IsRight, IsWanting}
 
 module _ {V S : Type 0} (tells : V → Bool) (files : V → Folders) (faults : V → ℕ) (store_faults store_calls : S → ℕ) (out : S → ℕ → ℕ → Bool)
     (ring : Ring) (w after : AllNodes V) (stores : MutBor S) (request : Request) (moment : ℕ) (response : Response)

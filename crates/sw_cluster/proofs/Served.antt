@@ -1,12 +1,12 @@
 -- What connections that were served leave: a run of the machine, and files that stand for what reached in it.
-use Rattle.std.proofs.Common.{◌≡◌, ℕ, zero, suc, ◌*◌, ◌^◌, ◌<◌, Bool, true, false, not, ◌&&◌, List, [], ◌∷◌, length, Option, None, Some, Result, Ok, Err, ◌⊎◌, inl, inr}
+use Rattle.std.proofs.Common.{◌≡◌, ℕ, zero, suc, ◌*◌, ◌^◌, ◌<◌, Bool, true, false, not, ◌&&◌, List, [], ◌∷◌, length, Option, None, Some, Result, Ok, Err, inl, inr}
 use Rattle.std.proofs.Common.{refl, sym, ◌∙◌, ap, subst}
 use Rattle.std.specs.Bool.{⊤}
 use Rattle.std.specs.List.{slice_get}
 use Rattle.std.proofs.lemmas.List.{length-map}
 use Rattle.sw_core.specs.Doors.{StandsFor}
-use Rattle.sw_core.specs.Machine.{Machine, Runs, machine_of}
-use Rattle.sw_core.specs.Worlds.{AllNodes, IsWorld, nodes_of, opened, shown, sight_of, without_lines}
+use Rattle.sw_core.specs.Machine.{Machine, machine_of}
+use Rattle.sw_core.specs.Worlds.{AllNodes, IsWorld, opened, sight_of}
 use Rattle.sw_core.specs.declared.slot.Slot.TheVariants as slots
 use Rattle.sw_objdir.specs.Directories.{Kept}
 use Rattle.sw_peer.specs.Journals.{Hash}
@@ -19,7 +19,7 @@ use Rattle.sw_volume.specs.Tree.{Folders}
 use Rattle.sw_cluster.proofs.Connecting.{connection-goes, connection-nodes}
 use Rattle.sw_cluster.proofs.Going.{Goes, goes-join, goes-same, restart-goes}
 use Rattle.sw_cluster.proofs.Serving.{goes_on}
-use Rattle.sw_cluster.proofs.Storing.{out-is, rests-before, stands-begun, stored}
+use Rattle.sw_cluster.proofs.Storing.{rests-before, stands-begun, stored}
 use Rattle.sw_cluster.specs.Ending.{AllTold, IsStored}
 use Rattle.sw_cluster.specs.Leaving.{AreLeft, IsOut}
 use Rattle.sw_cluster.specs.Nodes.{IsReady, out_but, places_at, places_of}

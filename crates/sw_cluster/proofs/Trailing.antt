@@ -1,21 +1,14 @@
 -- What a session over the nodes of a ring knows of them, request by request, and what its trail tells at the end.
-use Rattle.std.proofs.Common.{◌≡◌, ℕ, ◌+◌, ◌-◌, ◌*◌, ◌/◌, ◌%◌, ◌^◌, ◌<◌, ◌≤◌, ◌==◌, Bool, true, false, ◌&&◌, not, List, length, arith, Option, Some, None}
-use Rattle.std.proofs.Common.{refl, sym, ◌∙◌, ap, subst, Result, Ok, Err, ◌⊎◌, inl, inr, if◌then◌else◌, MutBor}
+use Rattle.std.proofs.Common.{◌≡◌, ℕ, ◌*◌, ◌^◌, ◌<◌, ◌≤◌, ◌==◌, Bool, true, false, ◌&&◌, not, List, length, Option, Some, None}
+use Rattle.std.proofs.Common.{refl, sym, ◌∙◌, ap, subst, Result, Ok, Err, inl, inr, if◌then◌else◌, MutBor}
 use Rattle.std.specs.Bool.{⊤}
 use Rattle.std.proofs.lemmas.List.{length-map}
 use Rattle.std.specs.List.{slice_get}
-use Rattle.std.proofs.lemmas.Bool.{cases_lt}
-use Rattle.std.proofs.lemmas.Nat.{div-mul-add, mod-mul-add, pow_pos, rows}
-use Rattle.std.proofs.lemmas.Option.{slice_get_past}
-use Rattle.sw_hashpath.specs.HashParts.{partition_of}
-use Rattle.sw_hashdir.specs.Places.{holds}
-use Rattle.sw_objdir.proofs.Looking.{held-told}
 use Rattle.sw_objdir.specs.Directories.{Kept}
 use Rattle.sw_message.specs.declared.request.Request.{Request}
 use Rattle.sw_message.specs.declared.response.Response.{Response}
 use Rattle.sw_outside.specs.Counts.{raised}
 use Rattle.sw_outside.specs.Readings.{TicksEach}
-use Rattle.sw_peer.specs.Journals.{Hash}
 use Rattle.sw_peer.specs.Sights.{Nodes as SightNodes, Sight}
 use Rattle.sw_peer.specs.declared.line.Line.{Line}
 use Rattle.sw_ring.specs.declared.ring.Ring.{Ring}
@@ -26,8 +19,6 @@ use Rattle.sw_session.specs.declared.server.ServerFault.{ServerFault}
 use Rattle.sw_session.specs.declared.server.ServerFault.TheVariants as servers
 use Rattle.sw_session.specs.declared.session.SessionFault.{SessionFault}
 use Rattle.sw_session.specs.declared.session.SessionFault.TheVariants as session_faults
-use Rattle.sw_state.proofs.StateLaws.{state_of-writes_of}
-use Rattle.sw_stores.proofs.AtPlaces.{resting-at}
 use Rattle.sw_stores.specs.Places.{ComeHome, at_place}
 use Rattle.sw_stores.specs.Volumes.{AreResting}
 use Rattle.sw_volume.specs.Tree.{Folders}
@@ -36,16 +27,13 @@ use Rattle.sw_cluster.specs.Restarts.{AreCalled, restarts_in}
 use Rattle.sw_cluster.proofs.Exchanging.{exchange_meets}
 use Rattle.sw_cluster.proofs.Readying.{ready-of}
 use Rattle.sw_cluster.proofs.Restarting.{called-on, none-called, out-called, whole-called}
-use Rattle.sw_core.proofs.Placed.{stripe-below}
 use Rattle.sw_core.proofs.Sessions.{run-begins}
-use Rattle.sw_core.proofs.Wholes.{open-at}
-use Rattle.sw_core.specs.Doors.{HasRun, StandsFor}
-use Rattle.sw_core.specs.Machine.{Runs, came_in, machine_of, state}
-use Rattle.sw_core.specs.Worlds.{AllNodes, AreLifted, HasLimits, IsWorld, Lifts, first_of, held_of, lock_of, nodes_of, stripe_at}
-use Rattle.sw_core.specs.Worlds.{opened, past_of, seen_of, shown, sight_of, without_lines}
-use Rattle.sw_core.specs.declared.slot.Slot.{Slot}
+use Rattle.sw_core.specs.Doors.{HasRun}
+use Rattle.sw_core.specs.Machine.{Runs, came_in, machine_of}
+use Rattle.sw_core.specs.Worlds.{AllNodes, IsWorld, Lifts, first_of, nodes_of}
+use Rattle.sw_core.specs.Worlds.{opened, shown, sight_of, without_lines}
 use Rattle.sw_core.specs.declared.slot.Slot.TheVariants as slots
-use Rattle.sw_cluster.specs.Ending.{AllTold, IsRunOver, IsStored, IsTrail, status_by}
+use Rattle.sw_cluster.specs.Ending.{AllTold, IsRunOver, IsTrail, status_by}
 use Rattle.sw_cluster.specs.Nodes.{IsReady, NodesAnswer, NodesHalt, faults_by, out_but, places_at, places_of}
 use Rattle.sw_cluster.specs.Server.{MayAnswer, MayHalt}
 use Rattle.sw_cluster.specs.Statuses as statuses

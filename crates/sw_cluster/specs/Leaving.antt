@@ -1,9 +1,8 @@
 -- How the nodes of a ring are left where their devices were to be restarted: what is asked for so that their volumes can be given back. (This
 -- project's own.)
-use Rattle.std.specs.Prelude.{◌≡◌, ℕ, ◌+◌, ◌*◌, ◌^◌, ◌<◌, ◌≤◌, Bool, None, Option, length, List, ◌⊎◌}
-use Rattle.sw_core.specs.Worlds.{AllNodes, Lifts, first_of, nodes_of, shown}
+use Rattle.std.specs.Prelude.{◌≡◌, ℕ, ◌+◌, ◌*◌, ◌^◌, ◌<◌, ◌≤◌, Bool, Option, length, ◌⊎◌}
+use Rattle.sw_core.specs.Worlds.{AllNodes}
 use Rattle.sw_ring.specs.declared.ring.Ring.{Ring}
-use Rattle.sw_stores.specs.Volumes.{AreResting}
 use Rattle.sw_volume.specs.Tree.{Folders}
 use Rattle.sw_volume.specs.Volume.{raised_by}
 use Rattle.sw_cluster.specs.Nodes.{FailsToStart, IsReady}

@@ -16,8 +16,8 @@ ghost use Rattle.sw_words.specs.declared.serve.ServeOptions.{ServeOptions as Ser
 
 use crate::locate::locate;
 use crate::opening::{OpenFault, open_ring};
-use crate::running::run_session;
 use crate::rounds::serve_connections;
+use crate::running::run_session;
 use crate::status::{BAD_RING, NO_MEMORY, STORE_FAULT, USAGE, line_of, ring_line};
 use crate::words::{is_run, is_where, ring_of};
 use std::alloc::Global;

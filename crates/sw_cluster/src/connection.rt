@@ -114,13 +114,6 @@ pub fn serve_connection<R: Source, W: Sink, D: ReplicaDoor>(
     let mut server = DoorServer { ring, door };
     let mut clock = StillClock { now };
     let mut moments = Vec::new(alloc);
-    let ended = serve(
-        alloc,
-        &mut server,
-        &mut moments,
-        source,
-        out,
-        &mut clock,
-    );
+    let ended = serve(alloc, &mut server, &mut moments, source, out, &mut clock);
     status_of(ended)
 }

@@ -1,5 +1,4 @@
 use Rattle.std.proofs.Common.{◌≡◌, ℕ, refl, sym, subst, rules}
-use Rattle.sw_peer.specs.Sights.{Sight}
 use Rattle.sw_session.specs.Passages.{Passage, passage}
 use Rattle.sw_cluster.proofs.Connecting.{connection-nodes, connection-of, door_in, ring_in, same-door, still-each}
 use Rattle.sw_cluster.specs.Connections.{IsConnection}

@@ -1,5 +1,5 @@
-use Rattle.std.proofs.Common.{◌≡◌, ◌∙◌, ◌*◌, ◌^◌, length, inl, inr, refl, subst, sym, ap}
-use Rattle.sw_core.specs.Worlds.{AllNodes, opened, without_lines}
+use Rattle.std.proofs.Common.{◌∙◌, ◌*◌, ◌^◌, length, inl, inr, refl, subst, sym, ap}
+use Rattle.sw_core.specs.Worlds.{AllNodes, without_lines}
 use Rattle.sw_session.specs.Passages.{passage}
 use Rattle.sw_volume.specs.Volume.{raised_by}
 use Rattle.sw_cluster.proofs.Rounding.{counts-same}

@@ -18,8 +18,7 @@ restart_all-requires g c =
 pub returns-in-Err-Failed-restart_all-clause-stops : goal.returns-in-Err-Failed-restart_all-clause-stops
 returns-in-Err-Failed-restart_all-clause-stops g c =
     let s = g.S.Stores in let v = g.S.V.Volume in let n = g.N.Doors in
-    let one = c.in-Ok.ensures.one in let stops = c.in-Err-Failed-restart_all.ensures.stops in
-    (
+    let one = c.in-Ok.ensures.one in let stops = c.in-Err-Failed-restart_all.ensures.stops in (
       stops.0,
       (
         one-stopped v.tells v.holds v.faults c.args.ring.now c.args.world.now c.serve_one.new.door
@@ -36,8 +35,7 @@ returns-in-Err-Failed-restart_all-clause-stops g c =
 pub returns-in-Err-NoMemory-restart_all-clause-stops : goal.returns-in-Err-NoMemory-restart_all-clause-stops
 returns-in-Err-NoMemory-restart_all-clause-stops g c =
     let s = g.S.Stores in let v = g.S.V.Volume in let n = g.N.Doors in
-    let one = c.in-Ok.ensures.one in let stops = c.in-Err-NoMemory-restart_all.ensures.stops in
-    (
+    let one = c.in-Ok.ensures.one in let stops = c.in-Err-NoMemory-restart_all.ensures.stops in (
       stops.0,
       (
         inr (one-stopped v.tells v.holds v.faults c.args.ring.now c.args.world.now c.serve_one.new.door

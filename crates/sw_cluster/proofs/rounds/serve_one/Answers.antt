@@ -17,8 +17,7 @@ returns-clause-one g c =
         status = served.result;
       };
       moment = c.now-now.result;
-    } in
-    (
+    } in (
       round,
       served.ensures.connection,
       record {

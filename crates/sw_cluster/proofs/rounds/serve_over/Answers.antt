@@ -1,4 +1,4 @@
-use Rattle.std.proofs.Common.{◌≡◌, ◌∙◌, ℕ, Option, refl, sym, ap, subst, length}
+use Rattle.std.proofs.Common.{◌∙◌, ℕ, Option, refl, sym, ap, subst}
 use Rattle.sw_core.specs.Worlds.{AllNodes, opened}
 use Rattle.sw_cluster.proofs.Going.{Goes}
 use Rattle.sw_cluster.proofs.Readying.{ready-of}

@@ -1,4 +1,4 @@
-use Rattle.std.proofs.Common.{◌≡◌, ◌*◌, ◌^◌, ℕ, length, inl, inr, refl, subst, sym}
+use Rattle.std.proofs.Common.{◌*◌, ◌^◌, ℕ, length, inl, inr, refl, subst, sym}
 use Rattle.sw_core.specs.Worlds.{AllNodes}
 use Rattle.sw_session.specs.Passages.{passage}
 use Rattle.sw_volume.specs.Volume.{raised_by}

@@ -1,4 +1,4 @@
-use Rattle.std.proofs.Common.{rules, ◌≡◌, ℕ, ◌*◌, ◌^◌, ◌<◌, ◌≤◌, ◌+◌, length, inr, arith, ap, sym, ◌∙◌, List, subst}
+use Rattle.std.proofs.Common.{rules, ◌≡◌, ◌*◌, ◌^◌, length, ap, sym, ◌∙◌, List, subst}
 use Rattle.sw_stores.specs.Volumes.{AreStarted}
 use Rattle.sw_cluster.proofs.Undoing.{given-back}
 use Rattle.sw_cluster.proofs.volumes.open_nodes.Goals as goal
