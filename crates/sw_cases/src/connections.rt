@@ -1,11 +1,16 @@
+ghost use Rattle.std.specs.Prelude.{◌≤◌, length, IfOk};
+ghost use Rattle.sw_outside.specs.Doors.{accepts_of, finished_of};
+
 use crate::case::Case;
 use crate::connection::{Connection, Exchange};
 use crate::difference::{Difference, Part};
 use std::alloc::Global;
 use sw_outside::{Bytes, MemConnection, MemDoors, MemFinished, NoMemory};
 
-/// Doors to which the connections of a case come.
-pub fn doors(alloc: Global, case: &Case) -> Result<MemDoors, NoMemory> {
+/// Doors to which the connections of a case come. No connection was finished that wasn't accepted.
+pub fn doors(alloc: Global, case: &Case) -> Result<MemDoors, NoMemory>
+    ensures { IfOk result (λ doors. length (finished_of doors) ≤ length (accepts_of doors)) }
+{
     let mut coming = Vec::new(alloc);
     for (connection, exchange) in case.script.connections.iter().zip(&case.exchanges) {
         coming.push(ends(alloc, connection, exchange)?)?;
