@@ -1,17 +1,19 @@
 -- What a step at the containers of a lock is: one of its lock, by the relations that every door of container nodes uses. (This project's own.)
-use Rattle.std.specs.Prelude.{◌≡◌, ◌≢◌, ℕ, Bool, true, Option, Result}
+use Rattle.std.specs.Prelude.{◌≡◌, ◌≢◌, ℕ, Bool, true, List, ◌++◌, Option, Result}
 use Rattle.sw_hashpath.specs.declared.place.Place.{Place}
 use Rattle.sw_rows.specs.declared.tables.Tables.{Tables}
 use Rattle.sw_container_steps.specs.Histories.{ContStepChanges, ContStepReads}
 use Rattle.sw_container_steps.specs.declared.cont_answer.ContAnswer.{ContAnswer}
 use Rattle.sw_container_steps.specs.declared.cont_change.ContChange.{ContChange}
+use Rattle.sw_container_steps.specs.declared.cont_entry.ContEntry.{ContEntry}
 use Rattle.sw_container_db.specs.ContDirs.{ContKept, cont_history_of}
 
 module _ {K : Type 0} (tells : K → Bool) (holds : K → Place → Option Tables) (faults : K → ℕ) where
-  -- what no step changes
+  -- what no step changes; and what it enters is kept to be taken
   pub record IsSameDir (k n : ContKept K) : Type 0 where
     pub began : n.began ≡ k.began
     pub told : tells n.keeper ≡ tells k.keeper
+    pub fresh : (added : List ContEntry) → n.journal.entries ≡ k.journal.entries ++ added → n.fresh ≡ k.fresh ++ added
 
   -- a step that may change what stands at the place; at every other place is held what was held there
   pub record IsStep (k : ContKept K) (place : Place) (change : ContChange) (answer : ContAnswer) (n : ContKept K) : Type 0 where

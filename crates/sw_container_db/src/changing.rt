@@ -1,11 +1,14 @@
-ghost use Rattle.std.specs.Prelude.{◌≡◌, ◌≢◌, ◌+◌, ◌<◌, ◌≤◌, ◌^◌, true, [], ◌++◌, length, vec_len, vec_capacity, nat_le, ◌&&◌};
-ghost use Rattle.sw_container_db.specs.Calling.{Called};
+ghost use Rattle.std.specs.Prelude.{◌≡◌, ◌≢◌, ◌+◌, ◌<◌, ◌^◌, true, List, [], ◌++◌, Some, length, nat_le, ◌&&◌};
+ghost use Rattle.sw_container_db.specs.Calling.{Called, CalledBy};
 ghost use Rattle.sw_container_db.specs.ContDirs.{cont_history_of};
 ghost use Rattle.sw_container_db.specs.Stepping.{IsStep};
 ghost use Rattle.sw_container_steps.specs.Histories.{ContStepChanges};
+ghost use Rattle.sw_container_steps.specs.declared.cont_entry.ContEntry.{ContEntry};
 ghost use Rattle.sw_hashpath.specs.declared.place.Place.{Place};
 
 use crate::cont_dir::ContDir;
+use crate::entering::{enter, make_room};
+use crate::loading::{Loaded, tables_in, take};
 use crate::sign::{Doubt, sign_of};
 use std::alloc::Global;
 use sw_container_steps::{
@@ -18,8 +21,8 @@ use sw_outside::NoMemory;
 impl<K: Keeper + Drop> ContDir<K> {
     /// Makes a step that may change the container.
     ///
-    /// It settles the doubt where there is one, and loads the container's tables. What stands refuses the step, or the journal has no room for its
-    /// entries, or their batch is committed. A step that has nothing to change commits nothing.
+    /// It settles the doubt where there is one, and loads the container's tables where they aren't loaded. What stands refuses the step, or the journal
+    /// has no room for its entries, or their batch is committed. A step that has nothing to change commits nothing.
     ///
     /// [`ContAnswer::Failed`] comes only where a call of the keeper failed: after a load nothing was done, and after the commit the entries are in
     /// doubt. [`ContAnswer::NoMemory`] leaves all tables as they are.
@@ -27,56 +30,55 @@ impl<K: Keeper + Drop> ContDir<K> {
         ensures made { IsStep K.tells K.holds K.faults self.old place.now change.now result self.new }
         ensures called { Called K.tells K.holds K.faults K.calls self.old place.now change.now result self.new }
     {
-        match self.settle(alloc) {
+        match self.ready(alloc, place) {
             Ok(()) => self.make(alloc, place, change),
-            Err(KeeperError::Failed) => ContAnswer::Failed,
-            Err(KeeperError::NoMemory) => ContAnswer::NoMemory,
+            Err(answer) => answer,
         }
     }
 
-    /// The same, with no doubt left. Room for the entries, and for a doubt of them, is taken before the commit.
+    /// The same, with no doubt left and the tables loaded. Room for the entries is taken before the commit, and the tables are taken apart only for it.
     fn make(&mut self, alloc: Global, place: &Place, change: &ContChange) -> ContAnswer
         requires doubt { self.old.journal.doubts ≡ [] }
+        requires loaded { self.old.loaded ≡ Some place.now }
         ensures began { self.new.began ≡ self.old.began }
         ensures told { K.tells self.new.keeper ≡ K.tells self.old.keeper }
+        ensures fresh { (added : List ContEntry) → self.new.journal.entries ≡ self.old.journal.entries ++ added → self.new.fresh ≡ self.old.fresh ++ added }
         ensures others { K.tells self.old.keeper ≡ true → (p : Place) → p ≢ place.now → K.holds self.new.keeper p ≡ K.holds self.old.keeper p }
         ensures made { ContStepChanges true (cont_history_of K.tells K.holds K.faults self.old) (K.holds self.old.keeper place.now) place.now change.now
             result (cont_history_of K.tells K.holds K.faults self.new) (K.holds self.new.keeper place.now) }
-        ensures called { Called K.tells K.holds K.faults K.calls self.old place.now change.now result self.new }
+        ensures called { CalledBy K.tells K.holds K.faults K.calls 0 self.old place.now change.now result self.new }
     {
-        let tables = match self.keeper.load(alloc, place) {
-            Ok(tables) => tables,
-            Err(KeeperError::Failed) => return ContAnswer::Failed,
-            Err(KeeperError::NoMemory) => return ContAnswer::NoMemory,
-        };
-        let entries = match decide(alloc, &tables, place, change) {
+        let tables = tables_in(&self.loaded);
+        let entries = match decide(alloc, tables, place, change) {
             Ok(Decision::Refused(answer)) => return answer,
             Ok(Decision::Makes(entries)) => entries,
             Err(NoMemory) => return ContAnswer::NoMemory,
         };
-        let mut batch: Vec<ContEntry> = entries.into();
+        let batch: Vec<ContEntry> = entries.into();
         let count = count_of(&self.entries);
         let more = count_of(&batch);
-        let answer = made_answer(&tables, change, count + more);
+        let answer = made_answer(tables, change, count + more);
         if more == 0 {
             return answer;
         }
-        if !has_room(count, more, self.max_entries, has_numbers(&tables, &batch)) {
+        if !has_room(count, more, self.max_entries, has_numbers(tables, &batch)) {
             return ContAnswer::JournalFull;
         }
-        if self.entries.reserve(batch.len()).is_err() {
+        let sign = sign_of(tables);
+        if make_room(&mut self.entries, &mut self.fresh, batch.len()).is_err() {
             return ContAnswer::NoMemory;
         }
-        let Ok(at) = place.copy(alloc) else {
-            return ContAnswer::NoMemory;
-        };
-        let sign = sign_of(&tables);
+        let Loaded { place: at, tables } = take(&mut self.loaded);
         let Ok(made) = batch_of(alloc, tables, &batch) else {
             return ContAnswer::NoMemory;
         };
         match self.keeper.commit(alloc, place, &made.batch) {
             Ok(()) => {
-                join(&mut self.entries, &mut batch);
+                enter(&mut self.entries, &mut self.fresh, batch);
+                self.loaded = Some(Loaded {
+                    place: at,
+                    tables: made.tables,
+                });
                 answer
             }
             Err(KeeperError::NoMemory) => ContAnswer::NoMemory,
@@ -93,7 +95,7 @@ impl<K: Keeper + Drop> ContDir<K> {
 }
 
 /// How many entries there are.
-fn count_of(entries: &Vec<ContEntry>) -> u64
+fn count_of<T>(entries: &Vec<T>) -> u64
     ensures length { result ≡ length entries.now.items }
     ensures within { result < 2 ^ 63 }
 {
@@ -107,12 +109,4 @@ fn has_room(count: u64, more: u64, max_entries: u64, numbers: bool) -> bool
     ensures { result ≡ (nat_le (count + more) max_entries && numbers) }
 {
     count + more <= max_entries && numbers
-}
-
-/// Moves the batch behind the entries, where there is room for it.
-fn join(entries: &mut Vec<ContEntry>, batch: &mut Vec<ContEntry>)
-    requires room { vec_len entries.old + vec_len batch.old ≤ vec_capacity entries.old }
-    ensures items { entries.new.items ≡ entries.old.items ++ batch.old.items }
-{
-    let _ = entries.append(batch);
 }

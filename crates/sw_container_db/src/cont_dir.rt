@@ -1,43 +1,55 @@
-ghost use Rattle.std.specs.Prelude.{◌≡◌, true, [], length};
+ghost use Rattle.std.specs.Prelude.{◌≡◌, true, [], None, length};
 ghost use Rattle.sw_container_db.specs.ContDirs.{Fits, cont_history_of};
 ghost use Rattle.sw_container_steps.specs.Entries.{about};
 ghost use Rattle.sw_container_steps.specs.Histories.{cont_stands};
 ghost use Rattle.sw_hashpath.specs.declared.place.Place.{Place};
 
+use crate::loading::Loaded;
 use crate::sign::Doubt;
 use std::alloc::Global;
 use std::marker::Model;
+use std::mem;
 use std::snapshot::Snapshot;
-use sw_container_steps::ContEntry;
+use sw_container_steps::{ContEntry, ContEntryList};
+use sw_history::Seen;
 use sw_keeper::Keeper;
 
 /// What one container lock holds: a keeper, what was entered since the lock began, and the entries of a step that failed in
 /// its commit, if one did and isn't settled.
+///
+/// Of what was entered only contracts see all. The entries themselves are kept until they are taken. The tables that were
+/// loaded last are kept too, as long as they are what the keeper holds.
 #[derive(Drop)]
 pub struct ContDir<K: Keeper + Drop> {
     pub(crate) keeper: K,
     opening: Snapshot<K>,
-    pub(crate) entries: Vec<ContEntry>,
+    pub(crate) loaded: Option<Loaded>,
+    pub(crate) entries: Vec<Seen<ContEntry>>,
+    pub(crate) fresh: Vec<ContEntry>,
     pub(crate) doubt: Option<Doubt>,
     pub(crate) max_entries: u64,
 }
 
 impl<K: Keeper + Drop> Model for ContDir<K> {
-    ghost use Rattle.sw_container_db.specs.ContDirs.{ContKept, IsContDir, batch_in};
+    ghost use Rattle.sw_container_db.specs.ContDirs.{ContKept, IsContDir, batch_in, place_of};
 
     ghost Value = { ContKept K };
 
     ghost view = { λ n. record {
       keeper = n.keeper;
       began = n.opening.value;
+      loaded = place_of n.loaded;
+      fresh = n.fresh.items;
       journal = record { entries = n.entries.items; doubts = batch_in n.doubt; max_entries = n.max_entries; max_bytes = 0 };
     } };
 
     ghost invariant = { λ n. IsContDir K.tells K.holds K.faults (record {
       keeper = n.keeper;
       began = n.opening.value;
+      loaded = place_of n.loaded;
+      fresh = n.fresh.items;
       journal = record { entries = n.entries.items; doubts = batch_in n.doubt; max_entries = n.max_entries; max_bytes = 0 };
-    }) n.doubt };
+    }) n.doubt n.loaded };
 }
 
 impl<K: Keeper + Drop> ContDir<K> {
@@ -46,11 +58,15 @@ impl<K: Keeper + Drop> ContDir<K> {
         ensures keeper { result.keeper ≡ keeper }
         ensures began { result.began ≡ keeper }
         ensures journal { result.journal ≡ record { entries = []; doubts = []; max_entries = max_entries; max_bytes = 0 } }
+        ensures fresh { result.fresh ≡ [] }
+        ensures loaded { result.loaded ≡ None }
     {
         ContDir {
             opening: Snapshot::of(&keeper),
             keeper,
+            loaded: None,
             entries: Vec::new(alloc),
+            fresh: Vec::new(alloc),
             doubt: None,
             max_entries,
         }
@@ -61,6 +77,15 @@ impl<K: Keeper + Drop> ContDir<K> {
         ensures { result ≡ length self.now.journal.entries }
     {
         self.entries.len() as u64
+    }
+
+    /// Takes out what was entered since this was last called, or since the lock began: the entries in order, those of settled doubts too. It takes
+    /// no memory.
+    pub fn take_fresh(&mut self, alloc: Global) -> ContEntryList
+        ensures entries { result ≡ self.old.fresh }
+        ensures after { self.new ≡ record self.old { fresh = [] } }
+    {
+        mem::replace(&mut self.fresh, Vec::new(alloc)).into()
     }
 
     /// Ends it, and gives the keeper back. Who begins anew on it has every batch that was entered, and the one in doubt whole or not at all. It

@@ -1,9 +1,10 @@
 //! Containers of one lock, over any keeper.
 //!
-//! A [`ContDir`] loads the tables of a container at each step, answers from them, and commits what the step enters as one batch. It keeps no copy
-//! of them, only the journal: the entries that were made since it began, and those of the one step that failed in its commit, of which all were
-//! made or none. Whatever step comes next first loads the doubted place, and by the times of the container and the greatest number that it gave
-//! out it finds whether they were made.
+//! A [`ContDir`] answers a step from the tables of its container, and commits what the step enters as one batch. The tables that it loaded last stay
+//! loaded as long as they are what the keeper holds, so that a step at the same place needs no load. It keeps the journal: the entries that were
+//! made since it began, and those of the one step that failed in its commit, of which all were made or none. Whatever step comes next first loads
+//! the doubted place, and by the times of the container and the greatest number that it gave out it finds whether they were made. The values of the
+//! entries that were made are moved, not copied, to where [`ContDir::take_fresh`] takes them out; once they are taken, only contracts see them.
 //!
 //! Each step is one of the relations that `sw_container_steps` has for every door. `specs/ContDirs` says what contracts see of a lock,
 //! `specs/Stepping` what a step is, and `specs/Calling` which calls of the keeper it makes and what each leaves where it is the one that failed.
@@ -11,6 +12,8 @@
 
 mod changing;
 mod cont_dir;
+mod entering;
+mod loading;
 mod naming;
 mod reading;
 mod settling;

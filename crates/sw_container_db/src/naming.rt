@@ -1,10 +1,10 @@
 ghost use Rattle.std.specs.Prelude.{◌≡◌, true, [], IsSome, IfOk, IfErr, OnOk};
-ghost use Rattle.sw_container_db.specs.Calling.{ReadCalled, SameTables};
+ghost use Rattle.sw_container_db.specs.Calling.{NamesCalled, SameTables};
 ghost use Rattle.sw_container_db.specs.ContDirs.{cont_history_of};
 ghost use Rattle.sw_container_db.specs.Stepping.{IsSameDir};
 ghost use Rattle.sw_container_steps.specs.Histories.{OnlySettlesCont, cont_stands, is_fault};
 ghost use Rattle.sw_keeper.specs.Keeping.{ListsPlaces};
-ghost use Rattle.sw_peer.specs.Halves.{GrowsOf};
+ghost use Rattle.sw_history.specs.Halves.{GrowsOf};
 
 use crate::cont_dir::ContDir;
 use std::alloc::Global;
@@ -24,7 +24,7 @@ impl<K: Keeper + Drop> ContDir<K> {
         ensures places { IfOk result (λ places. K.tells self.old.began ≡ true
             → ListsPlaces places.items (λ place. IsSome (cont_stands (cont_history_of K.tells K.holds K.faults self.new) place))) }
         ensures fault { IfErr result (λ answer. is_fault answer ≡ true) }
-        ensures called { ReadCalled K.tells K.holds K.faults K.calls self.old result self.new }
+        ensures called { NamesCalled K.tells K.holds K.faults K.calls self.old result self.new }
     {
         match self.settle(alloc) {
             Ok(()) => {}
@@ -33,7 +33,10 @@ impl<K: Keeper + Drop> ContDir<K> {
         }
         match self.keeper.names(alloc) {
             Ok(places) => Ok(places),
-            Err(KeeperError::Failed) => Err(ContAnswer::Failed),
+            Err(KeeperError::Failed) => {
+                self.loaded = None;
+                Err(ContAnswer::Failed)
+            }
             Err(KeeperError::NoMemory) => Err(ContAnswer::NoMemory),
         }
     }

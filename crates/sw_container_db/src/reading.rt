@@ -1,19 +1,22 @@
-ghost use Rattle.std.specs.Prelude.{Ok};
+ghost use Rattle.std.specs.Prelude.{◌≡◌, true, Some, IsSome};
 ghost use Rattle.sw_container_db.specs.Calling.{ReadCalled};
 ghost use Rattle.sw_container_db.specs.Stepping.{IsReadStep};
 ghost use Rattle.sw_container_steps.specs.Reads.{info_of, listing_of, times_of};
+ghost use Rattle.sw_hashpath.specs.declared.place.Place.{Place};
 
 use crate::cont_dir::ContDir;
+use crate::loading::tables_in;
 use std::alloc::Global;
 use sw_container_steps::{ContAnswer, Info, info_of, list, times_of};
 use sw_hashpath::Place;
-use sw_keeper::{Keeper, KeeperError};
+use sw_keeper::Keeper;
 use sw_listing::{Entries, Query};
 use sw_outside::NoMemory;
 use sw_rows::Tables;
 use sw_timestamp::Timestamp;
 
-/// Reads of one container. Each settles the doubt where there is one, loads the container's tables, and answers from these. No tables change.
+/// Reads of one container. Each settles the doubt where there is one, loads the container's tables where they aren't loaded, and
+/// answers from these. No tables change.
 impl<K: Keeper + Drop> ContDir<K> {
     /// The put time and the delete time of the container, also of a deleted one; none where it was never created.
     pub fn times(
@@ -22,19 +25,19 @@ impl<K: Keeper + Drop> ContDir<K> {
         place: &Place,
     ) -> Result<Option<(Timestamp, Option<Timestamp>)>, ContAnswer>
         ensures read { IsReadStep K.tells K.holds K.faults self.old place.now times_of result self.new }
-        ensures called { ReadCalled K.tells K.holds K.faults K.calls self.old result self.new }
+        ensures called { ReadCalled K.tells K.holds K.faults K.calls self.old place.now result self.new }
     {
-        let tables = self.read(alloc, place)?;
-        Ok(times_of(&tables))
+        self.ready(alloc, place)?;
+        Ok(times_of(self.tables()))
     }
 
     /// What is told of the container. [`ContAnswer::Absent`] exactly where there is none.
     pub fn info(&mut self, alloc: Global, place: &Place) -> Result<Info, ContAnswer>
         ensures read { IsReadStep K.tells K.holds K.faults self.old place.now info_of result self.new }
-        ensures called { ReadCalled K.tells K.holds K.faults K.calls self.old result self.new }
+        ensures called { ReadCalled K.tells K.holds K.faults K.calls self.old place.now result self.new }
     {
-        let tables = self.read(alloc, place)?;
-        info_of(&tables, self.front())
+        self.ready(alloc, place)?;
+        info_of(self.tables(), self.front())
     }
 
     /// The listing that answers a query. [`ContAnswer::Absent`] exactly where there is no container.
@@ -45,29 +48,20 @@ impl<K: Keeper + Drop> ContDir<K> {
         query: &Query,
     ) -> Result<Entries, ContAnswer>
         ensures read { IsReadStep K.tells K.holds K.faults self.old place.now (listing_of query.now) result self.new }
-        ensures called { ReadCalled K.tells K.holds K.faults K.calls self.old result self.new }
+        ensures called { ReadCalled K.tells K.holds K.faults K.calls self.old place.now result self.new }
     {
-        let tables = self.read(alloc, place)?;
-        match list(alloc, &tables, query) {
+        self.ready(alloc, place)?;
+        match list(alloc, self.tables(), query) {
             Ok(answer) => answer,
             Err(NoMemory) => Err(ContAnswer::NoMemory),
         }
     }
 
-    /// The tables of the container, with no doubt left.
-    fn read(&mut self, alloc: Global, place: &Place) -> Result<Option<Tables>, ContAnswer>
-        ensures read { IsReadStep K.tells K.holds K.faults self.old place.now (λ t front. Ok t) result self.new }
-        ensures called { ReadCalled K.tells K.holds K.faults K.calls self.old result self.new }
+    /// The tables that are loaded, those of the place.
+    fn tables(&self) -> &Option<Tables>
+        requires loaded { IsSome self.now.loaded }
+        ensures { (place : Place) → self.now.loaded ≡ Some place → K.tells self.now.keeper ≡ true → result.now ≡ K.holds self.now.keeper place }
     {
-        match self.settle(alloc) {
-            Ok(()) => {}
-            Err(KeeperError::Failed) => return Err(ContAnswer::Failed),
-            Err(KeeperError::NoMemory) => return Err(ContAnswer::NoMemory),
-        }
-        match self.keeper.load(alloc, place) {
-            Ok(tables) => Ok(tables),
-            Err(KeeperError::Failed) => Err(ContAnswer::Failed),
-            Err(KeeperError::NoMemory) => Err(ContAnswer::NoMemory),
-        }
+        tables_in(&self.loaded)
     }
 }

@@ -1,24 +1,28 @@
-ghost use Rattle.std.specs.Prelude.{◌≡◌, ◌≢◌, true, false, [], IfOk, OnOk, OnErr};
-ghost use Rattle.sw_container_db.specs.Calling.{call_for, raised_by};
+ghost use Rattle.std.specs.Prelude.{◌≡◌, ◌≢◌, true, false, List, [], ◌++◌, IfOk, OnOk, OnErr};
+ghost use Rattle.sw_container_db.specs.Calling.{call_for, loaded_after, raised_by};
 ghost use Rattle.sw_container_db.specs.ContDirs.{cont_history_of};
 ghost use Rattle.sw_container_steps.specs.Histories.{OnlySettlesCont};
 ghost use Rattle.sw_container_steps.specs.Laws.{sign_of};
+ghost use Rattle.sw_container_steps.specs.declared.cont_entry.ContEntry.{ContEntry};
 ghost use Rattle.sw_hashpath.specs.declared.place.Place.{Place};
 ghost use Rattle.sw_keeper.specs.Keeping.{HasCause};
 ghost use Rattle.sw_outside.specs.Counts.{raised};
-ghost use Rattle.sw_peer.specs.Halves.{GrowsOf};
+ghost use Rattle.sw_history.specs.Halves.{GrowsOf};
 
 use crate::cont_dir::ContDir;
+use crate::entering::{enter, make_room};
 use crate::sign::{Doubt, is_same_sign, sign_of};
 use std::alloc::Global;
 use std::mem;
 use sw_keeper::{Keeper, KeeperError};
 
 impl<K: Keeper + Drop> ContDir<K> {
-    /// Settles the doubt, where there is one: its entries are entered where they were made, and it goes.
+    /// Settles the doubt, where there is one: its entries are entered where they were made, and it goes. Whether they were made is seen by a load, and
+    /// no tables stay loaded from before it.
     pub(crate) fn settle(&mut self, alloc: Global) -> Result<(), KeeperError>
         ensures began { self.new.began ≡ self.old.began }
         ensures grows { GrowsOf (cont_history_of K.tells K.holds K.faults self.old) (cont_history_of K.tells K.holds K.faults self.new) }
+        ensures fresh { (added : List ContEntry) → self.new.journal.entries ≡ self.old.journal.entries ++ added → self.new.fresh ≡ self.old.fresh ++ added }
         ensures settles { OnlySettlesCont (cont_history_of K.tells K.holds K.faults self.old) (cont_history_of K.tells K.holds K.faults self.new) }
         ensures same { K.tells self.old.keeper ≡ true → (p : Place) → K.holds self.new.keeper p ≡ K.holds self.old.keeper p }
         ensures told { K.tells self.new.keeper ≡ K.tells self.old.keeper }
@@ -27,22 +31,21 @@ impl<K: Keeper + Drop> ContDir<K> {
         ensures unsettled { OnErr result (self.new.journal ≡ self.old.journal) }
         ensures in_doubt { OnErr result (call_for self.old.journal.doubts ≡ 1) }
         ensures cause { HasCause (K.faults self.old.keeper) (K.faults self.new.keeper) result }
+        ensures loaded { self.new.loaded ≡ loaded_after self.old.journal.doubts self.old.loaded }
         ensures calls { K.calls self.new.keeper ≡ raised_by (call_for self.old.journal.doubts) (K.calls self.old.keeper) }
     {
         let Some(doubt) = mem::replace(&mut self.doubt, None) else {
             return Ok(());
         };
+        self.loaded = None;
         match was_made(alloc, &mut self.keeper, &doubt) {
             Ok(true) => {
-                let Doubt {
-                    place,
-                    mut batch,
-                    sign,
-                } = doubt;
-                if self.entries.append(&mut batch).is_err() {
-                    self.doubt = Some(Doubt { place, batch, sign });
+                if make_room(&mut self.entries, &mut self.fresh, doubt.batch.len()).is_err() {
+                    self.doubt = Some(doubt);
                     return Err(KeeperError::NoMemory);
                 }
+                let Doubt { batch, .. } = doubt;
+                enter(&mut self.entries, &mut self.fresh, batch);
                 Ok(())
             }
             Ok(false) => Ok(()),

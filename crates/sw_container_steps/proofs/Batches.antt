@@ -1,5 +1,6 @@
 -- The batch of entries makes them, and a keeper takes it.
-use Rattle.std.proofs.Common.{◌≡◌, ℕ, ◌+◌, ◌-◌, ◌^◌, ◌<◌, ◌≤◌, Bool, true, false, cond, not, List, [], ◌∷◌, ◌++◌, length, drop, get_or, Option, None, Some, refl, sym, ◌∙◌, ap, subst, append_assoc, arith}
+use Rattle.std.proofs.Common.{◌≡◌, ℕ, ◌+◌, ◌-◌, ◌^◌, ◌<◌, ◌≤◌, Bool, true, false, cond, not, List, [], ◌∷◌, ◌++◌, length, drop, get_or, Option, None, Some}
+use Rattle.std.proofs.Common.{refl, sym, ◌∙◌, ap, subst, append_assoc, arith}
 use Rattle.std.specs.Bool.{⊤}
 use Rattle.std.specs.List.{filter, find}
 use Rattle.std.specs.Option.{IsSome, option_map}
@@ -101,8 +102,11 @@ replacement-makes : (t : Tables) (row : Row) → IsListed t.rows → Makes (Some
 replacement-makes t row is = at (find (is_named row.name) t.rows.list) refl
   where
     list_is : (ns : List Numbered) → ns ≡ without row.name t.rows.list
-        → Some (record t { rows = record { list = ns ++ record { rowid = t.rows.top + 1; row = row } ∷ []; top = t.rows.top + 1 } }) ≡ Some (record t { rows = with_row t.rows row })
-    list_is ns same = ap (λ (xs : List Numbered). Some (record t { rows = record { list = xs ++ record { rowid = t.rows.top + 1; row = row } ∷ []; top = t.rows.top + 1 } })) same
+        → Some (record t { rows = record { list = ns ++ record { rowid = t.rows.top + 1; row = row } ∷ []; top = t.rows.top + 1 } }) ≡ Some
+        (record t { rows = with_row t.rows row })
+    list_is ns same = ap (λ (xs : List Numbered). Some (record t {
+      rows = record { list = xs ++ record { rowid = t.rows.top + 1; row = row } ∷ []; top = t.rows.top + 1 };
+    })) same
 
     nothing : (ns : List Numbered) → find (is_named row.name) ns ≡ None → find_named ns row.name ≡ None
     nothing ns none = ap (λ (o : Option Numbered). option_map (λ n. n.row) o) none
@@ -111,7 +115,8 @@ replacement-makes t row is = at (find (is_named row.name) t.rows.list) refl
         → Makes (Some t) (cut o ++ PutRow row (t.rows.top + 1) ∷ []) (Some (record t { rows = with_row t.rows row }))
     at None found = (list_is t.rows.list (sym (without-none row.name t.rows.list found)), ((omega arith, nothing t.rows.list found), tt))
     at (Some n) found =
-        let same : filter (λ m. not (is_numbered n.rowid m)) t.rows.list ≡ without row.name t.rows.list = cut-is-without row.name 0 t.rows.list n is.rising is.once found in
+        let same : filter (λ m. not (is_numbered n.rowid m)) t.rows.list ≡ without row.name t.rows.list =
+        cut-is-without row.name 0 t.rows.list n is.rising is.once found in
         let gone : find (is_named row.name) (filter (λ m. not (is_numbered n.rowid m)) t.rows.list) ≡ None =
         ap (λ (xs : List Numbered). find (is_named row.name) xs) same ∙ find-without row.name t.rows.list in (
           list_is (filter (λ m. not (is_numbered n.rowid m)) t.rows.list) same,
@@ -190,23 +195,33 @@ pub left-room : (t : Option Tables) (all : List ContEntry) (now : Option Tables)
     → Left t all now i changes → i < length all → entry ≡ get_or all i entry → top_of now + row_count entry ≤ 2 ^ 64 - 1
 left-room t all now i changes entry left within is =
     let steps : drop i all ≡ entry ∷ drop (i + 1) all = step-at all i entry within is in
-    let numbers : top_of now + rows_in (entry ∷ drop (i + 1) all) ≤ 2 ^ 64 - 1 = subst (λ (es : List ContEntry). top_of now + rows_in es ≤ 2 ^ 64 - 1) steps left.numbers in
+    let numbers : top_of now + rows_in (entry ∷ drop (i + 1) all) ≤ 2 ^ 64 - 1 =
+    subst (λ (es : List ContEntry). top_of now + rows_in es ≤ 2 ^ 64 - 1) steps left.numbers in
     let count : rows_in (entry ∷ drop (i + 1) all) ≡ row_count entry + rows_in (drop (i + 1) all) = rows_in-cons entry (drop (i + 1) all) in
     omega (arith, numbers, count)
 
-pub left-next : (t : Option Tables) (all : List ContEntry) (now : Option Tables) (i : ℕ) (changes : List Change) (entry : ContEntry) (after : Option Tables) (more : List Change)
+pub left-next : (t : Option Tables) (all : List ContEntry) (now : Option Tables) (i : ℕ) (changes : List Change) (entry : ContEntry) (after : Option Tables)
+    (more : List Change)
     → Left t all now i changes → i < length all → entry ≡ get_or all i entry → after ≡ entered now entry → more ≡ changes ++ changes_of now entry
     → Left t all after (i + 1) more
 left-next t all now i changes entry after more left within is entered_is more_is =
     let steps : drop i all ≡ entry ∷ drop (i + 1) all = step-at all i entry within is in
-    let numbers : top_of now + rows_in (entry ∷ drop (i + 1) all) ≤ 2 ^ 64 - 1 = subst (λ (es : List ContEntry). top_of now + rows_in es ≤ 2 ^ 64 - 1) steps left.numbers in
-    let tables : all_entered now (entry ∷ drop (i + 1) all) ≡ all_entered t all = subst (λ (es : List ContEntry). all_entered now es ≡ all_entered t all) steps left.tables in
-    let batch : changes ++ batch_for now (entry ∷ drop (i + 1) all) ≡ batch_for t all = subst (λ (es : List ContEntry). changes ++ batch_for now es ≡ batch_for t all) steps left.batch in
+    let numbers : top_of now + rows_in (entry ∷ drop (i + 1) all) ≤ 2 ^ 64 - 1 =
+    subst (λ (es : List ContEntry). top_of now + rows_in es ≤ 2 ^ 64 - 1) steps left.numbers in
+    let tables : all_entered now (entry ∷ drop (i + 1) all) ≡ all_entered t all =
+    subst (λ (es : List ContEntry). all_entered now es ≡ all_entered t all) steps left.tables in
+    let batch : changes ++ batch_for now (entry ∷ drop (i + 1) all) ≡ batch_for t all =
+    subst (λ (es : List ContEntry). changes ++ batch_for now es ≡ batch_for t all) steps left.batch in
     let count : rows_in (entry ∷ drop (i + 1) all) ≡ row_count entry + rows_in (drop (i + 1) all) = rows_in-cons entry (drop (i + 1) all) in
     let top : top_of (entered now entry) ≤ top_of now + row_count entry = entered-top now entry in
     let there : Left t all (entered now entry) (i + 1) (changes ++ changes_of now entry) =
-    record { numbers = omega (arith, numbers, count, top); tables = tables; batch = append_assoc changes (changes_of now entry) (batch_for (entered now entry) (drop (i + 1) all)) ∙ batch } in
-    subst (λ (x : Option Tables). Left t all x (i + 1) more) (sym entered_is) (subst (λ (x : List Change). Left t all (entered now entry) (i + 1) x) (sym more_is) there)
+    record {
+      numbers = omega (arith, numbers, count, top);
+      tables = tables;
+      batch = append_assoc changes (changes_of now entry) (batch_for (entered now entry) (drop (i + 1) all)) ∙ batch;
+    } in
+    subst (λ (x : Option Tables). Left t all x (i + 1) more) (sym entered_is)
+    (subst (λ (x : List Change). Left t all (entered now entry) (i + 1) x) (sym more_is) there)
 
 pub left-none : (t : Option Tables) (all : List ContEntry) (now : Option Tables) (i : ℕ) (changes : List Change) → Left t all now i changes → length all ≤ i
     → (now ≡ all_entered t all) × (changes ≡ batch_for t all)

@@ -20,12 +20,14 @@ use Rattle.sw_container_steps.proofs.Over.{merged-not}
 abbrev with_rows : Tables → Listed → Tables
 with_rows t l = record t { rows = l }
 
-pub merging-leaves : (t : Tables) (place : Place) (rows : List Row) → all_entered (Some t) (merging_entries t.rows place rows) ≡ Some (with_rows t (fold merged t.rows rows))
+pub merging-leaves : (t : Tables) (place : Place) (rows : List Row) → all_entered (Some t) (merging_entries t.rows place rows) ≡ Some
+    (with_rows t (fold merged t.rows rows))
 merging-leaves t place [] = refl
 merging-leaves t place (row ∷ rows) = by (fits (find_named t.rows.list row.name) row) refl (merging-leaves (with_rows t (merged t.rows row)) place rows)
   where
     by : (b : Bool) → fits (find_named t.rows.list row.name) row ≡ b
-        → all_entered (Some (with_rows t (merged t.rows row))) (merging_entries (merged t.rows row) place rows) ≡ Some (with_rows t (fold merged (merged t.rows row) rows))
+        → all_entered (Some (with_rows t (merged t.rows row))) (merging_entries (merged t.rows row) place rows) ≡ Some
+        (with_rows t (fold merged (merged t.rows row) rows))
         → all_entered (Some t) (cond b (Merged place row ∷ merging_entries (merged t.rows row) place rows) (merging_entries (merged t.rows row) place rows))
         ≡ Some (with_rows t (fold merged (merged t.rows row) rows))
     by true is rest = rest
@@ -53,15 +55,18 @@ rows-are-merged None place rows allowed = at (cond (is_dotted place) (first_live
         → (is_present (all_entered None (created_by None place o ++ merging_entries no_rows place rows)) ≡ true)
         × (rows_of (all_entered None (created_by None place o ++ merging_entries no_rows place rows)) ≡ fold merged no_rows rows)
     at None allowed = cc
-    at (Some row) allowed = subst (λ (x : Option Tables). (is_present x ≡ true) × (rows_of x ≡ fold merged no_rows rows)) (sym (merging-leaves (begun (creation_time None row) None) place rows)) (refl, refl)
+    at (Some row) allowed = subst (λ (x : Option Tables). (is_present x ≡ true) × (rows_of x ≡ fold merged no_rows rows))
+        (sym (merging-leaves (begun (creation_time None row) None) place rows)) (refl, refl)
 rows-are-merged (Some t) place rows allowed = at (is_present (Some t)) (cond (is_dotted place) (first_live rows) None) refl allowed
   where
     at : (b : Bool) (o : Option Row) → is_present (Some t) ≡ b
         → cond b None (cond (is_a_row (cond b None o)) None (Some answers.Absent)) ≡ None
         → (is_present (all_entered (Some t) (created_by (Some t) place (cond b None o) ++ merging_entries t.rows place rows)) ≡ true)
         × (rows_of (all_entered (Some t) (created_by (Some t) place (cond b None o) ++ merging_entries t.rows place rows)) ≡ fold merged t.rows rows)
-    at true o is allowed = subst (λ (x : Option Tables). (is_present x ≡ true) × (rows_of x ≡ fold merged t.rows rows)) (sym (merging-leaves t place rows)) (is, refl)
+    at true o is allowed = subst (λ (x : Option Tables). (is_present x ≡ true) × (rows_of x ≡ fold merged t.rows rows)) (sym (merging-leaves t place rows))
+        (is, refl)
     at false None is allowed = cc
     at false (Some row) is allowed =
         subst (λ (x : Option Tables). (is_present x ≡ true) × (rows_of x ≡ fold merged t.rows rows))
-        (sym (merging-leaves (record t { put_time = creation_time (Some t) row }) place rows)) (created-present t.put_time row.created_at t.delete_time is, refl)
+        (sym (merging-leaves (record t { put_time = creation_time (Some t) row }) place rows))
+        (created-present t.put_time row.created_at t.delete_time is, refl)

@@ -1,5 +1,6 @@
 -- Rows that were put in, beside those that stood.
-use Rattle.std.proofs.Common.{◌≡◌, ℕ, ◌+◌, ◌<◌, ◌≤◌, suc, Bool, true, false, cond, not, List, [], ◌∷◌, ◌++◌, length, drop, get_or, Option, None, Some, refl, sym, ◌∙◌, ap, subst, add-one, append_assoc, arith}
+use Rattle.std.proofs.Common.{◌≡◌, ℕ, ◌+◌, ◌<◌, ◌≤◌, suc, Bool, true, false, cond, not, List, [], ◌∷◌, ◌++◌, length, drop, get_or, Option, None, Some, refl}
+use Rattle.std.proofs.Common.{sym, ◌∙◌, ap, subst, add-one, append_assoc, arith}
 use Rattle.std.specs.Option.{option_or}
 use Rattle.std.specs.Str.{bytes_eq}
 use Rattle.std.proofs.Math.Seq.{drop-cons}
@@ -34,10 +35,12 @@ pub fits-later : (later base : Option Row) (row : Row) → fits (option_or later
 fits-later None base row is = refl
 fits-later (Some present) base row is = is
 
-pub over-merged : (l later base : Listed) (row : Row) → IsOver l later base → fits (find_named l.list row.name) row ≡ true → IsOver (merged l row) (merged later row) base
+pub over-merged : (l later base : Listed) (row : Row) → IsOver l later base → fits (find_named l.list row.name) row ≡ true →
+    IsOver (merged l row) (merged later row) base
 over-merged l later base row over is name =
     let P : Option Row → Type 0 = λ o. fits o row ≡ true in
-    let later_is : fits (find_named later.list row.name) row ≡ true = fits-later (find_named later.list row.name) (find_named base.list row.name) row (subst P (over row.name) is) in
+    let later_is : fits (find_named later.list row.name) row ≡ true = fits-later (find_named later.list row.name) (find_named base.list row.name) row
+    (subst P (over row.name) is) in
     merged-name l row name is ∙ by (bytes_eq row.name name) (over name)
     ∙ sym (ap (λ (o : Option Row). option_or o (find_named base.list name)) (merged-name later row name later_is))
   where
@@ -74,7 +77,8 @@ kept-none base later place all entries is =
     subst (λ (l : Listed). Kept base l place all 0 entries (entries ++ merging_entries base place all)) (sym is)
     (record { now = base; over = λ name. refl; few = omega arith; made = refl })
 
-pub kept-taken : (base later : Listed) (place : Place) (all : List Row) (i : ℕ) (entries total : List ContEntry) (row : Row) (later_now : Listed) (entries_now : List ContEntry)
+pub kept-taken : (base later : Listed) (place : Place) (all : List Row) (i : ℕ) (entries total : List ContEntry) (row : Row) (later_now : Listed)
+    (entries_now : List ContEntry)
     → Kept base later place all i entries total → i < length all → row ≡ get_or all i row
     → fits (option_or (find_named later.list row.name) (find_named base.list row.name)) row ≡ true
     → later_now ≡ merged later row → entries_now ≡ entries ++ Merged place row ∷ []
@@ -83,7 +87,8 @@ kept-taken base later place all i entries total row later_now entries_now kept w
     let fits_now : fits (find_named kept.now.list row.name) row ≡ true = subst (λ (o : Option Row). fits o row ≡ true) (sym (kept.over row.name)) taken in
     let steps : drop i all ≡ row ∷ drop (i + 1) all = step-at all i row within is in
     let left : merging_entries kept.now place (row ∷ drop (i + 1) all) ≡ Merged place row ∷ merging_entries (merged kept.now row) place (drop (i + 1) all) =
-    ap (λ (b : Bool). cond b (Merged place row ∷ merging_entries (merged kept.now row) place (drop (i + 1) all)) (merging_entries (merged kept.now row) place (drop (i + 1) all))) fits_now in
+    ap (λ (b : Bool). cond b (Merged place row ∷ merging_entries (merged kept.now row) place (drop (i + 1) all))
+    (merging_entries (merged kept.now row) place (drop (i + 1) all))) fits_now in
     let made : entries ++ Merged place row ∷ merging_entries (merged kept.now row) place (drop (i + 1) all) ≡ total =
     subst (λ (es : List ContEntry). entries ++ es ≡ total) (ap (λ (rs : List Row). merging_entries kept.now place rs) steps ∙ left) kept.made in
     let top : (merged later row).top ≤ later.top + 1 = merged-top later row in
@@ -106,7 +111,8 @@ kept-passed base later place all i entries total row kept within is passed =
     let fits_now : fits (find_named kept.now.list row.name) row ≡ false = subst (λ (o : Option Row). fits o row ≡ false) (sym (kept.over row.name)) passed in
     let steps : drop i all ≡ row ∷ drop (i + 1) all = step-at all i row within is in
     let left : merging_entries kept.now place (row ∷ drop (i + 1) all) ≡ merging_entries (merged kept.now row) place (drop (i + 1) all) =
-    ap (λ (b : Bool). cond b (Merged place row ∷ merging_entries (merged kept.now row) place (drop (i + 1) all)) (merging_entries (merged kept.now row) place (drop (i + 1) all))) fits_now in
+    ap (λ (b : Bool). cond b (Merged place row ∷ merging_entries (merged kept.now row) place (drop (i + 1) all))
+    (merging_entries (merged kept.now row) place (drop (i + 1) all))) fits_now in
     let same : merging_entries (merged kept.now row) place (drop (i + 1) all) ≡ merging_entries kept.now place (drop (i + 1) all) =
     ap (λ (l : Listed). merging_entries l place (drop (i + 1) all)) (merged-not kept.now row fits_now) in
     let few : later.top ≤ i = kept.few in

@@ -19,7 +19,7 @@ both : (p q : Bool) → (p && q) ≡ true → (p ≡ true) × (q ≡ true)
 both true q is = (refl, is)
 both false q is = cc
 
-place-same : (a b : Place) → is_same_place a b ≡ true → a ≡ b
+pub place-same : (a b : Place) → is_same_place a b ≡ true → a ≡ b
 place-same a b is =
     let one = both (bytes_eq a.hash b.hash) (bytes_eq a.account b.account && bytes_eq a.container b.container) is in
     let two = both (bytes_eq a.account b.account) (bytes_eq a.container b.container) one.1 in
@@ -31,7 +31,7 @@ place-same a b is =
 bytes-self : (a : List ℕ) → bytes_eq a a ≡ true
 bytes-self a = (bytes_eq-Decides a a).1 refl
 
-place-self : (a : Place) → is_same_place a a ≡ true
+pub place-self : (a : Place) → is_same_place a a ≡ true
 place-self a = rw (bytes-self a.hash, bytes-self a.account, bytes-self a.container) refl
 
 place-other : (a b : Place) → a ≢ b → is_same_place a b ≡ false
@@ -92,5 +92,7 @@ entries-at t place (MergeRow row) = rows-at t place (row ∷ [])
 entries-at t place (MergeRows rows) = rows-at t place rows
 
 pub entries-are-of-the-place : EntriesAreOfThePlace
-entries-are-of-the-place t place change =
-    (about-own place (entries_for t place change) (entries-at t place change), λ other away. about-other place other (entries_for t place change) away (entries-at t place change))
+entries-are-of-the-place t place change = (
+  about-own place (entries_for t place change) (entries-at t place change),
+  λ other away. about-other place other (entries_for t place change) away (entries-at t place change),
+)

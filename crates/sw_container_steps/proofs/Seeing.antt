@@ -1,5 +1,6 @@
 -- What isn't refused leaves tables, and is seen in them.
-use Rattle.std.proofs.Common.{◌≡◌, ◌≢◌, ℕ, ◌+◌, ◌<◌, ◌≤◌, nat_lt, zero, suc, Bool, true, false, cond, List, [], ◌∷◌, ◌++◌, Option, None, Some, refl, sym, ◌∙◌, ap, arith}
+use Rattle.std.proofs.Common.{◌≡◌, ◌≢◌, ℕ, ◌+◌, ◌<◌, ◌≤◌, nat_lt, zero, suc, Bool, true, false, cond, List, [], ◌∷◌, ◌++◌, Option, None, Some, refl, sym, ◌∙◌}
+use Rattle.std.proofs.Common.{ap, arith}
 use Rattle.std.specs.List.{fold}
 use Rattle.std.specs.Option.{IsSome}
 use Rattle.std.proofs.lemmas.Bool.{le-ltb}
@@ -11,7 +12,8 @@ use Rattle.sw_rows.specs.declared.tables.Tables.{Tables}
 use Rattle.sw_container_steps.specs.Entries.{all_entered, rows_of}
 use Rattle.sw_container_steps.specs.Laws.{EntriesAreSeen, StepsHold, left, sign_of}
 use Rattle.sw_container_steps.specs.Presence.{deletion_after, is_dotted, is_no_time, is_present}
-use Rattle.sw_container_steps.specs.Steps.{cont_refusal, created_by, creator, entries_for, first_live, merging_entries, merging_refusal, removal_refusal_over, rows_entries}
+use Rattle.sw_container_steps.specs.Steps.{cont_refusal, created_by, creator, entries_for, first_live, merging_entries, merging_refusal, removal_refusal_over}
+use Rattle.sw_container_steps.specs.Steps.{rows_entries}
 use Rattle.sw_container_steps.specs.declared.cont_answer.ContAnswer.TheVariants as answers
 use Rattle.sw_container_steps.specs.declared.cont_change.ContChange.TheVariants.{Create, Remove, MergeRow, MergeRows}
 use Rattle.sw_container_steps.specs.declared.cont_entry.ContEntry.{ContEntry}
@@ -88,21 +90,25 @@ merging-rises l place (row ∷ rows) full = by (fits (find_named l.list row.name
 
 -- ---- each kind of step
 
-creation-seen : (t : Tables) (place : Place) (time : ℕ) → entries_for (Some t) place (Create time) ≢ [] → sign_of (left (Some t) place (Create time)) ≢ sign_of (Some t)
+creation-seen : (t : Tables) (place : Place) (time : ℕ) → entries_for (Some t) place (Create time) ≢ [] →
+    sign_of (left (Some t) place (Create time)) ≢ sign_of (Some t)
 unfolding put_of
 creation-seen t place time full same = by (nat_lt t.put_time time) refl full same
   where
-    by : (b : Bool) → nat_lt t.put_time time ≡ b → cond b (Created place time ∷ []) [] ≢ [] → sign_of (all_entered (Some t) (cond b (Created place time ∷ []) [])) ≡ sign_of (Some t) → ⊥
+    by : (b : Bool) → nat_lt t.put_time time ≡ b → cond b (Created place time ∷ []) [] ≢ [] →
+        sign_of (all_entered (Some t) (cond b (Created place time ∷ []) [])) ≡ sign_of (Some t) → ⊥
     by true later full same =
         let times : time ≡ t.put_time = ap put_of same in
         let earlier : nat_lt t.put_time time ≡ false = le-ltb t.put_time time (omega (arith, times)) in
         clash (sym earlier ∙ later)
     by false later full same = full refl
 
-removed-absent : (t : Tables) (time : ℕ) → is_present (Some t) ≡ true → nat_lt t.put_time time ≡ true → is_no_time (deletion_after t.put_time (Some time)) ≡ false
+removed-absent : (t : Tables) (time : ℕ) → is_present (Some t) ≡ true → nat_lt t.put_time time ≡ true →
+    is_no_time (deletion_after t.put_time (Some time)) ≡ false
 removed-absent t time is later = ap (λ (b : Bool). is_no_time (cond b (Some time) None)) later
 
-removal-seen : (t : Tables) (place : Place) (time : ℕ) → cont_refusal (Some t) place (Remove time) ≡ None → sign_of (left (Some t) place (Remove time)) ≢ sign_of (Some t)
+removal-seen : (t : Tables) (place : Place) (time : ℕ) → cont_refusal (Some t) place (Remove time) ≡ None →
+    sign_of (left (Some t) place (Remove time)) ≢ sign_of (Some t)
 removal-seen t place time allowed same = by (is_present (Some t)) (count_of t.rows.list) refl allowed
   where
     at : (b : Bool) → nat_lt t.put_time time ≡ b → is_present (Some t) ≡ true → cond b None (Some (answers.Stale t.put_time)) ≡ None → ⊥
@@ -123,18 +129,21 @@ unfolding top_in
 top-sign None = refl
 top-sign (Some t) = refl
 
-present-rows-seen : (t : Option Tables) (place : Place) (rows : List Row) → is_present t ≡ true → rows_of (left t place (MergeRows rows)) ≡ fold merged (rows_of t) rows
+present-rows-seen : (t : Option Tables) (place : Place) (rows : List Row) → is_present t ≡ true →
+    rows_of (left t place (MergeRows rows)) ≡ fold merged (rows_of t) rows
     → rows_entries t place rows ≢ [] → sign_of (left t place (MergeRows rows)) ≡ sign_of t → ⊥
 present-rows-seen t place rows is rows_are full same =
     let none : created_by t place (creator t place rows) ≡ [] =
     ap (λ (b : Bool). created_by t place (cond b None (cond (is_dotted place) (first_live rows) None))) is in
-    let some : merging_entries (rows_of t) place rows ≢ [] = λ empty. full (ap (λ (es : List ContEntry). es ++ merging_entries (rows_of t) place rows) none ∙ empty) in
+    let some : merging_entries (rows_of t) place rows ≢ [] = λ empty. full
+    (ap (λ (es : List ContEntry). es ++ merging_entries (rows_of t) place rows) none ∙ empty) in
     let rises : (rows_of t).top < (fold merged (rows_of t) rows).top = merging-rises (rows_of t) place rows some in
     let top : (fold merged (rows_of t) rows).top ≡ (rows_of t).top =
     ap (λ (l : Listed). l.top) (sym rows_are) ∙ (sym (top-sign (left t place (MergeRows rows))) ∙ (ap top_in same ∙ top-sign t)) in
     absurd (omega (arith, rises, top))
 
-rows-seen : (t : Option Tables) (place : Place) (rows : List Row) → merging_refusal t place rows ≡ None → rows_entries t place rows ≢ [] → sign_of (left t place (MergeRows rows)) ≢ sign_of t
+rows-seen : (t : Option Tables) (place : Place) (rows : List Row) → merging_refusal t place rows ≡ None → rows_entries t place rows ≢ [] →
+    sign_of (left t place (MergeRows rows)) ≢ sign_of t
 rows-seen t place rows allowed full same = by (is_present t) refl
   where
     there : is_present (left t place (MergeRows rows)) ≡ true

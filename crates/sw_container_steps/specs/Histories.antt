@@ -2,7 +2,7 @@
 use Rattle.std.specs.Prelude.{◌≡◌, ℕ, Bool, true, false, List, [], ◌++◌, length, Option, if◌then◌else◌, Result, Ok, Err}
 use Rattle.sw_hashpath.specs.declared.place.Place.{Place}
 use Rattle.sw_outside.specs.Faults.{HasRisen}
-use Rattle.sw_peer.specs.Halves.{GrowsOf, HistoryOf}
+use Rattle.sw_history.specs.Halves.{GrowsOf, HistoryOf}
 use Rattle.sw_rows.specs.declared.tables.Tables.{Tables}
 use Rattle.sw_container_steps.specs.Entries.{about, all_entered}
 use Rattle.sw_container_steps.specs.Journals.{ContAnswers, ContSettles, cont_left_by, has_read}
@@ -23,7 +23,8 @@ abbrev pub OnlySettlesCont : ContHistory → ContHistory → Type 0
 OnlySettlesCont h g = (settled : List ContEntry) × ContSettles h.journal settled g.journal
 
 -- a step that may change something, from the history h to g; the device held s at the place before, and holds t after
-pub record ContStepChanges (alone : Bool) (h : ContHistory) (s : Option Tables) (place : Place) (change : ContChange) (answer : ContAnswer) (g : ContHistory) (t : Option Tables) : Type 0 where
+pub record ContStepChanges (alone : Bool) (h : ContHistory) (s : Option Tables) (place : Place) (change : ContChange) (answer : ContAnswer) (g : ContHistory)
+    (t : Option Tables) : Type 0 where
   pub before : ContHistory  -- the history at whose end the step was answered
   pub read : Option Tables  -- the tables by which it was answered
   pub made : Bool  -- whether its entries were made; of a step that failed only this tells it
@@ -52,7 +53,8 @@ module _ {A : Type 0} where
   is_told (Err answer) = if is_fault answer then false else true
 
   -- a step that reads one container: it gets what `reading` tells of its tables and the front
-  pub record ContStepReads (alone : Bool) (h : ContHistory) (place : Place) (reading : Option Tables → ℕ → Result A ContAnswer) (got : Result A ContAnswer) (g : ContHistory) (t : Option Tables) : Type 0 where
+  pub record ContStepReads (alone : Bool) (h : ContHistory) (place : Place) (reading : Option Tables → ℕ → Result A ContAnswer) (got : Result A ContAnswer)
+      (g : ContHistory) (t : Option Tables) : Type 0 where
     pub read : Option Tables  -- the tables that were read
     pub follows : GrowsOf h g
     pub settles : alone ≡ true → OnlySettlesCont h g

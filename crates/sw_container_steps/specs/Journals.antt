@@ -2,7 +2,7 @@
 -- project's own.)
 use Rattle.std.specs.Prelude.{◌≡◌, ℕ, ◌+◌, ◌^◌, ◌-◌, ◌≤◌, Bool, true, false, ◌&&◌, nat_le, List, [], ◌∷◌, ◌++◌, length, Option, None, Some, if◌then◌else◌, ◌⊎◌}
 use Rattle.sw_hashpath.specs.declared.place.Place.{Place}
-use Rattle.sw_peer.specs.Halves.{JournalOf, Leaves}
+use Rattle.sw_history.specs.Halves.{JournalOf, Leaves}
 use Rattle.sw_rows.specs.declared.tables.Tables.{Tables}
 use Rattle.sw_container_steps.specs.Entries.{about, all_entered, rows_in, top_of}
 use Rattle.sw_container_steps.specs.Steps.{cont_made_answer, cont_refusal, entries_for}
@@ -31,7 +31,8 @@ abbrev pub with_doubts : ContJournal → List ContEntry → ContJournal
 with_doubts j entries = record j { doubts = j.doubts ++ entries }
 
 -- the step is made: all its entries are added, none where it had nothing to change
-pub record ContEnters (t : Option Tables) (j : ContJournal) (place : Place) (change : ContChange) (answer : ContAnswer) (front : ℕ) (made : Bool) (after : ContJournal) : Type 0 where
+pub record ContEnters (t : Option Tables) (j : ContJournal) (place : Place) (change : ContChange) (answer : ContAnswer) (front : ℕ) (made : Bool)
+    (after : ContJournal) : Type 0 where
   pub is_made : made ≡ true
   pub not_refused : cont_refusal t place change ≡ None
   pub room : has_cont_room j t (entries_for t place change) ≡ true
@@ -40,7 +41,8 @@ pub record ContEnters (t : Option Tables) (j : ContJournal) (place : Place) (cha
   pub answer_is : answer ≡ cont_made_answer t change front
 
 -- what stands refuses the step
-pub record ContRefuses (t : Option Tables) (j : ContJournal) (place : Place) (change : ContChange) (answer : ContAnswer) (made : Bool) (after : ContJournal) : Type 0 where
+pub record ContRefuses (t : Option Tables) (j : ContJournal) (place : Place) (change : ContChange) (answer : ContAnswer) (made : Bool) (after : ContJournal) :
+    Type 0 where
   pub leaves : Leaves j made after
   pub refused : cont_refusal t place change ≡ Some answer
 

@@ -10,12 +10,14 @@ use Rattle.sw_container_steps.proofs.batching.batch_of.Goals as goal
 pub enter-requires : goal.enter-requires
 enter-requires c =
     let within : c.loop-entry.entry-index < length c.args.entries.now = omega arith in
-    left-room c.args.tables c.args.entries.now c.loop-entry.now c.loop-entry.entry-index c.loop-entry.changes.items c.entry-item.result c.loop-entry.invariant within c.entry-item.is
+    left-room c.args.tables c.args.entries.now c.loop-entry.now c.loop-entry.entry-index c.loop-entry.changes.items c.entry-item.result c.loop-entry.invariant
+    within c.entry-item.is
 
 pub loop-entry-preserved : goal.loop-entry-preserved
 loop-entry-preserved c =
     let within : c.loop-entry.entry-index < length c.args.entries.now = omega arith in
-    left-next c.args.tables c.args.entries.now c.loop-entry.now c.loop-entry.entry-index c.loop-entry.changes.items c.entry-item.result c.in_ok-now.now c.enter.new.changes.items c.loop-entry.invariant
+    left-next c.args.tables c.args.entries.now c.loop-entry.now c.loop-entry.entry-index c.loop-entry.changes.items c.entry-item.result c.in_ok-now.now
+    c.enter.new.changes.items c.loop-entry.invariant
     within c.entry-item.is c.in_ok-now.ensures.tables c.in_ok-now.ensures.changes
 
 pub returns : goal.returns
@@ -26,6 +28,8 @@ returns c =
     record {
       batch = batch;
       tables = none.0;
-      makes = ap (λ (changes : List Change). all_changed c.args.tables changes) batch ∙ batch-is c.args.tables c.args.entries.now c.see_rows.ensures ∙ sym none.0;
-      fits = λ some. subst (λ (changes : List Change). IsBatch c.args.tables changes) (sym batch) (batch-fits c.args.tables c.args.entries.now c.see_rows.ensures (subst (λ (x : Option Tables). IsSome x) none.0 some));
+      makes = ap (λ (changes : List Change). all_changed c.args.tables changes) batch ∙ batch-is c.args.tables c.args.entries.now c.see_rows.ensures ∙ sym
+          none.0;
+      fits = λ some. subst (λ (changes : List Change). IsBatch c.args.tables changes) (sym batch)
+          (batch-fits c.args.tables c.args.entries.now c.see_rows.ensures (subst (λ (x : Option Tables). IsSome x) none.0 some));
     }

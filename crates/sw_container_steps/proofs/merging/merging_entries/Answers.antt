@@ -21,17 +21,22 @@ loop-row-preserved c =
     let total : List ContEntry = c.args.entries.items ++ merging_entries (rows_of c.args.tables.now) c.args.place.now c.args.rows.now in
     elim c.if-is_taken.branch [
       | then-is_taken+in_ok-copy+in_ok-copy-2+in_ok-push+in_ok-copy-3+in_ok-merge w ↦
-          (let taken : fits (option_or (find_named c.loop-row.later.list c.row-item.result.name) (find_named (rows_of c.args.tables.now).list c.row-item.result.name)) c.row-item.result ≡ true =
+          (let taken : fits (option_or (find_named c.loop-row.later.list c.row-item.result.name)
+          (find_named (rows_of c.args.tables.now).list c.row-item.result.name)) c.row-item.result ≡ true =
           sym c.is_taken.ensures ∙ w.if-is_taken.true in
-          let later : c.if-is_taken.later ≡ merged c.loop-row.later c.row-item.result = w.later-is ∙ w.in_ok-merge.ensures.rows ∙ ap (λ (r : Row). merged c.loop-row.later r) w.in_ok-copy-3.ensures in
+          let later : c.if-is_taken.later ≡ merged c.loop-row.later c.row-item.result =
+          w.later-is ∙ w.in_ok-merge.ensures.rows ∙ ap (λ (r : Row). merged c.loop-row.later r) w.in_ok-copy-3.ensures in
           let entries : c.if-is_taken.entries.items ≡ c.loop-row.entries.items ++ Merged c.args.place.now c.row-item.result ∷ [] =
           rw (w.entries-is, w.in_ok-push.ensures.items, w.in_ok-copy.ensures, w.in_ok-copy-2.ensures) refl in
-          kept-taken (rows_of c.args.tables.now) c.loop-row.later c.args.place.now c.args.rows.now c.loop-row.row-index c.loop-row.entries.items total c.row-item.result c.if-is_taken.later c.if-is_taken.entries.items
+          kept-taken (rows_of c.args.tables.now) c.loop-row.later c.args.place.now c.args.rows.now c.loop-row.row-index c.loop-row.entries.items total
+          c.row-item.result c.if-is_taken.later c.if-is_taken.entries.items
           c.loop-row.invariant within c.row-item.is taken later entries)
       | else-is_taken w ↦
-          (let passed : fits (option_or (find_named c.loop-row.later.list c.row-item.result.name) (find_named (rows_of c.args.tables.now).list c.row-item.result.name)) c.row-item.result ≡ false =
+          (let passed : fits (option_or (find_named c.loop-row.later.list c.row-item.result.name)
+          (find_named (rows_of c.args.tables.now).list c.row-item.result.name)) c.row-item.result ≡ false =
           sym c.is_taken.ensures ∙ w.if-is_taken.false in
           rw (w.later-is, w.entries-is)
-          (kept-passed (rows_of c.args.tables.now) c.loop-row.later c.args.place.now c.args.rows.now c.loop-row.row-index c.loop-row.entries.items total c.row-item.result c.loop-row.invariant within
+          (kept-passed (rows_of c.args.tables.now) c.loop-row.later c.args.place.now c.args.rows.now c.loop-row.row-index c.loop-row.entries.items total
+          c.row-item.result c.loop-row.invariant within
           c.row-item.is passed))
     ]

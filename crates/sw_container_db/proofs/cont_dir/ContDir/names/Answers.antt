@@ -1,35 +1,36 @@
-use Rattle.std.proofs.Common.{◌≡◌, true, [], ◌∙◌, ap, inr}
+use Rattle.std.proofs.Common.{◌≡◌, [], ◌∙◌, ap, inr}
 use Rattle.sw_outside.specs.Counts.{raised}
-use Rattle.sw_container_db.specs.Calling.{SameTables}
-use Rattle.sw_container_db.specs.ContDirs.{ContKept, batch_in}
-use Rattle.sw_container_db.proofs.Kept.{lists-stands}
-use Rattle.sw_container_db.proofs.Calls.{loaded-after, unloaded-after, wanted-one-after}
+use Rattle.sw_container_db.specs.Calling.{SameTables, loaded_after}
+use Rattle.sw_container_db.specs.ContDirs.{ContKept, batch_in, place_of}
+use Rattle.sw_container_db.proofs.Calls.{settled-wants, settling-wants}
 use Rattle.sw_container_db.proofs.cont_dir.ContDir.names.Goals as goal
-use Rattle.sw_container_db.proofs.cont_dir.ContDir.names.Goals.{in-Ok-names, in-Err-Failed-names, in-Err-NoMemory-names}
 
-pub returns-clause-called : goal.returns-clause-called
-returns-clause-called g c =
-    let v = g.K.Keeper in let i = c.self.inside in
-    let n : ContKept _ = record { keeper = c.names.new.self; began = i.opening.value; journal = record { entries = i.entries.items; doubts = batch_in i.doubt; max_entries = i.max_entries; max_bytes = 0 } } in
+pub returns-in-Err-NoMemory-clause-called : goal.returns-in-Err-NoMemory-clause-called
+returns-in-Err-NoMemory-clause-called g c =
+    let v = g.K.Keeper in let k = c.args.self.now in
+    settling-wants v.tells v.holds v.faults v.calls k c.settle.new.self 1 (loaded_after k.journal.doubts k.loaded) c.in-Err-NoMemory.ensures.in_doubt
+    c.settle.ensures.calls
+    (rw c.in-Err-NoMemory.field-0-is at c.in-Err-NoMemory.ensures.cause.memory) c.in-Err-NoMemory.ensures.unsettled c.settle.ensures.same
+    c.settle.ensures.loaded
+
+pub returns-in-Err-NoMemory-names-clause-called : goal.returns-in-Err-NoMemory-names-clause-called
+returns-in-Err-NoMemory-names-clause-called g c =
+    let v = g.K.Keeper in let i = c.self.inside in let k = c.args.self.now in
+    let n : ContKept _ = record {
+      keeper = c.names.new.self;
+      began = i.opening.value;
+      loaded = place_of i.loaded;
+      fresh = i.fresh.items;
+      journal = record { entries = i.entries.items; doubts = batch_in i.doubt; max_entries = i.max_entries; max_bytes = 0 };
+    } in
     let left : n.journal.doubts ≡ [] = ap (λ (x : ContKept _). x.journal.doubts) c.self.view_is ∙ c.in-Ok.ensures.none in
-    let called : v.calls c.names.new.self ≡ raised (v.calls c.settle.new.self.keeper) = c.names.ensures.calls ∙ ap (λ (x : ContKept _). raised (v.calls x.keeper)) c.self.view_is in
+    let called : v.calls c.names.new.self ≡ raised (v.calls c.settle.new.self.keeper) =
+    c.names.ensures.calls ∙ ap (λ (x : ContKept _). raised (v.calls x.keeper)) c.self.view_is in
     let still : v.faults i.keeper ≡ v.faults c.settle.new.self.keeper = ap (λ (x : ContKept _). v.faults x.keeper) c.self.view_is in
     let sames : SameTables v.tells v.holds v.faults v.calls c.settle.new.self n =
-    λ told place. c.names.ensures.same (ap (λ (x : ContKept _). v.tells x.keeper) c.self.view_is ∙ told) place ∙ ap (λ (x : ContKept _). v.holds x.keeper place) c.self.view_is in
-    elim c.match-names.branch [
-      | in-Ok-names w ↦ rw w.result-is (loaded-after v.tells v.holds v.faults v.calls c.args.self.now c.settle.new.self c.settle.ensures.calls c.in-Ok.ensures.cause.kept c.in-Ok.ensures.none c.settle.ensures.told c.settle.ensures.same n left called (w.in-Ok-names.ensures.cause.kept ∙ still) sames)
-      | in-Err-Failed-names w ↦ rw w.result-is (inr (unloaded-after v.tells v.holds v.faults v.calls c.args.self.now c.settle.new.self c.settle.ensures.calls c.in-Ok.ensures.cause.kept c.in-Ok.ensures.none c.settle.ensures.told c.settle.ensures.same n left called ((rw w.in-Err-Failed-names.field-0-is at w.in-Err-Failed-names.ensures.cause.once) ∙ ap raised still) sames))
-      | in-Err-NoMemory-names w ↦ rw w.result-is (wanted-one-after v.tells v.holds v.faults v.calls c.args.self.now c.settle.new.self c.settle.ensures.calls c.in-Ok.ensures.cause.kept c.in-Ok.ensures.none c.settle.ensures.told c.settle.ensures.same n left called ((rw w.in-Err-NoMemory-names.field-0-is at w.in-Err-NoMemory-names.ensures.cause.memory) ∙ still) sames)
-    ]
-
-pub returns-clause-places : goal.returns-clause-places
-returns-clause-places g c =
-    let v = g.K.Keeper in let i = c.self.inside in
-    let k : ContKept _ = record { keeper = i.keeper; began = i.opening.value; journal = record { entries = i.entries.items; doubts = batch_in i.doubt; max_entries = i.max_entries; max_bytes = 0 } } in
-    let none : k.journal.doubts ≡ [] = ap (λ (x : ContKept _). x.journal.doubts) c.self.view_is ∙ c.in-Ok.ensures.none in
-    let tell : v.tells c.args.self.now.began ≡ true → v.tells k.began ≡ true = λ told. ap (λ (x : ContKept _). v.tells x.began) c.self.view_is ∙ (ap v.tells c.settle.ensures.began ∙ told) in
-    elim c.match-names.branch [
-      | in-Ok-names w ↦ rw w.result-is (λ told. lists-stands v.tells v.holds v.faults k i.doubt c.self.invariant none (tell told) w.in-Ok-names.places.items (w.in-Ok-names.ensures.places (c.self.invariant.same ∙ tell told)))
-      | in-Err-Failed-names w ↦ rw w.result-is (record {})
-      | in-Err-NoMemory-names w ↦ rw w.result-is (record {})
-    ]
+    λ told place. c.names.ensures.same (ap (λ (x : ContKept _). v.tells x.keeper) c.self.view_is ∙ told) place ∙ ap (λ (x : ContKept _). v.holds x.keeper place)
+    c.self.view_is in
+    settled-wants v.tells v.holds v.faults v.calls k c.settle.new.self c.settle.ensures.calls c.in-Ok.ensures.cause.kept c.in-Ok.ensures.none
+    c.settle.ensures.told c.settle.ensures.same n 1 (loaded_after k.journal.doubts k.loaded)
+    left called ((rw c.in-Err-NoMemory-names.field-0-is at c.in-Err-NoMemory-names.ensures.cause.memory) ∙ still) sames
+    (inr (ap (λ (x : ContKept _). x.loaded) c.self.view_is ∙ c.settle.ensures.loaded))

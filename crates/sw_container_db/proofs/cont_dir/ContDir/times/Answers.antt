@@ -1,18 +1,12 @@
-use Rattle.std.proofs.Common.{Option, subst, Ok, Result}
-use Rattle.sw_rows.specs.declared.tables.Tables.{Tables}
+use Rattle.std.proofs.Common.{length, Ok}
 use Rattle.sw_container_steps.specs.Reads.{times_of}
-use Rattle.sw_container_steps.specs.declared.cont_answer.ContAnswer.{ContAnswer}
-use Rattle.sw_container_db.specs.ContDirs.{cont_history_of}
-use Rattle.sw_container_db.specs.Stepping.{IsReadStep}
-use Rattle.sw_container_db.proofs.Kept.{reads-as}
+use Rattle.sw_container_db.proofs.ReadSteps.{read-step}
 use Rattle.sw_container_db.proofs.cont_dir.ContDir.times.Goals as goal
 
 pub returns-clause-read : goal.returns-clause-read
 returns-clause-read g c =
     let v = g.K.Keeper in let place = c.args.place.now in
-    let step : IsReadStep v.tells v.holds v.faults c.args.self.now place (λ t front. Ok t) (Ok c.in_ok-tables.tables) c.read.new.self =
-    subst (λ (r : Result (Option Tables) ContAnswer). IsReadStep v.tells v.holds v.faults c.args.self.now place (λ t front. Ok t) r c.read.new.self) c.in_ok-tables.was c.read.ensures.read in record {
-      same = step.same;
-      all = step.all;
-      read = reads-as (cont_history_of v.tells v.holds v.faults c.args.self.now) (cont_history_of v.tells v.holds v.faults c.read.new.self) place (v.holds c.read.new.self.keeper place) c.in_ok-tables.tables times_of c.times_of.result c.times_of.ensures step.read;
-    }
+    read-step v.tells v.holds v.faults c.args.self.now c.ready.new.self place c.ready.ensures.began c.ready.ensures.told c.ready.ensures.fresh
+    c.ready.ensures.same c.ready.ensures.grows c.ready.ensures.settles c.tables.result.now times_of (Ok c.times_of.result)
+    c.ready.ensures.tied c.in_ok-ready.ensures.called.settled c.in_ok-ready.ensures.called.loaded c.in_ok-ready.ensures.stands c.tables.ensures
+    (c.times_of.ensures (length c.ready.new.self.journal.entries)) (λ is. cc)
