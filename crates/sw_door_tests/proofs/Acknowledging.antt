@@ -25,7 +25,8 @@ held-way : (told : Bool) (s : State) (j : Journal) (name : Name) (w : Write) (a 
     → ((made ≡ true) × (after ≡ with_entry j name w)) ⊎ ((made ≡ false) × (after ≡ j) × (told ≡ true → joined s w ≡ s))
 held-way told s j name w (answers.Done front) made after held p = inl (p.is_made, p.entered)
 held-way told s j name w (answers.Buried front) made after held p = inl (p.is_made, p.entered)
-held-way told s j name w (answers.Conflict time) made after held p = inr (p.leaves.not_made, p.leaves.same, (λ when. refused-held s w (answers.Conflict time) (p.refused when)))
+held-way told s j name w (answers.Conflict time) made after held p = inr
+    (p.leaves.not_made, p.leaves.same, (λ when. refused-held s w (answers.Conflict time) (p.refused when)))
 held-way told s j name w (answers.NotFound time) made after held p = cc
 held-way told s j name w (answers.Mismatch second) made after held p = cc
 held-way told s j name w answers.Exists made after held p = cc
@@ -42,10 +43,12 @@ step-has alone h g s t name w a step held told =
     by (held-way step.before.told (stands step.before name.hash) step.before.journal name w a step.made g.journal held step.answered)
   where
     same_with : (j : Journal) → g.journal ≡ j → stands g name.hash ≡ left (step.before.opening name.hash) name.hash j.entries
-    same_with j is = ap (λ (x : Journal). left (g.opening name.hash) name.hash x.entries) is ∙ ap (λ (o : State). left o name.hash j.entries) (step.after.opening name.hash)
+    same_with j is = ap (λ (x : Journal). left (g.opening name.hash) name.hash x.entries) is ∙ ap (λ (o : State). left o name.hash j.entries)
+        (step.after.opening name.hash)
 
     by : ((step.made ≡ true) × (g.journal ≡ with_entry step.before.journal name w))
-        ⊎ ((step.made ≡ false) × (g.journal ≡ step.before.journal) × (step.before.told ≡ true → joined (stands step.before name.hash) w ≡ stands step.before name.hash))
+        ⊎ ((step.made ≡ false) × (g.journal ≡ step.before.journal) × (step.before.told ≡ true →
+        joined (stands step.before name.hash) w ≡ stands step.before name.hash))
         → joined (stands g name.hash) w ≡ stands g name.hash
     by (inl made) =
         let is : stands g name.hash ≡ joined (stands step.before name.hash) w =
@@ -78,7 +81,8 @@ step-holds h g s t name w a step held told =
     settled answers.NoMemory made is = cc
 
     by : ((step.made ≡ true) × (g.journal ≡ with_entry step.before.journal name w))
-        ⊎ ((step.made ≡ false) × (g.journal ≡ step.before.journal) × (step.before.told ≡ true → joined (stands step.before name.hash) w ≡ stands step.before name.hash))
+        ⊎ ((step.made ≡ false) × (g.journal ≡ step.before.journal) × (step.before.told ≡ true →
+        joined (stands step.before name.hash) w ≡ stands step.before name.hash))
         → t ≡ joined s w
     by (inl made) = step.leaves refl told_before ∙ ap (λ (b : Bool). left_by s (Receive w) b) made.0
     by (inr same) =
@@ -98,7 +102,8 @@ step-either h g s t name w a step told = by step.made refl
 module _ (device : ℕ) (name : Name) (w : Write) (l : ℕ) where
   at-lock : (s t : Sight) (a : Answer) → s.nodes.lock device name.hash ≡ l → IsMade Sent device name (Receive w) s a t
       → StepChanges t.alone (s.objects.seen l) (s.objects.holds device name.hash) name (Receive w) a (t.objects.seen l) (t.objects.holds device name.hash)
-  at-lock s t a e p = subst (λ (k : ℕ). StepChanges t.alone (s.objects.seen k) (s.objects.holds device name.hash) name (Receive w) a (t.objects.seen k) (t.objects.holds device name.hash)) e p.step
+  at-lock s t a e p = subst (λ (k : ℕ). StepChanges t.alone (s.objects.seen k) (s.objects.holds device name.hash) name (Receive w) a (t.objects.seen k)
+      (t.objects.holds device name.hash)) e p.step
 
   kept : (s t : Sight) (a : Answer) → s.nodes.lock device name.hash ≡ l → IsMade Sent device name (Receive w) s a t
       → t.nodes.lock device name.hash ≡ l
@@ -108,22 +113,28 @@ module _ (device : ℕ) (name : Name) (w : Write) (l : ℕ) where
       → Comes (IsMade Sent device name (Receive w)) s (xs ++ a ∷ []) t → is_held (Receive w) a ≡ true
       → (t.objects.seen l).told ≡ true → joined (stands (t.objects.seen l) name.hash) w ≡ stands (t.objects.seen l) name.hash
   heard-has s [] a t e p held =
-      subst (λ (x : Sight). (x.objects.seen l).told ≡ true → joined (stands (x.objects.seen l) name.hash) w ≡ stands (x.objects.seen l) name.hash) (sym p.2.same)
-      (step-has p.0.alone (s.objects.seen l) ((p.0).objects.seen l) (s.objects.holds device name.hash) ((p.0).objects.holds device name.hash) name w a (at-lock s p.0 a e p.1) held)
+      subst (λ (x : Sight). (x.objects.seen l).told ≡ true → joined (stands (x.objects.seen l) name.hash) w ≡ stands (x.objects.seen l) name.hash)
+      (sym p.2.same)
+      (step-has p.0.alone (s.objects.seen l) ((p.0).objects.seen l) (s.objects.holds device name.hash) ((p.0).objects.holds device name.hash) name w a
+      (at-lock s p.0 a e p.1) held)
   heard-has s (x ∷ xs) a t e p held = heard-has p.0 xs a t (kept s p.0 x e p.1) p.2 held
 
   pub heard-holds : (s : Sight) (xs : List Answer) (a : Answer) (t : Sight) → s.nodes.lock device name.hash ≡ l
       → Comes (IsMade Sent device name (Receive w)) s (xs ++ a ∷ []) t → is_held (Receive w) a ≡ true
       → t.alone ≡ true → (t.objects.seen l).told ≡ true → t.objects.holds device name.hash ≡ joined (s.objects.holds device name.hash) w
   heard-holds s [] a t e p held =
-      subst (λ (x : Sight). x.alone ≡ true → (x.objects.seen l).told ≡ true → x.objects.holds device name.hash ≡ joined (s.objects.holds device name.hash) w) (sym p.2.same)
+      subst (λ (x : Sight). x.alone ≡ true → (x.objects.seen l).told ≡ true → x.objects.holds device name.hash ≡ joined (s.objects.holds device name.hash) w)
+      (sym p.2.same)
       (λ alone told. step-holds (s.objects.seen l) ((p.0).objects.seen l) (s.objects.holds device name.hash) ((p.0).objects.holds device name.hash) name w a
-      (subst (λ (b : Bool). StepChanges b (s.objects.seen l) (s.objects.holds device name.hash) name (Receive w) a ((p.0).objects.seen l) ((p.0).objects.holds device name.hash)) alone (at-lock s p.0 a e p.1)) held told)
+      (subst (λ (b : Bool). StepChanges b (s.objects.seen l) (s.objects.holds device name.hash) name (Receive w) a ((p.0).objects.seen l)
+      ((p.0).objects.holds device name.hash)) alone (at-lock s p.0 a e p.1)) held told)
   heard-holds s (x ∷ xs) a t e p held = λ alone told.
-      let rest = comes-moves (Moves (IsAt device name.hash)) (IsMade Sent device name (Receive w)) (made-step Sent device name (Receive w)) p.0 (xs ++ a ∷ []) t p.2 in
+      let rest = comes-moves (Moves (IsAt device name.hash)) (IsMade Sent device name (Receive w)) (made-step Sent device name (Receive w)) p.0 (xs ++ a ∷ []) t
+      p.2 in
       let again = heard-holds p.0 xs a t (kept s p.0 x e p.1) p.2 held alone told in
       let first = step-either (s.objects.seen l) ((p.0).objects.seen l) (s.objects.holds device name.hash) ((p.0).objects.holds device name.hash) name w x
-      (subst (λ (b : Bool). StepChanges b (s.objects.seen l) (s.objects.holds device name.hash) name (Receive w) x ((p.0).objects.seen l) ((p.0).objects.holds device name.hash)) (rest.alone alone) (at-lock s p.0 x e p.1))
+      (subst (λ (b : Bool). StepChanges b (s.objects.seen l) (s.objects.holds device name.hash) name (Receive w) x ((p.0).objects.seen l)
+      ((p.0).objects.holds device name.hash)) (rest.alone alone) (at-lock s p.0 x e p.1))
       (sym (rest.objects.grows l).told ∙ told) in
       one (s.objects.holds device name.hash) ((p.0).objects.holds device name.hash) (t.objects.holds device name.hash) first again
     where
@@ -135,13 +146,15 @@ module _ (device : ℕ) (name : Name) (w : Write) (l : ℕ) where
 pub acknowledged-has : (device : ℕ) (name : Name) (w : Write) (s t : Sight) (a : Answer)
     → Calls (IsMade Sent device name (Receive w)) s Sent (Ok a) t → is_held (Receive w) a ≡ true → Acknowledged t device name.hash w
 acknowledged-has device name w s t a p held =
-    let frame = comes-moves (Moves (IsAt device name.hash)) (IsMade Sent device name (Receive w)) (made-step Sent device name (Receive w)) s (p.0 ++ a ∷ []) t p.2 in
+    let frame = comes-moves (Moves (IsAt device name.hash)) (IsMade Sent device name (Receive w)) (made-step Sent device name (Receive w)) s (p.0 ++ a ∷ []) t
+    p.2 in
     heard-has device name w (t.nodes.lock device name.hash) s p.0 a t (sym (ap (λ n. n.lock device name.hash) frame.nodes)) p.2 held
 
 pub acknowledged-holds : (device : ℕ) (name : Name) (w : Write) (s t : Sight) (a : Answer)
     → Calls (IsMade Sent device name (Receive w)) s Sent (Ok a) t → is_held (Receive w) a ≡ true → HeldBy s t device name.hash w
 acknowledged-holds device name w s t a p held =
-    let frame = comes-moves (Moves (IsAt device name.hash)) (IsMade Sent device name (Receive w)) (made-step Sent device name (Receive w)) s (p.0 ++ a ∷ []) t p.2 in
+    let frame = comes-moves (Moves (IsAt device name.hash)) (IsMade Sent device name (Receive w)) (made-step Sent device name (Receive w)) s (p.0 ++ a ∷ []) t
+    p.2 in
     heard-holds device name w (t.nodes.lock device name.hash) s p.0 a t (sym (ap (λ n. n.lock device name.hash) frame.nodes)) p.2 held
 
 acknowledged-held : (w : Write) (a : Answer) → is_acknowledgement a ≡ true → is_held (Receive w) a ≡ true
@@ -168,4 +181,5 @@ sent-holds device name w s t (Err lost) p is = cc
 
 pub sent-moves : (device : ℕ) (name : Name) (w : Write) (s t : Sight) (r : Result Answer Lost)
     → Calls (IsMade Sent device name (Receive w)) s Sent r t → Moves (IsAt device name.hash) s t
-sent-moves device name w s t r p = calls-moves (Moves (IsAt device name.hash)) (IsMade Sent device name (Receive w)) (made-step Sent device name (Receive w)) s Sent r t p
+sent-moves device name w s t r p = calls-moves (Moves (IsAt device name.hash)) (IsMade Sent device name (Receive w)) (made-step Sent device name (Receive w)) s
+    Sent r t p

@@ -1,15 +1,24 @@
 -- Steps that change nothing, over nodes of which nothing is known.
-use Rattle.std.proofs.Common.{◌≡◌, ℕ, true, false, [], None, refl, inl, Ok}
+use Rattle.std.proofs.Common.{◌≡◌, ℕ, true, false, [], Option, None, refl, inl, Result, Ok, Err}
+use Rattle.sw_container_steps.specs.declared.cont_answer.ContAnswer.{ContAnswer}
+use Rattle.sw_container_steps.specs.declared.cont_answer.ContAnswer.TheVariants as cont_answers
+use Rattle.sw_container_steps.specs.declared.cont_change.ContChange.{ContChange}
 use Rattle.sw_hashpath.specs.declared.name.Name.{Name}
-use Rattle.sw_peer.proofs.Calls.{calls-once, faithful-once, grows-refl, made-step, moves-refl, read-step}
+use Rattle.sw_hashpath.specs.declared.place.Place.{Place}
+use Rattle.sw_history.proofs.Growing.{grows-refl}
+use Rattle.sw_peer.proofs.Calls.{calls-once, faithful-once, made-step, moves-refl, read-step}
+use Rattle.sw_peer.proofs.ContCalls.{cont-made-step, cont-wanting, look-step, look-wanting}
+use Rattle.sw_peer.specs.ContSights.{ContMoves, IsContMade, IsIn, IsLooked}
 use Rattle.sw_peer.specs.Histories.{History}
 use Rattle.sw_peer.specs.Journals.{Answers}
 use Rattle.sw_peer.specs.Sights.{Calls, IsAt, IsMade, IsRead, Moves}
 use Rattle.sw_peer.specs.declared.answer.Answer.{Answer}
 use Rattle.sw_peer.specs.declared.answer.Answer.TheVariants as answers
 use Rattle.sw_peer.specs.declared.change.Change.{Change}
+use Rattle.sw_peer.specs.declared.cont_event.ContEvent.{ContEvent}
 use Rattle.sw_peer.specs.declared.got.Got.TheVariants as gots
 use Rattle.sw_peer.specs.declared.link.Link.{Link}
+use Rattle.sw_rows.specs.declared.tables.Tables.{Tables}
 use Rattle.sw_state.specs.States.{state_of}
 use Rattle.sw_state.specs.declared.state.State.{State}
 use Rattle.sw_door_tests.specs.Silent.{is_refusal, silent, untold}
@@ -83,3 +92,16 @@ pub missed-call : (link : Link) (device : ℕ) (name : Name) → Calls (IsRead l
 missed-call link device name =
     calls-once (Moves (IsAt device name.hash)) (IsRead link device name) (read-step link device name) silent silent link (gots.NotFound None)
     (faithful-once link) (missed-step link device name)
+
+pub wanted-change : (link : Link) (device : ℕ) (place : Place) (change : ContChange)
+    → Calls (IsContMade link device place change) silent link (Ok cont_answers.NoMemory) silent
+wanted-change link device place change =
+    calls-once (ContMoves (IsIn device place)) (IsContMade link device place change) (cont-made-step link device place change) silent silent link
+    cont_answers.NoMemory (faithful-once link) (cont-wanting link device place change silent)
+
+pub wanted-look : {A : Type 0} (link : Link) (device : ℕ) (place : Place) (reading : Option Tables → ℕ → Result A ContAnswer)
+    (event : Result A ContAnswer → ContEvent)
+    → Calls (IsLooked link device place reading event) silent link (Ok (Err cont_answers.NoMemory)) silent
+wanted-look {A} link device place reading event =
+    calls-once (ContMoves (IsIn device place)) (IsLooked link device place reading event) (look-step link device place reading event) silent silent link
+    (Err cont_answers.NoMemory) (faithful-once link) (look-wanting link device place reading event silent)

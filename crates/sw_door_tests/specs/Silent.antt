@@ -1,7 +1,7 @@
 -- A door over nodes of which nothing is known. (This project's own.)
 use Rattle.std.specs.Prelude.{Bool, true, false, [], None, refl}
 use Rattle.sw_peer.specs.Carriage.{faithful}
-use Rattle.sw_peer.specs.Halves.{HistoryOf}
+use Rattle.sw_history.specs.Halves.{HistoryOf}
 use Rattle.sw_peer.specs.Sights.{Nodes, Sight}
 use Rattle.sw_peer.specs.declared.answer.Answer.{Answer}
 use Rattle.sw_peer.specs.declared.answer.Answer.TheVariants as answers
@@ -36,6 +36,7 @@ silent_nodes = record {
   power = 0;
   secrets = record { prefix = []; suffix = [] };
   fits = λ name. true;
+  fits_place = λ place. true;
   lock = λ device hash. 0;
   part_lock = λ device part. 0;
   one_lock = λ device hash digest. refl;
@@ -45,7 +46,7 @@ abbrev pub silent : Sight
 silent = record {
   nodes = silent_nodes;
   objects = record { seen = λ lock. untold (state_of []); holds = λ device hash. state_of [] };
-  containers = record { seen = λ lock. untold tt; holds = λ device place. tt };
+  containers = record { seen = λ lock. untold None; holds = λ device place. None };
   alone = false;
   faults = 0;
   asks = 0;

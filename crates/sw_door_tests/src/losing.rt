@@ -3,14 +3,17 @@
 ghost use Rattle.std.specs.Prelude.{◌≡◌, true};
 ghost use Rattle.sw_door_tests.specs.Silent.{is_refusal};
 
+use crate::between::{Heard, send_between};
 use crate::refusing::Refusing;
 use crate::sending::send;
 use std::alloc::Global;
 use std::test::Fail;
-use sw_hashpath::{Name, Secrets};
+use sw_container_steps::ContChange;
+use sw_hashpath::{Name, Place, Secrets};
+use sw_listing::Query;
 use sw_lossy::{Acts, Lossy};
 use sw_outside::Bytes;
-use sw_peer::{Answer, Change, Link, ObjectDoor};
+use sw_peer::{Answer, Change, ContainerDoor, Link, ObjectDoor};
 use sw_state::{Kind, Write};
 use sw_timestamp::Timestamp;
 
@@ -34,12 +37,39 @@ const SAME: Acts = Acts {
     repeat: Some(2),
 };
 
-fn name(alloc: Global) -> Result<Name, Fail> {
-    let secrets = Secrets {
-        prefix: Bytes::copy(alloc, b"")?,
-        suffix: Bytes::copy(alloc, b"endcap")?,
-    };
-    Ok(Name::new(alloc, &secrets, b"a", b"c", b"o")?)
+/// What the steps are of.
+#[derive(Drop)]
+struct Asked {
+    time: Timestamp,
+    name: Name,
+    place: Place,
+    change: ContChange,
+    query: Query,
+}
+
+impl Asked {
+    fn new(alloc: Global) -> Result<Asked, Fail> {
+        let secrets = Secrets {
+            prefix: Bytes::copy(alloc, b"")?,
+            suffix: Bytes::copy(alloc, b"endcap")?,
+        };
+        let time = Timestamp::parse(b"5")?;
+        Ok(Asked {
+            time,
+            name: Name::new(alloc, &secrets, b"a", b"c", b"o")?,
+            place: Place::new(alloc, &secrets, b"a", b"c")?,
+            change: ContChange::Create { time },
+            query: Query {
+                limit: 10,
+                marker: Bytes::copy(alloc, b"")?,
+                end_marker: Bytes::copy(alloc, b"")?,
+                prefix: Bytes::copy(alloc, b"")?,
+                delimiter: None,
+                reverse: false,
+                json: false,
+            },
+        })
+    }
 }
 
 /// A refusal: as what stands has the write already, or for another reason.
@@ -53,24 +83,67 @@ fn refusal(has_write: bool, time: Timestamp) -> Answer
     }
 }
 
-/// Whether a read that is said so is heard, or a deletion.
+#[derive(Clone, Copy)]
+enum Step {
+    Delete,
+    Get,
+    ChangeContainer,
+    Times,
+    Info,
+    List,
+}
+
+/// Whether a step that is said so is heard.
 fn is_heard(
     alloc: Global,
     door: &mut Lossy<Refusing>,
     link: Link,
-    name: &Name,
-    time: Timestamp,
-    reads: bool,
+    asked: &Asked,
+    step: Step,
 ) -> bool {
-    if reads {
-        return door.get(alloc, link, 1, name).is_ok();
+    match step {
+        Step::Delete => {
+            let change = Change::Delete {
+                time: asked.time,
+                if_delete_at: None,
+            };
+            door.change(alloc, link, 1, &asked.name, change).is_ok()
+        }
+        Step::Get => door.get(alloc, link, 1, &asked.name).is_ok(),
+        Step::ChangeContainer => door
+            .change_container(alloc, link, 1, &asked.place, &asked.change)
+            .is_ok(),
+        Step::Times => door.times(alloc, link, 1, &asked.place).is_ok(),
+        Step::Info => door.info(alloc, link, 1, &asked.place).is_ok(),
+        Step::List => door
+            .list(alloc, link, 1, &asked.place, &asked.query)
+            .is_ok(),
     }
-    let change = Change::Delete {
-        time,
-        if_delete_at: None,
-    };
-    door.change(alloc, link, 1, name, change).is_ok()
 }
+
+/// Five steps of each kind, and of both kinds of door through one count.
+const RUNS: [[Step; 5]; 8] = [
+    [Step::Delete; 5],
+    [Step::Get; 5],
+    [Step::ChangeContainer; 5],
+    [Step::Times; 5],
+    [Step::Info; 5],
+    [Step::List; 5],
+    [
+        Step::ChangeContainer,
+        Step::Get,
+        Step::List,
+        Step::Delete,
+        Step::Info,
+    ],
+    [
+        Step::Delete,
+        Step::Times,
+        Step::Get,
+        Step::ChangeContainer,
+        Step::List,
+    ],
+];
 
 /// How the steps of each row are said.
 const LINKS: [Link; 5] = [Link::Sent, Link::Local, Link::Sent, Link::Sent, Link::Sent];
@@ -116,14 +189,13 @@ const ROWS: [(Acts, [Shown; 5]); 3] = [
 fn shows(
     alloc: Global,
     door: &mut Lossy<Refusing>,
-    name: &Name,
-    time: Timestamp,
-    reads: bool,
+    asked: &Asked,
+    steps: &[Step; 5],
     expected: &[Shown; 5],
 ) -> bool {
     let mut as_expected = true;
-    for (link, shown) in LINKS.iter().zip(expected.iter()) {
-        let heard = is_heard(alloc, door, *link, name, time, reads);
+    for ((link, shown), step) in LINKS.iter().zip(expected.iter()).zip(steps.iter()) {
+        let heard = is_heard(alloc, door, *link, asked, *step);
         let now = (heard, door.door.steps(), door.messages, door.faults);
         as_expected = as_expected && now == *shown;
     }
@@ -133,22 +205,27 @@ fn shows(
 #[test]
 fn the_named_messages_are_lost_and_repeated(rt: HostRuntime) -> Result<(), Fail> {
     let alloc = rt.alloc();
-    let name = name(alloc)?;
-    let time = Timestamp::parse(b"5")?;
+    let asked = Asked::new(alloc)?;
     for (acts, expected) in ROWS {
-        for reads in [false, true] {
-            let mut door = Lossy::new(Refusing::new(refusal(true, time)), acts);
-            assert!(rt; shows(alloc, &mut door, &name, time, reads, &expected));
+        for steps in RUNS {
+            let mut door = Lossy::new(Refusing::new(refusal(true, asked.time)), acts);
+            assert!(rt; shows(alloc, &mut door, &asked, &steps, &expected));
         }
     }
     Ok(())
 }
 
+fn write_at(time: Timestamp) -> Write {
+    Write {
+        time,
+        kind: Kind::Del,
+    }
+}
+
 #[test]
 fn what_is_heard_acknowledges_a_write(rt: HostRuntime) -> Result<(), Fail> {
     let alloc = rt.alloc();
-    let name = name(alloc)?;
-    let time = Timestamp::parse(b"5")?;
+    let asked = Asked::new(alloc)?;
     let lost = Acts {
         lose: Some(1),
         ..NONE
@@ -170,12 +247,62 @@ fn what_is_heard_acknowledges_a_write(rt: HostRuntime) -> Result<(), Fail> {
         (twice, false, false),
     ];
     for (acts, has_write, acknowledged) in table {
-        let mut door = Lossy::new(Refusing::new(refusal(has_write, time)), acts);
-        let write = Write {
-            time,
-            kind: Kind::Del,
+        let mut door = Lossy::new(Refusing::new(refusal(has_write, asked.time)), acts);
+        let write = write_at(asked.time);
+        assert_eq!(rt; send(alloc, &mut door, 1, &asked.name, write), acknowledged);
+    }
+    Ok(())
+}
+
+#[test]
+fn a_write_is_the_second_of_three_messages(rt: HostRuntime) -> Result<(), Fail> {
+    let alloc = rt.alloc();
+    let asked = Asked::new(alloc)?;
+    let before_lost = Acts {
+        lose: Some(1),
+        ..NONE
+    };
+    let lost = Acts {
+        lose: Some(2),
+        ..NONE
+    };
+    let unheard = Acts {
+        lose_reply: Some(2),
+        ..NONE
+    };
+    let twice = Acts {
+        repeat: Some(3),
+        ..NONE
+    };
+    // How many steps come to the door inside stands last.
+    let table = [
+        (NONE, true, true, 3),
+        (NONE, false, false, 3),
+        (before_lost, true, true, 2),
+        (lost, true, false, 2),
+        (unheard, true, false, 3),
+        (twice, true, true, 4),
+    ];
+    for (acts, has_write, acknowledged, steps) in table {
+        let mut door = Lossy::new(Refusing::new(refusal(has_write, asked.time)), acts);
+        let write = write_at(asked.time);
+        let heard = send_between(
+            alloc,
+            &mut door,
+            1,
+            &asked.place,
+            &asked.change,
+            &asked.name,
+            write,
+        );
+        // The steps at the container find no memory there.
+        let expected = Heard {
+            before: false,
+            write: acknowledged,
+            after: false,
         };
-        assert_eq!(rt; send(alloc, &mut door, 1, &name, write), acknowledged);
+        assert_eq!(rt; heard, expected);
+        assert_eq!(rt; door.door.steps(), steps);
     }
     Ok(())
 }

@@ -2,10 +2,14 @@ ghost use Rattle.std.specs.Prelude.{◌≡◌, true};
 ghost use Rattle.sw_door_tests.specs.Silent.{is_refusal, silent};
 
 use std::alloc::Global;
-use sw_hashpath::Name;
-use sw_peer::{Answer, Change, Door, FaithfulDoor, Got, Link, Lost, ObjectDoor};
+use sw_container_steps::{ContAnswer, ContChange, Info};
+use sw_hashpath::{Name, Place};
+use sw_listing::{Entries, Query};
+use sw_peer::{Answer, Change, ContainerDoor, Door, FaithfulDoor, Got, Link, Lost, ObjectDoor};
+use sw_timestamp::Timestamp;
 
-/// A door that answers each change in the same way, which changes nothing, and finds no object. It counts the steps that come.
+/// A door that answers each change of an object in the same way, which changes nothing, and finds no object. At a container each step wants memory.
+/// It counts the steps that come, of both kinds together.
 #[derive(Drop)]
 pub struct Refusing {
     answer: Answer,
@@ -53,5 +57,53 @@ impl ObjectDoor for Refusing {
     fn get(&mut self, _alloc: Global, _link: Link, _device: u8, _name: &Name) -> Result<Got, Lost> {
         self.steps = self.steps.saturating_add(1);
         Ok(Got::NotFound(None))
+    }
+}
+
+impl ContainerDoor for Refusing {
+    fn change_container(
+        &mut self,
+        _alloc: Global,
+        _link: Link,
+        _device: u8,
+        _place: &Place,
+        _change: &ContChange,
+    ) -> Result<ContAnswer, Lost> {
+        self.steps = self.steps.saturating_add(1);
+        Ok(ContAnswer::NoMemory)
+    }
+
+    fn times(
+        &mut self,
+        _alloc: Global,
+        _link: Link,
+        _device: u8,
+        _place: &Place,
+    ) -> Result<Result<Option<(Timestamp, Option<Timestamp>)>, ContAnswer>, Lost> {
+        self.steps = self.steps.saturating_add(1);
+        Ok(Err(ContAnswer::NoMemory))
+    }
+
+    fn info(
+        &mut self,
+        _alloc: Global,
+        _link: Link,
+        _device: u8,
+        _place: &Place,
+    ) -> Result<Result<Info, ContAnswer>, Lost> {
+        self.steps = self.steps.saturating_add(1);
+        Ok(Err(ContAnswer::NoMemory))
+    }
+
+    fn list(
+        &mut self,
+        _alloc: Global,
+        _link: Link,
+        _device: u8,
+        _place: &Place,
+        _query: &Query,
+    ) -> Result<Result<Entries, ContAnswer>, Lost> {
+        self.steps = self.steps.saturating_add(1);
+        Ok(Err(ContAnswer::NoMemory))
     }
 }

@@ -2,7 +2,8 @@
 use Rattle.std.proofs.Common.{◌≡◌, ℕ, ◌+◌, ◌≤◌, Bool, true, false, refl, sym, ◌∙◌, ap, subst, arith, inl, inr, Result, Ok, Err, IsErr}
 use Rattle.sw_outside.specs.Counts.{raised}
 use Rattle.sw_outside.specs.Faults.{HasRisen}
-use Rattle.sw_peer.proofs.Calls.{IsStep, calls-again, calls-around, calls-moves, calls-twice, carried, delivery_in, lost-after, lost-before, made-step, wanting, wanting-on}
+use Rattle.sw_peer.proofs.Calls.{IsStep, calls-again, calls-around, calls-moves, calls-twice, carried, delivery_in, lost-after, lost-before, made-step, wanting}
+use Rattle.sw_peer.proofs.Calls.{wanting-on}
 use Rattle.sw_peer.specs.Carriage.{Carriage, Carries, Delivery, IsNext, faithful}
 use Rattle.sw_hashpath.specs.declared.name.Name.{Name}
 use Rattle.sw_peer.specs.Sights.{Calls, IsAt, IsMade, Moves, Sight}

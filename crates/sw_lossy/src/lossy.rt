@@ -5,6 +5,8 @@ ghost use Rattle.sw_peer.specs.Parts.{IsOfPart};
 ghost use Rattle.sw_peer.specs.Sights.{Calls, IsFilesRead, IsHashesRead, IsMade, IsRead, IsWriteRead, asked};
 ghost use Rattle.sw_lossy.specs.Losses.{Happens, IsUncopied, around, asked_inside, fate_of, faults_after, is_loss, messages_after};
 
+mod containers;
+
 use crate::acts::{Acts, Fate};
 use std::alloc::Global;
 use sw_diskfile::FileName;
@@ -16,6 +18,8 @@ use sw_peer::{
 use sw_suffix::{DirLine, SuffixHash};
 
 /// A door around another, which loses and repeats messages. A step that is said at the device itself goes through.
+///
+/// It is each kind of door that the one inside is. Messages to objects and to containers are numbered together, in the order in which they are sent.
 #[derive(Drop)]
 pub struct Lossy<D: Drop> {
     /// The door inside.
@@ -150,7 +154,8 @@ impl<D: ObjectDoor + FaithfulDoor + Drop> ObjectDoor for Lossy<D> {
     ) -> Result<Answer, Lost>
         requires device { device < (D.sight self.old.door).nodes.devices }
         requires fits { (D.sight self.old.door).nodes.fits name.now ≡ true }
-        ensures made { Calls (IsMade link device name.now change) (around (D.sight self.old.door) self.old.acts self.old.messages self.old.faults self.old.asks) link result (around (D.sight self.new.door) self.new.acts self.new.messages self.new.faults self.new.asks) }
+        ensures made { Calls (IsMade link device name.now change) (around (D.sight self.old.door) self.old.acts self.old.messages self.old.faults self.old.asks)
+            link result (around (D.sight self.new.door) self.new.acts self.new.messages self.new.faults self.new.asks) }
         ensures asks { self.new.asks ≡ self.old.asks }
         ensures inside { (D.sight self.new.door).asks ≡ (D.sight self.old.door).asks }
         ensures happens { let fate = fate_of self.old.acts link self.old.messages in
@@ -180,7 +185,8 @@ impl<D: ObjectDoor + FaithfulDoor + Drop> ObjectDoor for Lossy<D> {
     fn get(&mut self, alloc: Global, link: Link, device: u8, name: &Name) -> Result<Got, Lost>
         requires device { device < (D.sight self.old.door).nodes.devices }
         requires fits { (D.sight self.old.door).nodes.fits name.now ≡ true }
-        ensures read { Calls (IsRead link device name.now) (around (D.sight self.old.door) self.old.acts self.old.messages self.old.faults self.old.asks) link result (around (D.sight self.new.door) self.new.acts self.new.messages self.new.faults self.new.asks) }
+        ensures read { Calls (IsRead link device name.now) (around (D.sight self.old.door) self.old.acts self.old.messages self.old.faults self.old.asks) link
+            result (around (D.sight self.new.door) self.new.acts self.new.messages self.new.faults self.new.asks) }
         ensures asks { self.new.asks ≡ self.old.asks }
         ensures inside { (D.sight self.new.door).asks ≡ (D.sight self.old.door).asks }
         ensures happens { Happens D.sight (IsRead link device name.now) link (fate_of self.old.acts link self.old.messages) self.old.door result self.new.door }
@@ -213,10 +219,12 @@ impl<D: ReplicaDoor + FaithfulDoor + Drop> ReplicaDoor for Lossy<D> {
     ) -> Result<Result<Vec<SuffixHash>, DirFault>, Lost>
         requires device { device < (D.sight self.old.door).nodes.devices }
         requires part { part < 2 ^ (D.sight self.old.door).nodes.power }
-        ensures read { Calls (IsHashesRead link device part) (around (D.sight self.old.door) self.old.acts self.old.messages self.old.faults self.old.asks) link result (around (D.sight self.new.door) self.new.acts self.new.messages self.new.faults self.new.asks) }
+        ensures read { Calls (IsHashesRead link device part) (around (D.sight self.old.door) self.old.acts self.old.messages self.old.faults self.old.asks) link
+            result (around (D.sight self.new.door) self.new.acts self.new.messages self.new.faults self.new.asks) }
         ensures asks { self.new.asks ≡ asked self.old.asks link }
         ensures inside { (D.sight self.new.door).asks ≡ asked_inside link (fate_of self.old.acts link self.old.messages) (D.sight self.old.door).asks }
-        ensures happens { Happens D.sight (IsHashesRead link device part) link (fate_of self.old.acts link self.old.messages) self.old.door result self.new.door }
+        ensures happens { let fate = fate_of self.old.acts link self.old.messages in
+            Happens D.sight (IsHashesRead link device part) link fate self.old.door result self.new.door }
         ensures acts { self.new.acts ≡ self.old.acts }
         ensures messages { self.new.messages ≡ messages_after link self.old.messages }
         ensures faults { self.new.faults ≡ faults_after (fate_of self.old.acts link self.old.messages) self.old.faults }
@@ -246,10 +254,12 @@ impl<D: ReplicaDoor + FaithfulDoor + Drop> ReplicaDoor for Lossy<D> {
         requires device { device < (D.sight self.old.door).nodes.devices }
         requires part { part < 2 ^ (D.sight self.old.door).nodes.power }
         requires suffix { suffix < 4096 }
-        ensures read { Calls (IsFilesRead link device part suffix) (around (D.sight self.old.door) self.old.acts self.old.messages self.old.faults self.old.asks) link result (around (D.sight self.new.door) self.new.acts self.new.messages self.new.faults self.new.asks) }
+        ensures read { Calls (IsFilesRead link device part suffix) (around (D.sight self.old.door) self.old.acts self.old.messages self.old.faults
+            self.old.asks) link result (around (D.sight self.new.door) self.new.acts self.new.messages self.new.faults self.new.asks) }
         ensures asks { self.new.asks ≡ asked self.old.asks link }
         ensures inside { (D.sight self.new.door).asks ≡ asked_inside link (fate_of self.old.acts link self.old.messages) (D.sight self.old.door).asks }
-        ensures happens { Happens D.sight (IsFilesRead link device part suffix) link (fate_of self.old.acts link self.old.messages) self.old.door result self.new.door }
+        ensures happens { Happens D.sight (IsFilesRead link device part suffix) link (fate_of self.old.acts link self.old.messages) self.old.door result
+            self.new.door }
         ensures acts { self.new.acts ≡ self.old.acts }
         ensures messages { self.new.messages ≡ messages_after link self.old.messages }
         ensures faults { self.new.faults ≡ faults_after (fate_of self.old.acts link self.old.messages) self.old.faults }
@@ -280,10 +290,13 @@ impl<D: ReplicaDoor + FaithfulDoor + Drop> ReplicaDoor for Lossy<D> {
         requires device { device < (D.sight self.old.door).nodes.devices }
         requires part { part < 2 ^ (D.sight self.old.door).nodes.power }
         requires within { IsOfPart (D.sight self.old.door).nodes.power part hash.now }
-        ensures read { Calls (IsWriteRead link device part hash.now file.now) (around (D.sight self.old.door) self.old.acts self.old.messages self.old.faults self.old.asks) link result (around (D.sight self.new.door) self.new.acts self.new.messages self.new.faults self.new.asks) }
+        ensures read { Calls (IsWriteRead link device part hash.now file.now)
+            (around (D.sight self.old.door) self.old.acts self.old.messages self.old.faults self.old.asks) link result
+            (around (D.sight self.new.door) self.new.acts self.new.messages self.new.faults self.new.asks) }
         ensures asks { self.new.asks ≡ self.old.asks }
         ensures inside { (D.sight self.new.door).asks ≡ (D.sight self.old.door).asks }
-        ensures happens { Happens D.sight (IsWriteRead link device part hash.now file.now) link (fate_of self.old.acts link self.old.messages) self.old.door result self.new.door }
+        ensures happens { Happens D.sight (IsWriteRead link device part hash.now file.now) link (fate_of self.old.acts link self.old.messages) self.old.door
+            result self.new.door }
         ensures acts { self.new.acts ≡ self.old.acts }
         ensures messages { self.new.messages ≡ messages_after link self.old.messages }
         ensures faults { self.new.faults ≡ faults_after (fate_of self.old.acts link self.old.messages) self.old.faults }

@@ -1,5 +1,6 @@
 -- Doubts that a read of a partition settles, and what a trail shows of the entries that come of them.
-use Rattle.std.proofs.Common.{◌≡◌, ◌≢◌, ℕ, suc, ◌+◌, ◌<◌, ◌≤◌, Bool, true, false, List, [], ◌∷◌, ◌++◌, length, map, find, Some, None, refl, sym, ◌∙◌, ap, subst, arith}
+use Rattle.std.proofs.Common.{◌≡◌, ◌≢◌, ℕ, suc, ◌+◌, ◌<◌, ◌≤◌, Bool, true, false, List, [], ◌∷◌, ◌++◌, length, map, find, Some, None, refl, sym, ◌∙◌, ap, subst}
+use Rattle.std.proofs.Common.{arith}
 use Rattle.std.proofs.Common.{append_assoc, length-append, if◌then◌else◌, ◌⊎◌, inl, inr, Result, Ok, Err, OnErr}
 use Rattle.std.specs.Bool.{⊤}
 use Rattle.std.specs.Result.{IsErrAnd}

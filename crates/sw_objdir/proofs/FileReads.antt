@@ -54,7 +54,8 @@ one-listing power hash ds doubt =
 
 module _ {V : Type 0} (calls lists : V → ℕ) (k m : Kept V) (hash : Hash) where
   -- one listing, where the hash was in doubt
-  pub settled-looks : (b : Bool) → SettlesDoubt calls lists k (scopes.Hash hash) (Ok b) m → Looks calls lists (listings_of (written hash k.journal.doubts)) 0 k m
+  pub settled-looks : (b : Bool) → SettlesDoubt calls lists k (scopes.Hash hash) (Ok b) m →
+      Looks calls lists (listings_of (written hash k.journal.doubts)) 0 k m
   settled-looks true some =
       subst (λ (n : ℕ). Looks calls lists n 0 k m) (sym (one-listing k.power hash k.journal.doubts some.doubt)) some.listed
   settled-looks false none =
@@ -131,7 +132,8 @@ module _ {V : Type 0} (tells : V → Bool) (files : V → Folders) (faults : V �
   file-given found is named hashed =
       part-reads tells files faults k moved moved-looks moved-dir at true (λ told s got. IsFile (is_hashed k.secrets) hash file told s got) (Ok found)
       (λ given. none-at)
-      (subst (λ (x : Secrets). IsFile (is_hashed x) hash file (is_told tells files faults m) (stands (history_of tells files faults m)) found) looks.same.secrets
+      (subst (λ (x : Secrets). IsFile (is_hashed x) hash file (is_told tells files faults m) (stands (history_of tells files faults m)) found)
+      looks.same.secrets
       (is-file m.secrets m.power (files m.volume) hash (stands (history_of tells files faults m)) file (is_told tells files faults m) found le read-in
       (λ told. subst (λ (p : List ℕ). IsFound m.secrets hash file (contents (files m.volume) p (name_text file)) (option_map (λ x. x.write) found)) path_is
       (is (tells-now tells files faults m after told))) named hashed))
@@ -151,13 +153,15 @@ module _ {V : Type 0} (tells : V → Bool) (files : V → Folders) (faults : V �
       → OnFailedRead {T = A} (Err fault) (faults v ≡ raised (faults m.volume))
       → IsPartStep tells files faults k at true (λ told s got. IsFile (is_hashed k.secrets) hash file told s got) (Err e) (record m { volume = v })
   file-refused A fault e is damaged failed =
-      subst (λ (x : DirFault). IsPartStep tells files faults k at true (λ told s got. IsFile (is_hashed k.secrets) hash file told s got) (Err x) (record m { volume = v }))
+      subst (λ (x : DirFault). IsPartStep tells files faults k at true (λ told s got. IsFile (is_hashed k.secrets) hash file told s got) (Err x)
+      (record m { volume = v }))
       (sym is) (by fault damaged failed)
     where
       by : (x : ReadFault)
           → IfDamaged {T = A} (Err x) (λ bad. tells m.volume ≡ true → IsDamaged m.secrets hash file (contents (files m.volume) path (name_text file)) bad)
           → OnFailedRead {T = A} (Err x) (faults v ≡ raised (faults m.volume))
-          → IsPartStep tells files faults k at true (λ told s got. IsFile (is_hashed k.secrets) hash file told s got) (Err (fault_of_read x)) (record m { volume = v })
+          → IsPartStep tells files faults k at true (λ told s got. IsFile (is_hashed k.secrets) hash file told s got) (Err (fault_of_read x))
+          (record m { volume = v })
       by (reads.Damaged bad) there raise =
           part-reads tells files faults k moved moved-looks moved-dir at true (λ told s got. IsFile (is_hashed k.secrets) hash file told s got)
           (Err (faulted.Damaged bad)) (λ given. absurd (let no : false ≡ true = given in cc)) (refl, never bad there) (λ same. cc)

@@ -11,7 +11,7 @@ use Rattle.sw_state.specs.States.{is_new, joined}
 use Rattle.sw_state.specs.Writes.{tag_of}
 use Rattle.sw_state.specs.declared.state.State.{State}
 use Rattle.sw_state.specs.declared.write.Write.{Write}
-use Rattle.sw_peer.proofs.Calls.{grows-refl}
+use Rattle.sw_history.proofs.Growing.{grows-refl}
 use Rattle.sw_peer.proofs.Hashes.{hash-apart, hash-same, left, left-apart, left-entered, written-append, written-other, written-own}
 use Rattle.sw_peer.specs.Histories.{Grows, History, OnlySettles, StepChanges, stands}
 use Rattle.sw_peer.specs.Journals.{Answers, Hash, Journal, Settles, has_room, left_by, with_doubt, with_entry, written}

@@ -9,7 +9,8 @@ use Rattle.sw_objdir.proofs.Journaling.{settles-both}
 use Rattle.sw_objdir.specs.Directories.{Fits, IsDir, Kept, held, history_of, is_told}
 use Rattle.sw_objdir.specs.Stepping.{IsPartStep, IsReadStep, IsSameDir, IsStep, OnlyLooks, SameFiles}
 use Rattle.sw_outside.specs.Faults.{HasRisen}
-use Rattle.sw_peer.proofs.Calls.{grows-refl, grows-trans, settles-none}
+use Rattle.sw_history.proofs.Growing.{grows-refl, grows-trans}
+use Rattle.sw_peer.proofs.Calls.{settles-none}
 use Rattle.sw_peer.specs.Histories.{Grows, is_shown, stands}
 use Rattle.sw_peer.specs.Journals.{Answers, Hash, Shows, has_settled, left_by, written}
 use Rattle.sw_peer.specs.declared.answer.Answer.{Answer}

@@ -1,5 +1,6 @@
 -- How a step is answered by what stands.
-use Rattle.std.proofs.Common.{◌≡◌, ℕ, Bool, true, false, ◌&&◌, length, Option, Some, None, ◌⊎◌, option_map, nat_lt, max, if◌then◌else◌, inl, inr, refl, sym, ap, ◌∙◌, subst, arith}
+use Rattle.std.proofs.Common.{◌≡◌, ℕ, Bool, true, false, ◌&&◌, length, Option, Some, None, ◌⊎◌, option_map, nat_lt, max, if◌then◌else◌, inl, inr, refl, sym, ap}
+use Rattle.std.proofs.Common.{◌∙◌, subst, arith}
 use Rattle.std.proofs.lemmas.Bool.Decides.{nat_tests}
 use Rattle.sw_hashpath.specs.declared.name.Name.{Name}
 use Rattle.sw_state.proofs.StateTests.{new_changes}
@@ -13,13 +14,15 @@ use Rattle.sw_state.specs.declared.state.State.{State}
 use Rattle.sw_state.specs.declared.write.Write.{Write}
 use Rattle.sw_timestamp.specs.declared.tag.Tag.{Tag}
 use Rattle.sw_timestamp.specs.declared.tag.Tag.TheVariants as tags
-use Rattle.sw_peer.specs.Halves.{Leaves}
+use Rattle.sw_history.specs.Halves.{Leaves}
 use Rattle.sw_peer.specs.Journals.{Answers, Enters, Journal, Shows, has_room, with_entry}
 use Rattle.sw_peer.specs.declared.outline.Outline.{Outline}
 use Rattle.sw_peer.specs.declared.outline.Mark.{Mark}
 use Rattle.sw_peer.specs.declared.outline.Mark.TheVariants.{Object, Tombstone}
-use Rattle.sw_peer.specs.Outlines.{burial_time, is_object, time_with, standing_expiry, has_object, is_before, is_below, is_new_to, mark_of, mark_time, outline_of, shown_time, standing_time, tombstone_time}
-use Rattle.sw_peer.specs.Steps.{asks_expiry, asks_expiry_after, burial_refusal, conflict, deletion_answer, deletion_refusal, expires_at, expiring_deletion_refusal, expiry_refusal, got_beside, got_of, latest_time, made_answer, refusal_by, refusal_of, write_of}
+use Rattle.sw_peer.specs.Outlines.{burial_time, is_object, time_with, standing_expiry, has_object, is_before, is_below, is_new_to, mark_of, mark_time}
+use Rattle.sw_peer.specs.Outlines.{outline_of, shown_time, standing_time, tombstone_time}
+use Rattle.sw_peer.specs.Steps.{asks_expiry, asks_expiry_after, burial_refusal, conflict, deletion_answer, deletion_refusal, expires_at}
+use Rattle.sw_peer.specs.Steps.{expiring_deletion_refusal, expiry_refusal, got_beside, got_of, latest_time, made_answer, refusal_by, refusal_of, write_of}
 use Rattle.sw_peer.specs.declared.answer.Answer.{Answer}
 use Rattle.sw_peer.specs.declared.answer.Answer.TheVariants as answers
 use Rattle.sw_peer.specs.declared.change.Change.{Change}
@@ -149,7 +152,8 @@ answers-refused told s read j name change answer same refused = by answer (refus
 
 -- what is answered where it doesn't, there is room and the write was entered
 pub answers-entered : (told : Bool) (s read : State) (j : Journal) (name : Name) (change : Change) (front : ℕ)
-    → (told ≡ true → read ≡ s) → refusal_of read change ≡ None → has_room j (write_of change) ≡ true → front ≡ length (with_entry j name (write_of change)).entries
+    → (told ≡ true → read ≡ s) → refusal_of read change ≡ None → has_room j (write_of change) ≡ true →
+    front ≡ length (with_entry j name (write_of change)).entries
     → Answers told s j name change (made_answer (outline_of read) change front) true (with_entry j name (write_of change))
 answers-entered told s read j name change front same refused room is = by (made_answer (outline_of read) change front) (made_form change) refl
   where
@@ -176,7 +180,8 @@ answers-entered told s read j name change front same refused room is = by (made_
       answer_is = λ when. sym form ∙ ap (λ (x : State). made_answer (outline_of x) change front) (same when);
     }
 
-    by : (a : Answer) → (a ≡ answers.Done front) ⊎ (a ≡ answers.Buried front) → made_answer (outline_of read) change front ≡ a → Answers told s j name change a true after
+    by : (a : Answer) → (a ≡ answers.Done front) ⊎ (a ≡ answers.Buried front) → made_answer (outline_of read) change front ≡ a →
+        Answers told s j name change a true after
     by a (inl form) whole = subst (λ (x : Answer). Answers told s j name change x true after) (sym form) (enters (answers.Done front) (whole ∙ form))
     by a (inr form) whole = subst (λ (x : Answer). Answers told s j name change x true after) (sym form) (enters (answers.Buried front) (whole ∙ form))
 
@@ -195,7 +200,8 @@ new-base None time deletion is = refl
 new-base (Some (Object at)) time deletion is = let lt : nat_lt at time ≡ true = passed (nat_lt at time) (answers.Conflict at) is in rw lt refl
 new-base (Some (Tombstone at)) time deletion is = passed (nat_lt at time) (answers.Conflict at) is
 
-new-put : (b : Option Mark) (time : ℕ) (blocked : Bool) → (if blocked then Some answers.Exists else conflict (option_map mark_time b) time) ≡ None → is_below b time false ≡ true
+new-put : (b : Option Mark) (time : ℕ) (blocked : Bool) → (if blocked then Some answers.Exists else conflict (option_map mark_time b) time) ≡ None →
+    is_below b time false ≡ true
 new-put b time true is = cc
 new-put b time false is = new-base b time false is
 
@@ -208,17 +214,21 @@ new-post (Some (Object at)) (Some meta) time is =
     let lt : nat_lt (max at meta) time ≡ true = passed (nat_lt (max at meta) time) (answers.Conflict (max at meta)) is in
     grind (arith, nat_tests)
 
-new-deletion : (b : Option Mark) (time : ℕ) → (if is_object b then conflict (option_map mark_time b) time else burial_refusal (burial_time b) time) ≡ None → is_below b time true ≡ true
+new-deletion : (b : Option Mark) (time : ℕ) → (if is_object b then conflict (option_map mark_time b) time else burial_refusal (burial_time b) time) ≡ None →
+    is_below b time true ≡ true
 new-deletion None time is = refl
 new-deletion (Some (Object at)) time is = new-base (Some (Object at)) time true is
 new-deletion (Some (Tombstone at)) time is = passed (nat_lt at time) (answers.NotFound (Some at)) is
 
-new-expiring : (b : Option Mark) (expiry : Option ℕ) (time second : ℕ) → expiring_deletion_refusal (option_map mark_time b) expiry time second ≡ None → is_below b time true ≡ true
+new-expiring : (b : Option Mark) (expiry : Option ℕ) (time second : ℕ) → expiring_deletion_refusal (option_map mark_time b) expiry time second ≡ None →
+    is_below b time true ≡ true
 new-expiring None expiry time second is = cc
-new-expiring (Some (Object at)) expiry time second is = let lt : nat_lt at time ≡ true = passed-too (nat_lt at time) (expiry_refusal expiry second) (answers.Conflict at) is in rw lt refl
+new-expiring (Some (Object at)) expiry time second is = let lt : nat_lt at time ≡ true =
+    passed-too (nat_lt at time) (expiry_refusal expiry second) (answers.Conflict at) is in rw lt refl
 new-expiring (Some (Tombstone at)) expiry time second is = passed-too (nat_lt at time) (expiry_refusal expiry second) (answers.Conflict at) is
 
-allowed : (o : Outline) (expiry : Option ℕ) (change : Change) → refusal_by o expiry change ≡ None → is_new_to o (write_of change).time (tag_of (write_of change).kind) ≡ true
+allowed : (o : Outline) (expiry : Option ℕ) (change : Change) → refusal_by o expiry change ≡ None →
+    is_new_to o (write_of change).time (tag_of (write_of change).kind) ≡ true
 allowed o expiry (Put time content none_match) is = new-put o.base time (none_match && has_object o) is
 allowed o expiry (Post time heads) is = new-post o.base o.meta time is
 allowed o expiry (Delete time None) is = new-deletion o.base time is
@@ -238,7 +248,8 @@ refused-held s w answer is = (new_changes s w).0 (sym (outline-new s w.time (tag
 
 -- ---- reads
 
-show-by : (told : Bool) (b : Option Base) (m : Option Meta) (s : State) (n : ℕ) → (told ≡ true → got_beside b m n ≡ got_of s n) → Shows told s n (got_beside b m n)
+show-by : (told : Bool) (b : Option Base) (m : Option Meta) (s : State) (n : ℕ) → (told ≡ true → got_beside b m n ≡ got_of s n) →
+    Shows told s n (got_beside b m n)
 show-by told None m s n is = is
 show-by told (Some (bases.Del time)) m s n is = is
 show-by told (Some (bases.Put time content)) None s n is = (refl, is)

@@ -1,5 +1,6 @@
 -- Calls of a door, one after another, with messages that come several times or never.
-use Rattle.std.proofs.Common.{◌≡◌, ℕ, suc, ◌+◌, ◌≤◌, Bool, true, false, List, [], ◌∷◌, ◌++◌, length, refl, sym, ◌∙◌, ap, subst, arith, append_assoc, length-append, inl, inr, Result, Ok, Err}
+use Rattle.std.proofs.Common.{◌≡◌, ℕ, suc, ◌+◌, ◌≤◌, Bool, true, false, List, [], ◌∷◌, ◌++◌, length, refl, sym, ◌∙◌, ap, subst, arith, append_assoc}
+use Rattle.std.proofs.Common.{length-append, inl, inr, Result, Ok, Err}
 use Rattle.std.proofs.lemmas.List.{append-nil}
 use Rattle.std.specs.Bool.{⊤}
 use Rattle.sw_diskfile.specs.declared.file_name.FileName.{FileName}
@@ -7,11 +8,13 @@ use Rattle.sw_hashpath.specs.HashParts.{suffix_of}
 use Rattle.sw_hashpath.specs.declared.name.Name.{Name}
 use Rattle.sw_outside.specs.Faults.{HasRisen}
 use Rattle.sw_peer.specs.Carriage.{Carriage, Carries, Delivery, faithful}
-use Rattle.sw_peer.specs.Halves.{GrowsOf, Half, HalfMoves, HistoryOf}
+use Rattle.sw_history.proofs.Growing.{grows-refl, half-refl, half-trans, half-wider}
+use Rattle.sw_history.specs.Halves.{GrowsOf, Half, HalfMoves, HistoryOf}
 use Rattle.sw_peer.specs.Histories.{History}
 use Rattle.sw_peer.specs.Journals.{Hash, Journal, Settles}
 use Rattle.sw_peer.specs.Parts.{AreHashes, AreLines, IsFile, is_wanting_part}
-use Rattle.sw_peer.specs.Sights.{Calls, Comes, IsAt, IsFilesRead, IsHashesRead, IsInPart, IsMade, IsPartRead, IsRead, IsSame, IsWriteRead, Moves, Nodes, PartMoves, Sight, Trails, is_wanting, is_wanting_read}
+use Rattle.sw_peer.specs.Sights.{Calls, Comes, IsAt, IsFilesRead, IsHashesRead, IsInPart, IsMade, IsPartRead, IsRead, IsSame, IsWriteRead, Moves, Nodes}
+use Rattle.sw_peer.specs.Sights.{PartMoves, Sight, Trails, is_wanting, is_wanting_read}
 use Rattle.sw_peer.specs.declared.answer.Answer.TheVariants as answers
 use Rattle.sw_peer.specs.declared.change.Change.{Change}
 use Rattle.sw_peer.specs.declared.line.Event.TheVariants.{Changed, Read, ReadPart}
@@ -24,44 +27,11 @@ use Rattle.sw_peer.specs.declared.part_read.PartRead.{PartRead}
 use Rattle.sw_peer.specs.declared.part_read.PartRead.TheVariants.{Files, Hashes, Write}
 use Rattle.sw_state.specs.declared.state.State.{State}
 
-module _ {K V E : Type 0} where
-  pub grows-refl : (h : HistoryOf K V E) → GrowsOf h h
-  grows-refl h = record { told = refl; opening = λ n. refl; entries = ([], sym (append-nil h.journal.entries)); max_entries = refl; max_bytes = refl; faults = omega arith }
-
-  pub grows-trans : (h i g : HistoryOf K V E) → GrowsOf h i → GrowsOf i g → GrowsOf h g
-  grows-trans h i g p q = record {
-    told = q.told ∙ p.told;
-    opening = λ n. q.opening n ∙ p.opening n;
-    entries = (p.entries.0 ++ q.entries.0, q.entries.1 ∙ (ap (λ (e : List E). e ++ q.entries.0) p.entries.1 ∙ append_assoc h.journal.entries p.entries.0 q.entries.0));
-    max_entries = q.max_entries ∙ p.max_entries;
-    max_bytes = q.max_bytes ∙ p.max_bytes;
-    faults = omega (arith, p.faults, q.faults);
-  }
-
-  pub half-refl : (lock : ℕ → K → ℕ) (alone : Bool) (at : ℕ → K → Type 0) (s : Half K V E) → HalfMoves lock alone at s s
-  half-refl lock alone at s = record { grows = λ l. grows-refl (s.seen l); elsewhere = λ l away. refl; others = λ x d key away. refl }
-
-  -- the locks of both are the same, and where the later is alone the earlier was
-  pub half-trans : (lock lock' : ℕ → K → ℕ) (alone alone' : Bool) (at : ℕ → K → Type 0) (a b c : Half K V E) → ((d : ℕ) (key : K) → lock' d key ≡ lock d key) → (alone' ≡ true → alone ≡ true)
-      → HalfMoves lock alone at a b → HalfMoves lock' alone' at b c → HalfMoves lock alone' at a c
-  half-trans lock lock' alone alone' at a b c locks earlier p q = record {
-    grows = λ l. grows-trans (a.seen l) (b.seen l) (c.seen l) (p.grows l) (q.grows l);
-    elsewhere = λ l away. q.elsewhere l (λ d key is same. away d key is (same ∙ locks d key)) ∙ p.elsewhere l away;
-    others = λ x d key away. q.others x d key away ∙ p.others (earlier x) d key away;
-  }
-
-  pub half-wider : (lock : ℕ → K → ℕ) (alone : Bool) (at more : ℕ → K → Type 0) (a b : Half K V E) → ((d : ℕ) (key : K) → at d key → more d key)
-      → HalfMoves lock alone at a b → HalfMoves lock alone more a b
-  half-wider lock alone at more a b wider p = record {
-    grows = p.grows;
-    elsewhere = λ l away. p.elsewhere l (λ d key is. away d key (wider d key is));
-    others = λ x d key away. p.others x d key (λ is. away (wider d key is));
-  }
-
 pub moves-trans : (at : ℕ → Hash → Type 0) (a b c : Sight) → Moves at a b → Moves at b c → Moves at a c
 moves-trans at a b c p q = record {
   nodes = q.nodes ∙ p.nodes;
-  objects = half-trans a.nodes.lock b.nodes.lock b.alone c.alone at a.objects b.objects c.objects (λ d hash. ap (λ n. n.lock d hash) p.nodes) q.alone p.objects q.objects;
+  objects = half-trans a.nodes.lock b.nodes.lock b.alone c.alone at a.objects b.objects c.objects (λ d hash. ap (λ n. n.lock d hash) p.nodes) q.alone p.objects
+      q.objects;
   containers = q.containers ∙ p.containers;
   alone = λ x. p.alone (q.alone x);
   faults = omega (arith, p.faults, q.faults);
@@ -71,7 +41,13 @@ pub moves-refl : (at : ℕ → Hash → Type 0) (s : Sight) → Moves at s s
 moves-refl at s = record { nodes = refl; objects = half-refl s.nodes.lock s.alone at s.objects; containers = refl; alone = λ x. x; faults = omega arith }
 
 pub settles-none : (j : Journal) → Settles j [] j
-settles-none j = record { entered = sym (append-nil j.entries); count = omega arith; of_doubts = λ hash none. (refl, none); max_entries = refl; max_bytes = refl }
+settles-none j = record {
+  entered = sym (append-nil j.entries);
+  count = omega arith;
+  of_doubts = λ hash none. (refl, none);
+  max_entries = refl;
+  max_bytes = refl;
+}
 
 pub same-refl : (s : Sight) → IsSame s s
 same-refl s = record { same = refl; faults = omega arith }
@@ -112,7 +88,13 @@ pub wanting-on : (link : Link) (device : ℕ) (name : Name) (change : Change) (s
 wanting-on link device name change s carriage =
     let plain = wanting link device name change s in
     record {
-      moves = record { nodes = refl; objects = half-refl s.nodes.lock s.alone (IsAt device name.hash) s.objects; containers = refl; alone = λ x. x; faults = omega arith };
+      moves = record {
+        nodes = refl;
+        objects = half-refl s.nodes.lock s.alone (IsAt device name.hash) s.objects;
+        containers = refl;
+        alone = λ x. x;
+        faults = omega arith;
+      };
       step = plain.step;
       trail = inr (refl, record { same = refl; faults = omega arith });
     }
@@ -155,13 +137,14 @@ moves-counted at s t f f' k k' c c' later p = record { nodes = p.nodes; objects 
 
 pub frame-of : (at : ℕ → Hash → Type 0) → IsFrame (Moves at)
 frame-of at = record {
-  same = λ s t p. subst (λ (x : Sight). Moves at s x) (sym p.same) (moves-counted at s s s.faults t.faults s.asks t.asks s.carriage t.carriage p.faults (moves-refl at s));
+  same = λ s t p. subst (λ (x : Sight). Moves at s x) (sym p.same) (moves-counted at s s s.faults t.faults s.asks t.asks s.carriage t.carriage p.faults
+      (moves-refl at s));
   join = moves-trans at;
   recounts = moves-counted at;
   faults = λ s t p. p.faults;
 }
 
-trails-counted : (s t : Sight) (line : Line) (wanting : Bool) (f f' k k' : ℕ) (c c' : Carriage) → f ≤ f' → Trails s line wanting t
+pub trails-counted : (s t : Sight) (line : Line) (wanting : Bool) (f f' k k' : ℕ) (c c' : Carriage) → f ≤ f' → Trails s line wanting t
     → Trails (counted s f k c) line wanting (counted t f' k' c')
 trails-counted s t line wanting f f' k k' c c' later (inl kept) = inl kept
 trails-counted s t line wanting f f' k k' c c' later (inr none) =
@@ -196,12 +179,14 @@ read-step link device name = record {
 pub part-frame : (device part : ℕ) (at : Hash → Type 0) → IsFrame (PartMoves device part at)
 part-frame device part at = record {
   same = λ s t p. (frame-of (IsInPart s.nodes.power device part at)).same s t p;
-  join = λ a b c p q. moves-trans (IsInPart a.nodes.power device part at) a b c p (subst (λ (n : Nodes). Moves (IsInPart n.power device part at) b c) p.nodes q);
+  join = λ a b c p q. moves-trans (IsInPart a.nodes.power device part at) a b c p
+      (subst (λ (n : Nodes). Moves (IsInPart n.power device part at) b c) p.nodes q);
   recounts = λ s t f f' k k' c c' later p. moves-counted (IsInPart s.nodes.power device part at) s t f f' k k' c c' later p;
   faults = λ s t p. p.faults;
 }
 
-pub part-step : {A : Type 0} (link : Link) (device part : ℕ) (at : Hash → Type 0) (damages : Bool) (reading : Nodes → Bool → (Hash → State) → A → Type 0) (read : Result A DirFault → PartRead)
+pub part-step : {A : Type 0} (link : Link) (device part : ℕ) (at : Hash → Type 0) (damages : Bool) (reading : Nodes → Bool → (Hash → State) → A → Type 0)
+    (read : Result A DirFault → PartRead)
     → IsStep (PartMoves device part at) (IsPartRead link device part at damages reading read)
 part-step {A} link device part at damages reading read = record {
   frames = part-frame device part at;
@@ -216,13 +201,17 @@ part-step {A} link device part at damages reading read = record {
 }
 
 pub hashes-step : (link : Link) (device part : ℕ) → IsStep (PartMoves device part (λ hash. ⊤)) (IsHashesRead link device part)
-hashes-step link device part = part-step link device part (λ hash. ⊤) false (λ nodes told s got. AreHashes nodes.power part told s got.items) (λ got. Hashes part got)
+hashes-step link device part = part-step link device part (λ hash. ⊤) false (λ nodes told s got. AreHashes nodes.power part told s got.items)
+    (λ got. Hashes part got)
 
 pub files-step : (link : Link) (device part suffix : ℕ) → IsStep (PartMoves device part (λ hash. suffix_of hash ≡ suffix)) (IsFilesRead link device part suffix)
-files-step link device part suffix = part-step link device part (λ hash. suffix_of hash ≡ suffix) false (λ nodes told s got. AreLines nodes.power part suffix told s got.items) (λ got. Files part suffix got)
+files-step link device part suffix = part-step link device part (λ hash. suffix_of hash ≡ suffix) false
+    (λ nodes told s got. AreLines nodes.power part suffix told s got.items) (λ got. Files part suffix got)
 
-pub write-step : (link : Link) (device part : ℕ) (hash : Hash) (file : FileName) → IsStep (PartMoves device part (λ other. other ≡ hash)) (IsWriteRead link device part hash file)
-write-step link device part hash file = part-step link device part (λ other. other ≡ hash) true (λ nodes told s got. IsFile nodes.fits hash file told s got) (λ got. Write part hash file got)
+pub write-step : (link : Link) (device part : ℕ) (hash : Hash) (file : FileName) →
+    IsStep (PartMoves device part (λ other. other ≡ hash)) (IsWriteRead link device part hash file)
+write-step link device part hash file = part-step link device part (λ other. other ≡ hash) true (λ nodes told s got. IsFile nodes.fits hash file told s got)
+    (λ got. Write part hash file got)
 
 -- a door that delivers each message once delivers this one so, and the next ones
 pub faithful-once : (link : Link) → Carries faithful link 1 true faithful
@@ -298,7 +287,8 @@ module _ {A : Type 0} (frame : Sight → Sight → Type 0) (step : Sight → A �
   delivery_in s link (Ok x) t p = record { copies = suc (length p.0); is_heard = true }
   delivery_in s link (Err lost) t p = record { copies = length p.2.0; is_heard = false }
 
-  pub copies-are : (s : Sight) (link : Link) (r : Result A Lost) (t : Sight) (p : Calls step s link r t) → length (came s link r t p) ≡ (delivery_in s link r t p).copies
+  pub copies-are : (s : Sight) (link : Link) (r : Result A Lost) (t : Sight) (p : Calls step s link r t) →
+      length (came s link r t p) ≡ (delivery_in s link r t p).copies
   copies-are s link (Ok x) t p = length-more p.0 x
   copies-are s link (Err lost) t p = refl
 
@@ -352,7 +342,8 @@ module _ {A : Type 0} (frame : Sight → Sight → Type 0) (step : Sight → A �
       no : Sent ≡ Local → ⊥
       no same = cc
 
-      count : (xs ys : List A) → length xs ≡ (delivery_in s Sent r t one).copies → (delivery_in s Sent r t one).copies + suc (length ys) ≡ suc (length (xs ++ ys))
+      count : (xs ys : List A) → length xs ≡ (delivery_in s Sent r t one).copies →
+          (delivery_in s Sent r t one).copies + suc (length ys) ≡ suc (length (xs ++ ys))
       count xs ys is = omega (arith, is, length-append xs ys)
   calls-twice s r t (Err lost) u f k k' c c' one two carries =
       let xs : List A = came s Sent r t one in

@@ -1,5 +1,6 @@
 pub mod Answering
 pub mod Calls
+pub mod ContCalls
 pub mod Hashes
 mod Lists
 mod Refusals

@@ -19,7 +19,10 @@ allowed_changes s change allowed same = apart (sym ((new_changes s (write_of cha
     apart is = cc
 
 pub transfer_is_refused : TransferIsRefused
-transfer_is_refused s w = ((λ refused. refused-held s w refused.0 refused.1), (λ same. by (is_new_to (outline_of s) w.time (tag_of w.kind)) (outline-new s w.time (tag_of w.kind) ∙ (new_changes s w).1 same)))
+transfer_is_refused s w = (
+  (λ refused. refused-held s w refused.0 refused.1),
+  (λ same. by (is_new_to (outline_of s) w.time (tag_of w.kind)) (outline-new s w.time (tag_of w.kind) ∙ (new_changes s w).1 same)),
+)
   where
     by : (b : Bool) → b ≡ false → (answer : Answer) × ((if b then None else Some (answers.Conflict (latest_time (outline_of s) (tag_of w.kind)))) ≡ Some answer)
     by true is = absurd (apart is)

@@ -1,6 +1,6 @@
 pub mod Briefs
 pub mod Carriage
-pub mod Halves
+pub mod ContSights
 pub mod Histories
 pub mod Journals
 pub mod Laws

@@ -1,5 +1,6 @@
 -- What the line of a step tells of the entries that it added. (This project's own.)
-use Rattle.std.specs.Prelude.{ℕ, ◌-◌, List, length, take, if◌then◌else◌}
+use Rattle.std.specs.Prelude.{ℕ, ◌-◌, List, [], length, take, if◌then◌else◌}
+use Rattle.sw_container_steps.specs.declared.cont_entry.ContEntry.{ContEntry}
 use Rattle.sw_peer.specs.Steps.{is_entered}
 use Rattle.sw_peer.specs.declared.answer.Answer.{Answer}
 use Rattle.sw_peer.specs.declared.entry.ObjEntry.{ObjEntry}
@@ -17,7 +18,17 @@ own_count (events.Changed name change answer) = own_by answer
 own_count (events.Read name got) = 0
 own_count (events.ReadPart read) = 0
 own_count (events.Listed failed) = 0
+own_count (events.AtContainer event entries) = 0
 own_count events.Restarted = 0
+
+-- the entries that it added to the journal of a container's lock, those of settled doubts first
+abbrev pub entered_in : Event → List ContEntry
+entered_in (events.Changed name change answer) = []
+entered_in (events.Read name got) = []
+entered_in (events.ReadPart read) = []
+entered_in (events.Listed failed) = []
+entered_in (events.AtContainer event entries) = entries
+entered_in events.Restarted = []
 
 -- the entries of doubts that the step settled
 abbrev pub settled_in : Line → List ObjEntry

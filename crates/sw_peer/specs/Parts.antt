@@ -1,6 +1,7 @@
 -- What a read of a partition tells of what its hashes stand for. (Suffixes, their hashes, and that nodes compare them, are OpenStack
 -- Swift's; that the files that count are told by their names is this project's own.)
-use Rattle.std.specs.Prelude.{◌≡◌, ⊤, ℕ, ◌<◌, ◌==◌, Bool, true, false, List, [], ◌∷◌, ◌++◌, map, Option, None, Some, find, if◌then◌else◌, ◌⊎◌, Result, Ok, Err, Contains}
+use Rattle.std.specs.Prelude.{◌≡◌, ⊤, ℕ, ◌<◌, ◌==◌, Bool, true, false, List, [], ◌∷◌, ◌++◌, map, Option, None, Some, find, if◌then◌else◌, ◌⊎◌, Result, Ok, Err}
+use Rattle.std.specs.Prelude.{Contains}
 use Rattle.std.specs.List.{All}
 use Rattle.std.specs.List.Sorted.{IsStrictlySortedBy}
 use Rattle.std.specs.Option.{option_map_or}
@@ -110,7 +111,8 @@ module _ {A : Type 0} where
   ShowsPart told damages s reading (Err faults.NoMemory) = ⊤
 
   -- from the history h to g: it is answered from what stands after it, with no doubt left of these hashes; t is what the device then holds
-  pub record StepReadsPart (alone : Bool) (h : History) (at : Hash → Type 0) (damages : Bool) (reading : Bool → (Hash → State) → A → Type 0) (got : Result A DirFault) (g : History) (t : Hash → State) : Type 0 where
+  pub record StepReadsPart (alone : Bool) (h : History) (at : Hash → Type 0) (damages : Bool) (reading : Bool → (Hash → State) → A → Type 0)
+      (got : Result A DirFault) (g : History) (t : Hash → State) : Type 0 where
     pub follows : Grows h g
     pub settles : alone ≡ true → OnlySettles h g
     pub settled : is_given got ≡ true → (hash : Hash) → at hash → written hash g.journal.doubts ≡ []

@@ -6,6 +6,7 @@ use Rattle.std.specs.Prelude.{◌≡◌, ◌≢◌, ⊤, ℕ, ◌≤◌, Bool, t
 use Rattle.std.specs.Option.{option_map}
 use Rattle.std.specs.declared.alloc.Global.{Global}
 use Rattle.std.specs.declared.vec.Vec.{Vec}
+use Rattle.sw_container_steps.specs.declared.cont_entry.ContEntry.{ContEntry}
 use Rattle.sw_diskfile.specs.declared.file_name.FileName.{FileName}
 use Rattle.sw_hashpath.specs.HashParts.{IsDigest, partition_of, suffix_of}
 use Rattle.sw_hashpath.specs.declared.name.Name.{Name}
@@ -13,11 +14,12 @@ use Rattle.sw_hashpath.specs.declared.place.Place.{Place}
 use Rattle.sw_hashpath.specs.declared.secrets.Secrets.{Secrets}
 use Rattle.sw_outside.specs.Counts.{raised}
 use Rattle.sw_outside.specs.Faults.{HasRisen}
+use Rattle.sw_rows.specs.declared.tables.Tables.{Tables}
 use Rattle.sw_state.specs.declared.state.State.{State}
 use Rattle.sw_suffix.specs.declared.dir_line.DirLine.{DirLine}
 use Rattle.sw_suffix.specs.declared.told.SuffixHash.{SuffixHash}
 use Rattle.sw_peer.specs.Carriage.{Carriage, Carries}
-use Rattle.sw_peer.specs.Halves.{Half, HalfMoves}
+use Rattle.sw_history.specs.Halves.{Half, HalfMoves, HalfRestarts}
 use Rattle.sw_peer.specs.Histories.{StepChanges, StepReads}
 use Rattle.sw_peer.specs.Journals.{Hash}
 use Rattle.sw_peer.specs.Parts.{AreHashes, AreLines, IsFile, IsOfPart, StepReadsPart, is_wanting_part}
@@ -44,6 +46,7 @@ pub record Nodes : Type 0 where
   pub power : ℕ  -- there are 2 to this power partitions
   pub secrets : Secrets
   pub fits : Name → Bool  -- whether the name's hash is that of its path under the nodes' secrets
+  pub fits_place : Place → Bool  -- the same of a container's place
   pub lock : ℕ → Hash → ℕ  -- which lock of a device the hash is under: a number for objects, and one for containers
   pub part_lock : ℕ → ℕ → ℕ  -- which lock of a device the partition is under: each is under one
   pub one_lock : (device : ℕ) (hash : Hash) → IsDigest hash → lock device hash ≡ part_lock device (partition_of hash power)
@@ -51,16 +54,20 @@ pub record Nodes : Type 0 where
 pub record Sight : Type 0 where
   pub nodes : Nodes
   pub objects : Half Hash State ObjEntry
-  pub containers : Half Place ⊤ ⊥  -- no node keeps a container yet, so nothing stands for one and there are no entries
+  pub containers : Half Place (Option Tables) ContEntry
   pub alone : Bool  -- whether nobody else changes the nodes
   pub faults : ℕ  -- how many messages or answers were lost
   pub asks : ℕ  -- how many messages asked for hashes or files
   pub carriage : Carriage  -- what becomes of the messages to come, where that is known
   pub trail : Option (List Line)  -- the steps that were made, where the door keeps them
 
+-- the lock of a container at a device: that of its hash, as an object's is
+abbrev pub cont_lock : Nodes → ℕ → Place → ℕ
+cont_lock nodes device place = nodes.lock device place.hash
+
 -- ---- what every call keeps
 
--- steps at these hashes of these devices
+-- steps at these hashes of these devices: no container is touched
 pub record Moves (at : ℕ → Hash → Type 0) (old new : Sight) : Type 0 where
   pub nodes : new.nodes ≡ old.nodes
   pub objects : HalfMoves old.nodes.lock new.alone at old.objects new.objects
@@ -132,24 +139,29 @@ abbrev pub PartMoves : ℕ → ℕ → (Hash → Type 0) → Sight → Sight →
 PartMoves device part at old new = Moves (IsInPart old.nodes.power device part at) old new
 
 module _ {A : Type 0} where
-  pub record IsPartRead (link : Link) (device part : ℕ) (at : Hash → Type 0) (damages : Bool) (reading : Nodes → Bool → (Hash → State) → A → Type 0) (read : Result A DirFault → PartRead) (old : Sight) (got : Result A DirFault) (new : Sight) : Type 0 where
+  pub record IsPartRead (link : Link) (device part : ℕ) (at : Hash → Type 0) (damages : Bool) (reading : Nodes → Bool → (Hash → State) → A → Type 0)
+      (read : Result A DirFault → PartRead) (old : Sight) (got : Result A DirFault) (new : Sight) : Type 0 where
     pub moves : PartMoves device part at old new
     pub holds_all : HoldsAll old new
-    pub step : StepReadsPart new.alone (old.objects.seen (old.nodes.part_lock device part)) (λ hash. IsOfPart old.nodes.power part hash × at hash) damages (reading old.nodes) got
+    pub step : StepReadsPart new.alone (old.objects.seen (old.nodes.part_lock device part)) (λ hash. IsOfPart old.nodes.power part hash × at hash) damages
+        (reading old.nodes) got
         (new.objects.seen (old.nodes.part_lock device part)) (new.objects.holds device)
     pub trail : Trails old (record { device = device; link = link; event = ReadPart (read got); added = step.added }) (is_wanting_part got) new
 
 -- of the hashes of all its suffixes
 abbrev pub IsHashesRead : Link → ℕ → ℕ → Sight → Result (Vec SuffixHash Global) DirFault → Sight → Type 0
-IsHashesRead link device part = IsPartRead link device part (λ hash. ⊤) false (λ nodes told s got. AreHashes nodes.power part told s got.items) (λ got. Hashes part got)
+IsHashesRead link device part = IsPartRead link device part (λ hash. ⊤) false (λ nodes told s got. AreHashes nodes.power part told s got.items)
+    (λ got. Hashes part got)
 
 -- of the files of one suffix
 abbrev pub IsFilesRead : Link → ℕ → ℕ → ℕ → Sight → Result (Vec DirLine Global) DirFault → Sight → Type 0
-IsFilesRead link device part suffix = IsPartRead link device part (λ hash. suffix_of hash ≡ suffix) false (λ nodes told s got. AreLines nodes.power part suffix told s got.items) (λ got. Files part suffix got)
+IsFilesRead link device part suffix = IsPartRead link device part (λ hash. suffix_of hash ≡ suffix) false
+    (λ nodes told s got. AreLines nodes.power part suffix told s got.items) (λ got. Files part suffix got)
 
 -- of one file
 abbrev pub IsWriteRead : Link → ℕ → ℕ → Hash → FileName → Sight → Result (Option Stored) DirFault → Sight → Type 0
-IsWriteRead link device part hash file = IsPartRead link device part (λ other. other ≡ hash) true (λ nodes told s got. IsFile nodes.fits hash file told s got) (λ got. Write part hash file got)
+IsWriteRead link device part hash file = IsPartRead link device part (λ other. other ≡ hash) true (λ nodes told s got. IsFile nodes.fits hash file told s got)
+    (λ got. Write part hash file got)
 
 -- how many messages asked for hashes or files, after a call that does
 abbrev pub asked : ℕ → Link → ℕ
@@ -189,7 +201,7 @@ pub record IsListed (device : ℕ) (failed : Bool) (old new : Sight) : Type 0 wh
   pub trail : new.trail ≡ option_map (λ lines. lines ++ record { device = device; link = Local; event = Listed failed; added = [] } ∷ []) old.trail
 
 -- It was restarted. Each lock of the device begins anew with what stands there, doubts that were made included. Where a lock told its contents, it tells
--- them still, and what stands is what stood; a lock that told none may tell them from now on.
+-- them still, and what stands is what stood; a lock that told none may tell them from now on. The same holds of its locks of containers.
 pub record Restarts (device : ℕ) (old new : Sight) : Type 0 where
   pub nodes : new.nodes ≡ old.nodes
   pub others : (d : ℕ) (hash : Hash) → d ≢ device → new.objects.seen (old.nodes.lock d hash) ≡ old.objects.seen (old.nodes.lock d hash)
@@ -198,12 +210,15 @@ pub record Restarts (device : ℕ) (old new : Sight) : Type 0 where
       → (new.objects.seen (old.nodes.lock device hash)).opening hash ≡ old.objects.holds device hash
   pub entries : (hash : Hash) → (new.objects.seen (old.nodes.lock device hash)).journal.entries ≡ []
   pub doubts : (hash : Hash) → (new.objects.seen (old.nodes.lock device hash)).journal.doubts ≡ []
-  pub max_entries : (hash : Hash) → (new.objects.seen (old.nodes.lock device hash)).journal.max_entries ≡ (old.objects.seen (old.nodes.lock device hash)).journal.max_entries
-  pub max_bytes : (hash : Hash) → (new.objects.seen (old.nodes.lock device hash)).journal.max_bytes ≡ (old.objects.seen (old.nodes.lock device hash)).journal.max_bytes
+  pub max_entries : (hash : Hash) → (new.objects.seen (old.nodes.lock device hash)).journal.max_entries ≡
+      (old.objects.seen (old.nodes.lock device hash)).journal.max_entries
+  pub max_bytes : (hash : Hash) → (new.objects.seen (old.nodes.lock device hash)).journal.max_bytes ≡
+      (old.objects.seen (old.nodes.lock device hash)).journal.max_bytes
   pub faults : (hash : Hash) → (old.objects.seen (old.nodes.lock device hash)).faults ≤ (new.objects.seen (old.nodes.lock device hash)).faults
-  pub holds : new.alone ≡ true → (hash : Hash) → (old.objects.seen (old.nodes.lock device hash)).told ≡ true → new.objects.holds device hash ≡ old.objects.holds device hash
+  pub holds : new.alone ≡ true → (hash : Hash) → (old.objects.seen (old.nodes.lock device hash)).told ≡ true →
+      new.objects.holds device hash ≡ old.objects.holds device hash
   pub elsewhere : new.alone ≡ true → (d : ℕ) (hash : Hash) → d ≢ device → new.objects.holds d hash ≡ old.objects.holds d hash
   pub alone : new.alone ≡ old.alone
-  pub containers : new.containers ≡ old.containers
+  pub containers : HalfRestarts (cont_lock old.nodes) new.alone device old.containers new.containers
   pub counts : (new.faults ≡ old.faults) × (new.asks ≡ old.asks)
   pub trail : new.trail ≡ option_map (λ lines. lines ++ record { device = device; link = Local; event = Restarted; added = [] } ∷ []) old.trail

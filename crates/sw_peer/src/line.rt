@@ -1,10 +1,13 @@
 use crate::answer::Answer;
+use crate::change_seen::ChangeSeen;
+use crate::cont_event::ContEvent;
 use crate::entry::Added;
 use crate::got::Got;
 use crate::link::Link;
 use crate::part_read::PartRead;
-use crate::seen::{ChangeSeen, Seen};
+use sw_container_steps::ContEntryList;
 use sw_hashpath::Name;
+use sw_history::Seen;
 
 /// What a step asked for, and what it was answered. Bodies are seen by contracts alone, so that a line has no bytes of them.
 #[derive(Drop)]
@@ -17,6 +20,8 @@ pub enum Event {
     ReadPart(PartRead),
     /// A listing of the files of all locks of the device, and whether a call of a volume failed in it.
     Listed(bool),
+    /// A step at a container, and the entries that it added to the journal of the container's lock, those of settled doubts first.
+    AtContainer(ContEvent, Seen<ContEntryList>),
     /// A restart of the device: the journal of each of its locks began anew.
     Restarted,
 }
@@ -29,6 +34,6 @@ pub struct Line {
     /// How the step was said to it.
     pub link: Link,
     pub event: Event,
-    /// The entries that the step added to its journal, those of settled doubts first.
+    /// The entries that the step added to the journal of its object lock, those of settled doubts first; none where it is at a container.
     pub added: Added,
 }

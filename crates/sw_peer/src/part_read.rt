@@ -1,7 +1,7 @@
 use crate::dir_fault::DirFault;
-use crate::seen::Seen;
 use sw_diskfile::FileName;
 use sw_hashpath::Name;
+use sw_history::Seen;
 use sw_state::Write;
 use sw_suffix::{DirLine, SuffixHash};
 

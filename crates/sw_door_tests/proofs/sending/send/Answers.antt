@@ -8,8 +8,10 @@ returns-clause-moves g c = let s = g.D.Door.sight in
 
 pub returns-clause-acknowledged : goal.returns-clause-acknowledged
 returns-clause-acknowledged g c = λ is. let s = g.D.Door.sight in
-    sent-has c.args.to c.args.name.now c.args.write (s c.args.door.now) (s c.change-heard.new.self) c.change-heard.result c.change-heard.ensures.made (sym c.acknowledges.ensures ∙ is)
+    sent-has c.args.to c.args.name.now c.args.write (s c.args.door.now) (s c.change-heard.new.self) c.change-heard.result c.change-heard.ensures.made
+    (sym c.acknowledges.ensures ∙ is)
 
 pub returns-clause-held : goal.returns-clause-held
 returns-clause-held g c = λ is. let s = g.D.Door.sight in
-    sent-holds c.args.to c.args.name.now c.args.write (s c.args.door.now) (s c.change-heard.new.self) c.change-heard.result c.change-heard.ensures.made (sym c.acknowledges.ensures ∙ is)
+    sent-holds c.args.to c.args.name.now c.args.write (s c.args.door.now) (s c.change-heard.new.self) c.change-heard.result c.change-heard.ensures.made
+    (sym c.acknowledges.ensures ∙ is)

@@ -8,24 +8,30 @@ pub returns-in-Goes-clause-read : goal.returns-in-Goes-clause-read
 returns-in-Goes-clause-read g c =
     let now = c.args.self.now in
     becomes g.D.Door.sight g.met.D.FaithfulDoor.carries (read-step c.args.link c.args.device c.args.name.now) now.acts now.messages
-    c.args.link Goes now.door c.next.new.self.door c.get.new.self c.get.result c.next.new.self.acts c.next.new.self.messages now.faults c.next.new.self.faults now.asks c.next.new.self.asks
-    c.next.ensures.door (sym c.next.ensures.fate ∙ c.in-Goes.is) c.next.ensures.acts c.next.ensures.messages c.next.ensures.faults c.next.ensures.later c.next.ensures.risen
+    c.args.link Goes now.door c.next.new.self.door c.get.new.self c.get.result c.next.new.self.acts c.next.new.self.messages now.faults c.next.new.self.faults
+    now.asks c.next.new.self.asks
+    c.next.ensures.door (sym c.next.ensures.fate ∙ c.in-Goes.is) c.next.ensures.acts c.next.ensures.messages c.next.ensures.faults c.next.ensures.later
+    c.next.ensures.risen
     c.get.ensures.read
 
 pub returns-in-IsLost-clause-read : goal.returns-in-IsLost-clause-read
 returns-in-IsLost-clause-read g c =
     let now = c.args.self.now in
     becomes g.D.Door.sight g.met.D.FaithfulDoor.carries (read-step c.args.link c.args.device c.args.name.now) now.acts now.messages
-    c.args.link IsLost now.door c.next.new.self.door c.next.new.self.door (Err (record {})) c.next.new.self.acts c.next.new.self.messages now.faults c.next.new.self.faults now.asks c.next.new.self.asks
-    c.next.ensures.door (sym c.next.ensures.fate ∙ c.in-IsLost.is) c.next.ensures.acts c.next.ensures.messages c.next.ensures.faults c.next.ensures.later c.next.ensures.risen
+    c.args.link IsLost now.door c.next.new.self.door c.next.new.self.door (Err (record {})) c.next.new.self.acts c.next.new.self.messages now.faults
+    c.next.new.self.faults now.asks c.next.new.self.asks
+    c.next.ensures.door (sym c.next.ensures.fate ∙ c.in-IsLost.is) c.next.ensures.acts c.next.ensures.messages c.next.ensures.faults c.next.ensures.later
+    c.next.ensures.risen
     (refl, refl)
 
 pub returns-in-LosesReply-clause-read : goal.returns-in-LosesReply-clause-read
 returns-in-LosesReply-clause-read g c =
     let now = c.args.self.now in
     becomes g.D.Door.sight g.met.D.FaithfulDoor.carries (read-step c.args.link c.args.device c.args.name.now) now.acts now.messages
-    c.args.link LosesReply now.door c.next.new.self.door c.get-in-LosesReply.new.self (Err (record {})) c.next.new.self.acts c.next.new.self.messages now.faults c.next.new.self.faults now.asks c.next.new.self.asks
-    c.next.ensures.door (sym c.next.ensures.fate ∙ c.in-LosesReply.is) c.next.ensures.acts c.next.ensures.messages c.next.ensures.faults c.next.ensures.later c.next.ensures.risen
+    c.args.link LosesReply now.door c.next.new.self.door c.get-in-LosesReply.new.self (Err (record {})) c.next.new.self.acts c.next.new.self.messages now.faults
+    c.next.new.self.faults now.asks c.next.new.self.asks
+    c.next.ensures.door (sym c.next.ensures.fate ∙ c.in-LosesReply.is) c.next.ensures.acts c.next.ensures.messages c.next.ensures.faults c.next.ensures.later
+    c.next.ensures.risen
     ((c.get-in-LosesReply.result, c.get-in-LosesReply.ensures.read), refl)
 
 pub get-requires-in-ComesTwice-2-clause-device : goal.get-requires-in-ComesTwice-2-clause-device
@@ -48,8 +54,10 @@ pub returns-in-ComesTwice-clause-read : goal.returns-in-ComesTwice-clause-read
 returns-in-ComesTwice-clause-read g c =
     let now = c.args.self.now in
     becomes g.D.Door.sight g.met.D.FaithfulDoor.carries (read-step c.args.link c.args.device c.args.name.now) now.acts now.messages
-    c.args.link ComesTwice now.door c.next.new.self.door c.get-in-ComesTwice-2.new.self c.get-in-ComesTwice-2.result c.next.new.self.acts c.next.new.self.messages now.faults c.next.new.self.faults now.asks c.next.new.self.asks
-    c.next.ensures.door (sym c.next.ensures.fate ∙ c.in-ComesTwice.is) c.next.ensures.acts c.next.ensures.messages c.next.ensures.faults c.next.ensures.later c.next.ensures.risen (
+    c.args.link ComesTwice now.door c.next.new.self.door c.get-in-ComesTwice-2.new.self c.get-in-ComesTwice-2.result c.next.new.self.acts
+    c.next.new.self.messages now.faults c.next.new.self.faults now.asks c.next.new.self.asks
+    c.next.ensures.door (sym c.next.ensures.fate ∙ c.in-ComesTwice.is) c.next.ensures.acts c.next.ensures.messages c.next.ensures.faults c.next.ensures.later
+    c.next.ensures.risen (
       c.get-in-ComesTwice.new.self,
       (c.get-in-ComesTwice.result, c.get-in-ComesTwice.ensures.read),
       c.get-in-ComesTwice-2.ensures.read,

@@ -27,7 +27,8 @@ returns-clause-held g c hash =
     record { volume = i.volume; began = i.opening.value; secrets = i.secrets; power = i.power; journal = i.journal } in
     let below = c.add_paths_below in
     rw (sym c.self.view_is)
-    (held-same v.tells v.holds v.faults k (record k { volume = below.new.volume }) c.self.invariant (record { began = refl; secrets = refl; power = refl; told = below.ensures.told }) below.ensures.same hash)
+    (held-same v.tells v.holds v.faults k (record k { volume = below.new.volume }) c.self.invariant
+    (record { began = refl; secrets = refl; power = refl; told = below.ensures.told }) below.ensures.same hash)
 
 pub returns-clause-paths : goal.returns-clause-paths
 returns-clause-paths g c = rw (sym c.self.view_is) c.add_paths_below.ensures.adds

@@ -28,7 +28,8 @@ returns-in-Err-clause-read g c =
     let v = g.V.Volume in let k = c.args.self.now in let e = c.in-Err.error in
     let r : Result (Vec DirLine Global) VolumeError = Err e in
     part-told v.tells v.holds v.faults k c.settle_all.new.self c.settle_all.ensures.looks c.settle_all.ensures.dir
-    (λ hash. IsOfPart k.power c.args.part hash × (suffix_of hash ≡ c.args.suffix)) false (λ told s got. AreLines k.power c.args.part c.args.suffix told s got.items)
+    (λ hash. IsOfPart k.power c.args.part hash × (suffix_of hash ≡ c.args.suffix)) false
+    (λ told s got. AreLines k.power c.args.part c.args.suffix told s got.items)
     r (Err c.fault_of_volume.result) (ap (λ (x : DirFault). let y : Result (Vec DirLine Global) DirFault = Err x in y) c.fault_of_volume.ensures)
     (cause-as e c.in-Err.ensures.cause) tt tt
 
@@ -49,11 +50,14 @@ returns-clause-read g c =
     moved-told v.tells v.holds v.faults k m looks c.self.invariant
     (ap (λ (x : Kept _). v.faults x.volume) c.self.view_is ∙ c.in_default.ensures.cause.kept)
     c.lines_of.new.volume c.lines_of.ensures.told c.lines_of.ensures.same c.lines_of.result c.lines_of.ensures.cause
-    (λ hash. IsOfPart k.power c.args.part hash × (suffix_of hash ≡ c.args.suffix)) false (λ told s got. AreLines k.power c.args.part c.args.suffix told s got.items) c.match-lines_of.result is
+    (λ hash. IsOfPart k.power c.args.part hash × (suffix_of hash ≡ c.args.suffix)) false
+    (λ told s got. AreLines k.power c.args.part c.args.suffix told s got.items) c.match-lines_of.result is
     (λ hash of. none hash (subst (λ (p : ℕ). IsOfPart p c.args.part hash) (sym looks.same.power) of.0) of.1)
     (if-ok c.lines_of.result _ _
-    (λ lines of. subst (λ (p : ℕ). AreLines p c.args.part c.args.suffix (is_told v.tells v.holds v.faults m) (stands (history_of v.tells v.holds v.faults m)) lines.items)
-    looks.same.power (lines-stand v.tells v.holds v.faults m c.self.invariant c.args.part c.args.suffix lines.items none (of m.secrets))) c.lines_of.ensures.lines)
+    (λ lines of. subst (λ (p : ℕ). AreLines p c.args.part c.args.suffix (is_told v.tells v.holds v.faults m) (stands (history_of v.tells v.holds v.faults m))
+    lines.items)
+    looks.same.power (lines-stand v.tells v.holds v.faults m c.self.invariant c.args.part c.args.suffix lines.items none (of m.secrets)))
+    c.lines_of.ensures.lines)
 
 pub returns-clause-only_lists : goal.returns-clause-only_lists
 returns-clause-only_lists g c =

@@ -3,7 +3,8 @@ use Rattle.std.specs.Option.{option_map}
 use Rattle.sw_hashdir.specs.Places.{dir_text}
 use Rattle.sw_hashdir.specs.Readings.{IsDamagedAt}
 use Rattle.sw_hashdir.specs.Steps.{is_hashed}
-use Rattle.sw_objdir.proofs.FileReads.{damaged-as, file-given, file-refused, found-before, one-settled, read-looks, refused-calls, settled-looks, unsettled-calls}
+use Rattle.sw_objdir.proofs.FileReads.{damaged-as, file-given, file-refused, found-before, one-settled, read-looks, refused-calls, settled-looks}
+use Rattle.sw_objdir.proofs.FileReads.{unsettled-calls}
 use Rattle.sw_objdir.proofs.Looking.{dir-moved}
 use Rattle.sw_objdir.proofs.PartReads.{cause-as, part-told}
 use Rattle.sw_objdir.proofs.Reading.{damage-before}

@@ -6,29 +6,6 @@ use std::marker::Model;
 use std::snapshot::Snapshot;
 use sw_timestamp::Timestamp;
 
-/// A value as contracts see it: it has no bytes and takes no memory, however large the value is.
-#[derive(Drop)]
-pub struct Seen<T> {
-    snapshot: Snapshot<T>,
-}
-
-impl<T> Model for Seen<T> {
-    ghost Value = { T };
-
-    ghost view = { λ s. s.snapshot.value };
-}
-
-impl<T> Seen<T> {
-    /// The value as it is now.
-    pub fn of(value: &T) -> Seen<T>
-        ensures { result ≡ value.now }
-    {
-        Seen {
-            snapshot: Snapshot::of(value),
-        }
-    }
-}
-
 /// A change as contracts see it, which keeps of it what a trail prints: its kind and its time. It takes no memory.
 #[derive(Drop)]
 pub struct ChangeSeen {
