@@ -4,6 +4,8 @@
 #![tactic(auto)]
 
 #[cfg(test)]
+mod all_locks;
+#[cfg(test)]
 mod keeper;
 #[cfg(test)]
 mod listing;

@@ -72,13 +72,15 @@ const FAULTS: [(&[u8], BadQuery); 12] = [
 const JSON: [(&[u8], &[u8]); 4] = [
     (
         b"prefix=o&format=json",
-        b"[{\"bytes\":3,\"content_type\":\"text/plain\",\"hash\":\"900150983cd24fb0d6963f7d28e17f72\",\"last_modified\":\"1970-01-01T00:00:05.000000\",\"name\":\"o\"}]",
+        b"[{\"bytes\":3,\"content_type\":\"text/plain\",\"hash\":\"900150983cd24fb0d6963f7d28e17f72\",\"last_modified\":\"1970-01-01T00:00:05.000000\",\
+          \"name\":\"o\"}]",
     ),
     (b"limit=0&format=JSON", b"[]"),
     (b"delimiter=/&limit=1", b"[{\"subdir\":\"a\\\"/\"}]"),
     (
         b"delimiter=/",
-        b"[{\"subdir\":\"a\\\"/\"},{\"bytes\":3,\"content_type\":\"text/plain\",\"hash\":\"900150983cd24fb0d6963f7d28e17f72\",\"last_modified\":\"1970-01-01T00:00:05.000000\",\"name\":\"o\"}]",
+        b"[{\"subdir\":\"a\\\"/\"},{\"bytes\":3,\"content_type\":\"text/plain\",\"hash\":\"900150983cd24fb0d6963f7d28e17f72\",\
+          \"last_modified\":\"1970-01-01T00:00:05.000000\",\"name\":\"o\"}]",
     ),
 ];
 

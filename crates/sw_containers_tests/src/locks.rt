@@ -101,7 +101,7 @@ const RUNS: [(&[(u64, bool)], &str, u64, &str, u64, Told, Told, Told); 11] = [
     ),
 ];
 
-fn keeper(alloc: Global, failing: &[(u64, bool)]) -> Result<MemKeeper, NoMemory> {
+pub(crate) fn keeper(alloc: Global, failing: &[(u64, bool)]) -> Result<MemKeeper, NoMemory> {
     let mut calls = Vec::new(alloc);
     for (call, made) in failing {
         calls.push(FailingCall {

@@ -1,0 +1,5 @@
+pub mod Anew
+pub mod Keeping
+pub mod Lists
+pub mod Placed
+pub mod Ranges

@@ -1,0 +1,17 @@
+use Rattle.std.proofs.Common.{◌≡◌, refl, ◌∙◌}
+use Rattle.sw_container_locks.proofs.Keeping.{entered-alone}
+use Rattle.sw_container_locks.proofs.making.times_in.Goals as goal
+
+pub returns : goal.returns
+returns g c =
+    let left = c.times-got.new.self in
+    let step = c.times-got.ensures.read in
+    let entered : left.fresh ≡ step.read.added =
+    entered-alone c.args.dir.now.fresh step.read.added left.fresh c.requires.fresh (step.same.fresh step.read.added (step.read.adds refl)) in
+    record {
+      left = left;
+      step = step;
+      called = c.times-got.ensures.called;
+      after = c.line_of-line.ensures.after;
+      line_is = c.line_of-line.ensures.line ∙ rw (c.of.ensures, c.of-2.ensures, entered) refl;
+    }

@@ -1,0 +1,118 @@
+//! A step at one lock, with its line.
+
+ghost use Rattle.std.specs.Prelude.{◌≡◌, []};
+ghost use Rattle.sw_container_locks.specs.Making.{IsChangedIn, IsReadIn, line_of, taken};
+ghost use Rattle.sw_container_steps.specs.Reads.{info_of, listing_of, times_of};
+ghost use Rattle.sw_peer.specs.declared.cont_event.ContEvent.TheVariants.{Changed, Informed, Listed, Timed};
+
+use std::alloc::Global;
+use sw_container_db::ContDir;
+use sw_container_steps::{ContAnswer, ContChange, Info};
+use sw_hashpath::Place;
+use sw_keeper::Keeper;
+use sw_listing::{Entries, Query};
+use sw_peer::{Added, ContEvent, Event, KeptLine, Line, Link, Seen};
+use sw_timestamp::Timestamp;
+
+/// The put time and the delete time of a container.
+pub(crate) type Times = Option<(Timestamp, Option<Timestamp>)>;
+
+/// Makes a step that may change the container, and its line. What it entered is moved out of the lock.
+pub(crate) fn change_in<K: Keeper + Drop>(
+    alloc: Global,
+    dir: &mut ContDir<K>,
+    link: Link,
+    device: u8,
+    place: &Place,
+    change: &ContChange,
+) -> (ContAnswer, KeptLine)
+    requires fresh { dir.old.fresh ≡ [] }
+    ensures { IsChangedIn K.tells K.holds K.faults K.calls dir.old link device place.now change.now result.0 dir.new result.1 }
+{
+    let answer = dir.change(alloc, place, change);
+    let event = changed(place, change, &answer);
+    let line = line_of(alloc, dir, link, device, event);
+    (answer, line)
+}
+
+/// Reads the times of the container, and makes the line of that.
+pub(crate) fn times_in<K: Keeper + Drop>(
+    alloc: Global,
+    dir: &mut ContDir<K>,
+    link: Link,
+    device: u8,
+    place: &Place,
+) -> (Result<Times, ContAnswer>, KeptLine)
+    requires fresh { dir.old.fresh ≡ [] }
+    ensures { IsReadIn K.tells K.holds K.faults K.calls dir.old link device place.now times_of (λ got. Timed place.now got) result.0 dir.new result.1 }
+{
+    let got = dir.times(alloc, place);
+    let event = ContEvent::Timed(Seen::of(place), Seen::of(&got));
+    let line = line_of(alloc, dir, link, device, event);
+    (got, line)
+}
+
+/// Reads what is told of the container, and makes the line of that.
+pub(crate) fn info_in<K: Keeper + Drop>(
+    alloc: Global,
+    dir: &mut ContDir<K>,
+    link: Link,
+    device: u8,
+    place: &Place,
+) -> (Result<Info, ContAnswer>, KeptLine)
+    requires fresh { dir.old.fresh ≡ [] }
+    ensures { IsReadIn K.tells K.holds K.faults K.calls dir.old link device place.now info_of (λ got. Informed place.now got) result.0 dir.new result.1 }
+{
+    let got = dir.info(alloc, place);
+    let event = ContEvent::Informed(Seen::of(place), Seen::of(&got));
+    let line = line_of(alloc, dir, link, device, event);
+    (got, line)
+}
+
+/// Reads the listing that answers a query, and makes the line of that.
+pub(crate) fn list_in<K: Keeper + Drop>(
+    alloc: Global,
+    dir: &mut ContDir<K>,
+    link: Link,
+    device: u8,
+    place: &Place,
+    query: &Query,
+) -> (Result<Entries, ContAnswer>, KeptLine)
+    requires fresh { dir.old.fresh ≡ [] }
+    ensures { IsReadIn K.tells K.holds K.faults K.calls dir.old link device place.now (listing_of query.now) (λ got. Listed place.now query.now got) result.0
+        dir.new result.1 }
+{
+    let got = dir.list(alloc, place, query);
+    let event = ContEvent::Listed(Seen::of(place), Seen::of(query), Seen::of(&got));
+    let line = line_of(alloc, dir, link, device, event);
+    (got, line)
+}
+
+/// What a line tells of a step that may change the container.
+fn changed(place: &Place, change: &ContChange, answer: &ContAnswer) -> ContEvent
+    ensures { result ≡ Changed place.now change.now answer.now }
+{
+    ContEvent::Changed(Seen::of(place), Seen::of(change), *answer)
+}
+
+/// Takes what the step entered out of the lock, and makes the line of it. No memory is taken.
+fn line_of<K: Keeper + Drop>(
+    alloc: Global,
+    dir: &mut ContDir<K>,
+    link: Link,
+    device: u8,
+    event: ContEvent,
+) -> KeptLine
+    ensures line { result ≡ line_of link device event dir.old.fresh }
+    ensures after { dir.new ≡ taken dir.old }
+{
+    let none = Vec::new(alloc);
+    let entered = dir.take_fresh(alloc);
+    let line = Line {
+        device,
+        link,
+        event: Event::AtContainer(event, Seen::of(&entered)),
+        added: Added::since(&none, 0),
+    };
+    KeptLine::of_container(alloc, line, entered)
+}

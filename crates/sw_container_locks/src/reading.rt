@@ -1,0 +1,79 @@
+ghost use Rattle.sw_container_locks.specs.Making.{IsReadAt};
+ghost use Rattle.sw_container_locks.specs.Slots.{IsOpen};
+ghost use Rattle.sw_container_steps.specs.Reads.{info_of, listing_of, times_of};
+ghost use Rattle.sw_peer.specs.declared.cont_event.ContEvent.TheVariants.{Informed, Listed, Timed};
+
+use crate::cont_locks::ContLocks;
+use crate::cont_slot::ContSlot;
+use crate::making::{info_in, list_in, times_in};
+use std::alloc::Global;
+use sw_container_steps::{ContAnswer, Info};
+use sw_hashpath::Place;
+use sw_keeper::Keeper;
+use sw_listing::{Entries, Query};
+use sw_peer::{KeptLine, Link};
+use sw_timestamp::Timestamp;
+
+/// Reads at one lock, which is open, each with its line. No tables change.
+impl<K: Keeper + Drop> ContLocks<K> {
+    /// Reads the put time and the delete time of the container, also of a deleted one; none where it was never created.
+    pub fn times(
+        &mut self,
+        alloc: Global,
+        lock: usize,
+        link: Link,
+        device: u8,
+        place: &Place,
+    ) -> (
+        Result<Option<(Timestamp, Option<Timestamp>)>, ContAnswer>,
+        KeptLine,
+    )
+        requires is_open { IsOpen self.old lock }
+        ensures { IsReadAt K.tells K.holds K.faults K.calls lock link device place.now times_of (λ got. Timed place.now got) self.old result.0
+            self.new result.1 }
+    {
+        let ContSlot::Open(dir) = &mut self.slots[lock] else {
+            unreachable!()
+        };
+        times_in(alloc, dir, link, device, place)
+    }
+
+    /// Reads what is told of the container. [`ContAnswer::Absent`] exactly where there is none.
+    pub fn info(
+        &mut self,
+        alloc: Global,
+        lock: usize,
+        link: Link,
+        device: u8,
+        place: &Place,
+    ) -> (Result<Info, ContAnswer>, KeptLine)
+        requires is_open { IsOpen self.old lock }
+        ensures { IsReadAt K.tells K.holds K.faults K.calls lock link device place.now info_of (λ got. Informed place.now got) self.old result.0
+            self.new result.1 }
+    {
+        let ContSlot::Open(dir) = &mut self.slots[lock] else {
+            unreachable!()
+        };
+        info_in(alloc, dir, link, device, place)
+    }
+
+    /// Reads the listing that answers a query. [`ContAnswer::Absent`] exactly where there is no container.
+    pub fn list(
+        &mut self,
+        alloc: Global,
+        lock: usize,
+        link: Link,
+        device: u8,
+        place: &Place,
+        query: &Query,
+    ) -> (Result<Entries, ContAnswer>, KeptLine)
+        requires is_open { IsOpen self.old lock }
+        ensures { IsReadAt K.tells K.holds K.faults K.calls lock link device place.now (listing_of query.now) (λ got. Listed place.now query.now got) self.old
+            result.0 self.new result.1 }
+    {
+        let ContSlot::Open(dir) = &mut self.slots[lock] else {
+            unreachable!()
+        };
+        list_in(alloc, dir, link, device, place, query)
+    }
+}
