@@ -1,5 +1,5 @@
 -- A device that is lifted and set down over the same volumes was restarted.
-use Rattle.std.proofs.Common.{◌≡◌, ◌≢◌, ℕ, suc, ◌+◌, ◌*◌, ◌%◌, ◌^◌, ◌<◌, ◌≤◌, Bool, true, List, [], ◌∷◌, ◌++◌, length, refl, sym, ◌∙◌, ap, subst, arith}
+use Rattle.std.proofs.Common.{◌≡◌, ◌≢◌, ℕ, suc, ◌+◌, ◌*◌, ◌^◌, ◌<◌, ◌≤◌, Bool, true, List, [], ◌∷◌, ◌++◌, length, refl, sym, ◌∙◌, ap, subst, arith}
 use Rattle.std.proofs.Common.{Option, None, Some, ◌⊎◌, inl, inr}
 use Rattle.std.specs.List.{slice_get}
 use Rattle.std.proofs.lemmas.Bool.{cases_lt}
@@ -16,7 +16,8 @@ use Rattle.sw_volume.specs.Tree.{Folders}
 use Rattle.sw_core.proofs.Placed.{stripe-below}
 use Rattle.sw_core.proofs.Wholes.{open-at}
 use Rattle.sw_core.specs.Limits.{journal_bytes, journal_entries}
-use Rattle.sw_core.specs.Worlds.{AllNodes, HasLimits, IsWorld, Lifts, SetsDown, TellsOn, held_of, lock_of, past_of, first_of, restart_line, seen_of, sight_of, stripe_at}
+use Rattle.sw_core.specs.Worlds.{AllNodes, HasLimits, IsWorld, Lifts, SetsDown, TellsOn, held_of, lock_of, past_of, first_of, restart_line, seen_of, sight_of}
+use Rattle.sw_core.specs.Worlds.{stripe_at}
 use Rattle.sw_core.specs.declared.slot.Slot.{Slot}
 use Rattle.sw_core.specs.declared.slot.Slot.TheVariants as slots
 
@@ -50,7 +51,7 @@ module _ {V : Type 0} (tells : V → Bool) (files : V → Folders) (faults : V �
   down = subst (λ (m : AllNodes V). SetsDown m device given new) up.rest sets
 
   abbrev after : AllNodes V
-  after = record old { slots = new.slots; lines = old.lines ++ restart_line device ∷ []; lifted = None }
+  after = record old { slots = new.slots; lines = old.lines ++ restart_line device ∷ []; lifted = None; containers = new.containers }
 
   low : (hash : Hash) → stripe_at old.lock_bits old.power (partition_of hash old.power) < 2 ^ old.lock_bits
   low hash = stripe-below old.lock_bits old.power (partition_of hash old.power)
@@ -112,10 +113,13 @@ module _ {V : Type 0} (tells : V → Bool) (files : V → Folders) (faults : V �
   told-old : (hash : Hash) → (seen_of tells files faults (slice_get old.slots (locked hash))).told ≡ true → is_told tells files faults (there hash).0 ≡ true
   told-old hash told = sym (ap (λ (h : History). h.told) (seen-old hash)) ∙ told
 
-  elsewhere : (d : ℕ) (hash : Hash) → d ≢ device → slice_get new.slots (lock_of old.lock_bits old.power d hash) ≡ slice_get old.slots (lock_of old.lock_bits old.power d hash)
+  elsewhere : (d : ℕ) (hash : Hash) → d ≢ device → slice_get new.slots (lock_of old.lock_bits old.power d hash) ≡ slice_get old.slots
+      (lock_of old.lock_bits old.power d hash)
   elsewhere d hash away =
-      let out = apart-from (2 ^ old.lock_bits) d device (stripe_at old.lock_bits old.power (partition_of hash old.power)) (stripe-below old.lock_bits old.power (partition_of hash old.power)) away in
-      down.down.outside (lock_of old.lock_bits old.power d hash) (further (lock_of old.lock_bits old.power d hash) out) ∙ up.lifted.outside (lock_of old.lock_bits old.power d hash) out
+      let out = apart-from (2 ^ old.lock_bits) d device (stripe_at old.lock_bits old.power (partition_of hash old.power))
+      (stripe-below old.lock_bits old.power (partition_of hash old.power)) away in
+      down.down.outside (lock_of old.lock_bits old.power d hash) (further (lock_of old.lock_bits old.power d hash) out) ∙ up.lifted.outside
+      (lock_of old.lock_bits old.power d hash) out
     where
       further : (l : ℕ) → (l < first_of old.lock_bits device) ⊎ (past_of old.lock_bits device ≤ l)
           → (l < first_of old.lock_bits device) ⊎ (first_of old.lock_bits device + length given ≤ l)
@@ -138,7 +142,7 @@ module _ {V : Type 0} (tells : V → Bool) (files : V → Folders) (faults : V �
         (held-begun hash (told-old hash told) ∙ ap (λ (o : Option (Slot V)). held_of tells files faults o hash) (sym (there hash).1));
     elsewhere = λ alone d hash away. ap (λ (o : Option (Slot V)). held_of tells files faults o hash) (elsewhere d hash away);
     alone = refl;
-    containers = refl;
+    containers = down.containers;
     counts = (refl, refl);
     trail = refl;
   }

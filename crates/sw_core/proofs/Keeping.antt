@@ -1,5 +1,5 @@
 -- Why a world stays one: opened, lifted, set down and looked at.
-use Rattle.std.proofs.Common.{◌≡◌, ℕ, suc, zero, ◌+◌, ◌-◌, ◌*◌, ◌%◌, ◌^◌, ◌<◌, ◌≤◌, Bool, true, false, List, [], ◌∷◌, ◌++◌, length, map, refl, sym, ◌∙◌, ap}
+use Rattle.std.proofs.Common.{◌≡◌, ℕ, suc, zero, ◌+◌, ◌-◌, ◌*◌, ◌^◌, ◌<◌, ◌≤◌, Bool, true, false, List, [], ◌∷◌, ◌++◌, length, map, refl, sym, ◌∙◌, ap}
 use Rattle.std.proofs.Common.{subst, arith, Option, None, Some, ◌⊎◌, inl, inr, All}
 use Rattle.std.specs.Option.{option_map}
 use Rattle.std.specs.List.{slice_get}
@@ -12,6 +12,8 @@ use Rattle.std.proofs.lemmas.List.Elements.{All-get_or}
 use Rattle.std.proofs.lemmas.Option.{get_or_from_slice_get, slice_get-map, slice_get_past, slice_get_within}
 use Rattle.sw_hashpath.specs.HashParts.{partition_of}
 use Rattle.sw_hashpath.specs.declared.secrets.Secrets.{Secrets}
+use Rattle.sw_container_locks.specs.declared.cont_slot.ContSlot.{ContSlot}
+use Rattle.sw_keeper.specs.MemState.{MemState}
 use Rattle.sw_objdir.specs.Directories.{Kept, history_of, started}
 use Rattle.sw_outside.specs.Faults.{HasRisen}
 use Rattle.sw_peer.specs.Histories.{History}
@@ -27,7 +29,8 @@ use Rattle.sw_core.proofs.Slots.{same-some}
 use Rattle.sw_core.proofs.Wholes.{none-some, open-at}
 use Rattle.sw_core.specs.Limits.{journal_bytes, journal_entries}
 use Rattle.sw_core.specs.Listing.{AreLookedAt, IsLookedAt}
-use Rattle.sw_core.specs.Worlds.{AllNodes, AreLifted, AreSetDown, HasRoom, IsSlot, IsWorld, first_of, held_of, is_out, lock_of, past_of, seen_of, sight_of, stripe_at}
+use Rattle.sw_core.specs.Worlds.{AllNodes, AreLifted, AreSetDown, HasRoom, IsSlot, IsWorld, first_of, held_of, is_out, lock_of, past_of, seen_of, sight_of}
+use Rattle.sw_core.specs.Worlds.{stripe_at}
 use Rattle.sw_core.specs.declared.slot.Slot.{Slot}
 use Rattle.sw_core.specs.declared.slot.Slot.TheVariants as slots
 
@@ -97,9 +100,20 @@ module _ {V : Type 0} (secrets : Secrets) (power : ℕ) (volumes : List V) (lift
           let v = there-is volumes l below in
           begun-at l v.0 v.1 ∙ (sym (slice_get-map begun volumes l ∙ ap (option_map begun) v.1) ∙ is)
 
-  pub opened-world : (devices bits : ℕ) (lines : List Line) (asks : ℕ) → devices ≤ 256 → bits ≤ 4 → bits ≤ power → 1 ≤ power → power ≤ 32 → length volumes ≡ devices * 2 ^ bits
-      → IsWorld (record { devices = devices; lock_bits = bits; power = power; secrets = secrets; slots = new; lines = lines; asks = asks; lifted = None })
-  opened-world devices bits lines asks few narrow fine least greatest amount = record {
+  pub opened-world : (devices bits : ℕ) (lines : List Line) (asks : ℕ) (containers : List (ContSlot MemState)) → devices ≤ 256 → bits ≤ 4 → bits ≤ power →
+      1 ≤ power → power ≤ 32 → length volumes ≡ devices * 2 ^ bits
+      → IsWorld (record {
+        devices = devices;
+        lock_bits = bits;
+        power = power;
+        secrets = secrets;
+        slots = new;
+        lines = lines;
+        asks = asks;
+        lifted = None;
+        containers = containers;
+      })
+  opened-world devices bits lines asks containers few narrow fine least greatest amount = record {
     devices = few;
     lock_bits = narrow;
     least = least;
@@ -151,10 +165,11 @@ module _ {V : Type 0} (w : AllNodes V) (is : IsWorld w) (device : ℕ) where
           subst (λ (b : Bool). IsSlot w.secrets w.power b (slice_get new l)) (sym apart.0)
           (there.0, up.outside l apart.1 ∙ there.1, there.2, there.3, there.4)
 
-  pub set-world : (new : List (Slot V)) (volumes : List V) (lines : List Line) → w.lifted ≡ Some device → length volumes ≡ 2 ^ w.lock_bits
+  pub set-world : (new : List (Slot V)) (volumes : List V) (lines : List Line) (containers : List (ContSlot MemState)) → w.lifted ≡ Some device →
+      length volumes ≡ 2 ^ w.lock_bits
       → AreSetDown w.power (first_of w.lock_bits device) volumes w.slots new
-      → IsWorld (record w { slots = new; lines = lines; lifted = None })
-  set-world new volumes lines out amount down = record {
+      → IsWorld (record w { slots = new; lines = lines; lifted = None; containers = containers })
+  set-world new volumes lines containers out amount down = record {
     devices = is.devices;
     lock_bits = is.lock_bits;
     least = is.least;
@@ -296,7 +311,8 @@ module _ {V : Type 0} (tells : V → Bool) (files : V → Folders) (faults : V �
     same = λ l. (seen-looked l).0;
     later = λ l. (seen-looked l).1;
     others = λ d hash away. ap (seen_of tells files faults) (looked.outside (lock_of w.lock_bits w.power d hash)
-        (apart-from (2 ^ w.lock_bits) d device (stripe_at w.lock_bits w.power (partition_of hash w.power)) (stripe-below w.lock_bits w.power (partition_of hash w.power)) away));
+        (apart-from (2 ^ w.lock_bits) d device (stripe_at w.lock_bits w.power (partition_of hash w.power))
+        (stripe-below w.lock_bits w.power (partition_of hash w.power)) away));
     risen = risen;
     holds = λ d hash. held-looked (lock_of w.lock_bits w.power d hash) hash;
     alone = refl;

@@ -16,3 +16,4 @@ pub mod Stripes
 pub mod Wanting
 pub mod Wholes
 pub mod Witness
+pub mod Containing

@@ -1,5 +1,6 @@
 -- Directories of a range of locks that were looked at, and the paths that they gave.
-use Rattle.std.proofs.Common.{◌≡◌, ◌≢◌, Bool, ℕ, ◌+◌, ◌<◌, ◌≤◌, ◌↔◌, ◌==◌, true, false, List, [], length, get_or, refl, sym, ◌∙◌, ap, subst, arith, Some, Result, Ok, Err, ◌⊎◌, inl, inr, slice_set, length-set}
+use Rattle.std.proofs.Common.{◌≡◌, ◌≢◌, Bool, ℕ, ◌+◌, ◌<◌, ◌≤◌, ◌↔◌, ◌==◌, true, false, List, [], length, get_or, refl, sym, ◌∙◌, ap, subst, arith, Some}
+use Rattle.std.proofs.Common.{Result, Ok, Err, ◌⊎◌, inl, inr, slice_set, length-set}
 use Rattle.std.specs.Cmp.Lexicographic.{slice_cmp}
 use Rattle.std.specs.List.{Contains, slice_get}
 use Rattle.std.specs.List.Sorted.{IsStrictlySortedBy}
@@ -23,7 +24,8 @@ use Rattle.sw_volume.specs.declared.errors.VolumeError.{VolumeError}
 use Rattle.sw_volume.specs.declared.errors.VolumeError.TheVariants.{Failed, NoMemory}
 
 -- what was added to nothing, in order
-pub listed-all : (P : List ℕ → Type 0) (found paths : List (List ℕ)) → paths ≡ found → IsStrictlySortedBy (slice_cmp nat_cmp) paths → Adds [] found P → ListsAll paths P
+pub listed-all : (P : List ℕ → Type 0) (found paths : List (List ℕ)) → paths ≡ found → IsStrictlySortedBy (slice_cmp nat_cmp) paths → Adds [] found P →
+    ListsAll paths P
 listed-all P found paths all sorted adds = record {
   ascending = sorted;
   exact = λ path. (
@@ -32,7 +34,8 @@ listed-all P found paths all sorted adds = record {
   );
 }
 
-pub risen-where : {T U : Type 0} (r : Result T VolumeError) (s : Result U VolumeError) (e : VolumeError) (P : Type 0) → r ≡ Err e → s ≡ Err e → is_failed s ≡ true → OnFailed r P → P
+pub risen-where : {T U : Type 0} (r : Result T VolumeError) (s : Result U VolumeError) (e : VolumeError) (P : Type 0) → r ≡ Err e → s ≡ Err e →
+    is_failed s ≡ true → OnFailed r P → P
 risen-where (Ok x) s e P is said failed risen = cc
 risen-where (Err Failed) s e P is said failed risen = risen
 risen-where (Err NoMemory) s e P is said failed risen =
@@ -106,7 +109,8 @@ module _ {V : Type 0} (tells : V → Bool) (files : V → Folders) (faults : V �
   pub none-open : (place : ℕ) (old now : List (Slot V)) (x : Slot V) → AreLookedAt tells files faults first place old now → x ≡ get_or now place x
       → AreLookedAt tells files faults first (place + 1) old (slice_set now place x)
   none-open place old now x all there =
-      subst (λ (xs : List (Slot V)). AreLookedAt tells files faults first (place + 1) old xs) (sym (ap (λ y. slice_set now place y) there ∙ set-get_or now place x))
+      subst (λ (xs : List (Slot V)). AreLookedAt tells files faults first (place + 1) old xs)
+      (sym (ap (λ y. slice_set now place y) there ∙ set-get_or now place x))
       (wider-looked place (place + 1) old now (omega arith) all)
 
   pub stood-there : (place : ℕ) (old now : List (Slot V)) (x : Slot V) → AreLookedAt tells files faults first place old now → slice_get now place ≡ Some x
@@ -116,7 +120,8 @@ module _ {V : Type 0} (tells : V → Bool) (files : V → Folders) (faults : V �
   -- the one that was looked at counted a fault
   pub one-risen : (place : ℕ) (old now : List (Slot V)) (k n : Kept V) → place < length now
       → AreLookedAt tells files faults first place old now → slice_get now place ≡ Some (slots.Open k) → HasRisen (faults k.volume) (faults n.volume)
-      → (l : ℕ) × HasRisen (seen_of tells files faults (slice_get old l)).faults (seen_of tells files faults (slice_get (slice_set now place (slots.Open n)) l)).faults
+      → (l : ℕ) × HasRisen (seen_of tells files faults (slice_get old l)).faults
+      (seen_of tells files faults (slice_get (slice_set now place (slots.Open n)) l)).faults
   one-risen place old now k n below all there risen =
       let was : slice_get old place ≡ Some (slots.Open k) = sym (all.outside place (inr (omega arith))) ∙ there in
       (place, rw (was, at-set_same now place (slots.Open n) below) risen)

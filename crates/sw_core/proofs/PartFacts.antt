@@ -14,7 +14,8 @@ use Rattle.sw_core.specs.PartReads.{IsReadOf, OnlyReads}
 pub part-at : (nodes : Nodes) (device part : ℕ) (hash : Hash) → IsOfPart nodes.power part hash → nodes.lock device hash ≡ nodes.part_lock device part
 part-at nodes device part hash is = nodes.one_lock device hash is.digest ∙ ap (nodes.part_lock device) is.part_is
 
-pub read-facts : (nodes : Nodes) (h : History) (read : PartRead) (added : List ObjEntry) (g : History) (t : Hash → State) → IsReadOf nodes h read added g t → OnlyReads h added g
+pub read-facts : (nodes : Nodes) (h : History) (read : PartRead) (added : List ObjEntry) (g : History) (t : Hash → State) → IsReadOf nodes h read added g t →
+    OnlyReads h added g
 read-facts nodes h (Hashes part got) added g t is =
     record { follows = is.0.follows; settles = is.0.settles refl; adds = is.0.adds refl ∙ ap (λ (es : List ObjEntry). h.journal.entries ++ es) (sym is.1) }
 read-facts nodes h (Files part suffix got) added g t is =

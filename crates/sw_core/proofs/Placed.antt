@@ -1,5 +1,6 @@
 -- A step at one node, as the world tells it.
-use Rattle.std.proofs.Common.{◌≡◌, ◌≢◌, ℕ, ◌-◌, ◌/◌, ◌%◌, ◌^◌, ◌<◌, ◌≤◌, Bool, true, false, ◌==◌, List, [], ◌∷◌, ◌++◌, length, refl, sym, ◌∙◌, ap, arith, Option, Some, inl, inr, Result, slice_set, length-set}
+use Rattle.std.proofs.Common.{◌≡◌, ◌≢◌, ℕ, ◌-◌, ◌/◌, ◌^◌, ◌<◌, ◌≤◌, Bool, true, false, ◌==◌, List, [], ◌∷◌, ◌++◌, length, refl, sym, ◌∙◌, ap, arith, Option}
+use Rattle.std.proofs.Common.{Some, inl, inr, Result, slice_set, length-set}
 use Rattle.std.specs.List.{slice_get}
 use Rattle.std.proofs.lemmas.Option.{slice_get-get_or, slice_get_within, slice_get_past}
 use Rattle.std.proofs.lemmas.List.{get_or-set_same, get_or-set_other}
@@ -9,7 +10,7 @@ use Rattle.std.proofs.lemmas.Bool.Decides.{nat_tests}
 use borrow.Author.Tests.{eqb-true, eqb-false}
 use Rattle.sw_hashpath.specs.HashParts.{partition_of}
 use Rattle.sw_hashpath.specs.declared.name.Name.{Name}
-use Rattle.sw_peer.proofs.Calls.{grows-refl, grows-trans}
+use Rattle.sw_history.proofs.Growing.{grows-refl, grows-trans}
 use Rattle.sw_peer.specs.Histories.{Grows, StepChanges, StepReads}
 use Rattle.sw_peer.specs.Journals.{Hash}
 use Rattle.sw_peer.specs.Parts.{IsOfPart}
@@ -66,7 +67,8 @@ module _ {V : Type 0} (tells : V → Bool) (files : V → Folders) (faults : V �
   now = slice_get-set_same w.slots place (slots.Open x) (slice_get_within w.slots place (slots.Open d) there)
 
   grows_at : Grows (history_of tells files faults d) (history_of tells files faults x)
-      → (l : ℕ) (b : Bool) → (l == place) ≡ b → Grows (seen_of tells files faults (slice_get w.slots l)) (seen_of tells files faults (slice_get (slice_set w.slots place (slots.Open x)) l))
+      → (l : ℕ) (b : Bool) → (l == place) ≡ b → Grows (seen_of tells files faults (slice_get w.slots l))
+      (seen_of tells files faults (slice_get (slice_set w.slots place (slots.Open x)) l))
   grows_at up l true is =
       let same : l ≡ place = eqb-true l place is in
       rw (same, now, there) up
@@ -89,7 +91,8 @@ module _ {V : Type 0} (tells : V → Bool) (files : V → Folders) (faults : V �
       by false is =
           let apart : lock_of w.lock_bits w.power e h ≢ place =
           λ equal. absurd (omega (arith, nat_tests, eqb-false (lock_of w.lock_bits w.power e h) place is, equal)) in
-          ap (λ (o : Option (Slot V)). held_of tells files faults o h) (slice_get-set_other w.slots place (lock_of w.lock_bits w.power e h) (slots.Open x) apart)
+          ap (λ (o : Option (Slot V)). held_of tells files faults o h)
+          (slice_get-set_other w.slots place (lock_of w.lock_bits w.power e h) (slots.Open x) apart)
 
   -- at these places, one of which is under this lock
   pub moves : (at : ℕ → Hash → Type 0) (e : ℕ) (h : Hash) → at e h → lock_of w.lock_bits w.power e h ≡ place
@@ -117,7 +120,8 @@ module _ {V : Type 0} (tells : V → Bool) (files : V → Folders) (faults : V �
   abbrev pub after : AllNodes V
   after = stepped tells files faults w place d x at lines w.asks
 
-  moved : Grows (history_of tells files faults d) (history_of tells files faults x) → ((h : Hash) → h ≢ name.hash → held tells files faults x h ≡ held tells files faults d h)
+  moved : Grows (history_of tells files faults d) (history_of tells files faults x) →
+      ((h : Hash) → h ≢ name.hash → held tells files faults x h ≡ held tells files faults d h)
       → Moves (IsAt device name.hash) (sight_of tells files faults w) (sight_of tells files faults after)
   moved up same = moves tells files faults w place d x at lines w.asks (IsAt device name.hash) device name.hash (refl, refl) refl up
       (λ e h away equal. same h (λ it. away (device-of w.lock_bits w.power e device (partition_of h w.power) (partition_of name.hash w.power) equal, it)))
@@ -127,13 +131,16 @@ module _ {V : Type 0} (tells : V → Bool) (files : V → Folders) (faults : V �
 
   pub world-made : (link : Link) (change : Change) (answer : Answer)
       → ((h : Hash) → h ≢ name.hash → held tells files faults x h ≡ held tells files faults d h)
-      → (step : StepChanges true (history_of tells files faults d) (held tells files faults d name.hash) name change answer (history_of tells files faults x) (held tells files faults x name.hash))
+      → (step : StepChanges true (history_of tells files faults d) (held tells files faults d name.hash) name change answer (history_of tells files faults x)
+      (held tells files faults x name.hash))
       → lines ≡ w.lines ++ record { device = device; link = link; event = Changed name change answer; added = step.added } ∷ []
       → IsMade link device name change (sight_of tells files faults w) answer (sight_of tells files faults after)
   world-made link change answer same step items = record {
     moves = moved (grows-trans (history_of tells files faults d) step.before (history_of tells files faults x) step.follows step.after) same;
-    step = recast true (history_of tells files faults d) (seen_of tells files faults (slice_get w.slots place)) (held tells files faults d name.hash) (held_of tells files faults (slice_get w.slots place) name.hash) name change answer
-        (history_of tells files faults x) (seen_of tells files faults (slice_get (slice_set w.slots place (slots.Open x)) place)) (held tells files faults x name.hash) (held_of tells files faults (slice_get (slice_set w.slots place (slots.Open x)) place) name.hash)
+    step = recast true (history_of tells files faults d) (seen_of tells files faults (slice_get w.slots place)) (held tells files faults d name.hash)
+        (held_of tells files faults (slice_get w.slots place) name.hash) name change answer
+        (history_of tells files faults x) (seen_of tells files faults (slice_get (slice_set w.slots place (slots.Open x)) place))
+        (held tells files faults x name.hash) (held_of tells files faults (slice_get (slice_set w.slots place (slots.Open x)) place) name.hash)
         refl (ap (seen_of tells files faults) (sym at)) (ap (λ (o : Option (Slot V)). held_of tells files faults o name.hash) (sym at))
         (ap (seen_of tells files faults) (sym now_at)) (ap (λ (o : Option (Slot V)). held_of tells files faults o name.hash) (sym now_at)) step;
     trail = inl (ap Some items);
@@ -148,15 +155,18 @@ module _ {V : Type 0} (tells : V → Bool) (files : V → Folders) (faults : V �
     moves = moved step.follows (λ h away. same h);
     holds_all = λ alone e h. held_same tells files faults w place d x at lines w.asks e h (λ equal. same h);
     step = recast-read true (history_of tells files faults d) (seen_of tells files faults (slice_get w.slots place)) name.hash got
-        (history_of tells files faults x) (seen_of tells files faults (slice_get (slice_set w.slots place (slots.Open x)) place)) (held tells files faults x name.hash) (held_of tells files faults (slice_get (slice_set w.slots place (slots.Open x)) place) name.hash)
-        refl (ap (seen_of tells files faults) (sym at)) (ap (seen_of tells files faults) (sym now_at)) (ap (λ (o : Option (Slot V)). held_of tells files faults o name.hash) (sym now_at)) step;
+        (history_of tells files faults x) (seen_of tells files faults (slice_get (slice_set w.slots place (slots.Open x)) place))
+        (held tells files faults x name.hash) (held_of tells files faults (slice_get (slice_set w.slots place (slots.Open x)) place) name.hash)
+        refl (ap (seen_of tells files faults) (sym at)) (ap (seen_of tells files faults) (sym now_at))
+        (ap (λ (o : Option (Slot V)). held_of tells files faults o name.hash) (sym now_at)) step;
     trail = inl (ap Some items);
   }
 
 -- a read of a partition, at its lock
 module _ {V A : Type 0} (tells : V → Bool) (files : V → Folders) (faults : V → ℕ) (w : AllNodes V) (device part : ℕ) (d x : Kept V)
     (at : slice_get w.slots (part_lock_of w.lock_bits w.power device part) ≡ Some (slots.Open d)) (lines : List Line) (asks : ℕ)
-    (among own_at : Hash → Type 0) (damages : Bool) (reading : Nodes → Bool → (Hash → State) → A → Type 0) (own : Bool → (Hash → State) → A → Type 0) (read : Result A DirFault → PartRead) where
+    (among own_at : Hash → Type 0) (damages : Bool) (reading : Nodes → Bool → (Hash → State) → A → Type 0) (own : Bool → (Hash → State) → A → Type 0)
+    (read : Result A DirFault → PartRead) where
   abbrev part_place : ℕ
   part_place = part_lock_of w.lock_bits w.power device part
 
@@ -175,12 +185,15 @@ module _ {V A : Type 0} (tells : V → Bool) (files : V → Folders) (faults : V
     moves = moves tells files faults w part_place d x at lines asks (IsInPart w.power device part among) device h (refl, of_part, is)
         (ap (part_lock_of w.lock_bits w.power device) of_part.part_is) step.read.follows (λ e k away equal. step.all k);
     holds_all = λ alone e k. held_same tells files faults w part_place d x at lines asks e k (λ equal. step.all k);
-    step = recast-part true (history_of tells files faults d) (seen_of tells files faults (slice_get w.slots part_place)) own_at (λ hash. IsOfPart w.power part hash × among hash) into damages own (reading nodes_in) reads got
-        (history_of tells files faults x) (seen_of tells files faults (slice_get (slice_set w.slots part_place (slots.Open x)) part_place)) (held tells files faults x)
+    step = recast-part true (history_of tells files faults d) (seen_of tells files faults (slice_get w.slots part_place)) own_at
+        (λ hash. IsOfPart w.power part hash × among hash) into damages own (reading nodes_in) reads got
+        (history_of tells files faults x) (seen_of tells files faults (slice_get (slice_set w.slots part_place (slots.Open x)) part_place))
+        (held tells files faults x)
         ((sight_of tells files faults part_after).objects.holds device)
         refl (ap (seen_of tells files faults) (sym at)) (ap (seen_of tells files faults) (sym now_at))
         (λ k in_part. sym (ap (λ (o : Option (Slot V)). held_of tells files faults o k)
-        (ap (λ (p : ℕ). slice_get (slice_set w.slots part_place (slots.Open x)) (part_lock_of w.lock_bits w.power device p)) in_part.0.part_is ∙ now_at))) step.read;
+        (ap (λ (p : ℕ). slice_get (slice_set w.slots part_place (slots.Open x)) (part_lock_of w.lock_bits w.power device p)) in_part.0.part_is ∙ now_at)))
+        step.read;
     trail = inl (ap Some items);
   }
     where

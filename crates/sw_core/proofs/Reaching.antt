@@ -1,5 +1,6 @@
 -- Why a run without failures reaches what its lines tell.
-use Rattle.std.proofs.Common.{◌≡◌, ◌≢◌, ℕ, ◌≤◌, Bool, true, false, ◌&&◌, nat_eq, List, [], ◌∷◌, ◌++◌, length, bytes_eq, refl, sym, ◌∙◌, ap, subst, arith, append_assoc, ◌⊎◌, inl, inr, if◌then◌else◌}
+use Rattle.std.proofs.Common.{◌≡◌, ◌≢◌, ℕ, ◌≤◌, Bool, true, false, ◌&&◌, nat_eq, List, [], ◌∷◌, ◌++◌, length, bytes_eq, refl, sym, ◌∙◌, ap, subst, arith}
+use Rattle.std.proofs.Common.{append_assoc, ◌⊎◌, inl, inr, if◌then◌else◌}
 use Rattle.std.proofs.Common.{Option, None, Some}
 use Rattle.std.proofs.lemmas.List.{append-nil, append_cancel_left}
 use Rattle.std.proofs.lemmas.Bool.{eq-eqb, eqb-true}
@@ -14,7 +15,7 @@ use Rattle.sw_peer.specs.declared.change.Change.{Change}
 use Rattle.sw_peer.specs.declared.entry.ObjEntry.{ObjEntry}
 use Rattle.sw_peer.specs.declared.entry.ObjEntry.TheVariants.{Wrote}
 use Rattle.sw_peer.specs.declared.line.Event.{Event}
-use Rattle.sw_peer.specs.declared.line.Event.TheVariants.{Changed, Listed, Read, ReadPart, Restarted}
+use Rattle.sw_peer.specs.declared.line.Event.TheVariants.{AtContainer, Changed, Listed, Read, ReadPart, Restarted}
 use Rattle.sw_peer.specs.declared.line.Line.{Line}
 use Rattle.sw_state.specs.States.{state_of}
 use Rattle.sw_state.specs.declared.state.State.{State}
@@ -22,7 +23,8 @@ use Rattle.sw_state.specs.declared.write.Write.{Write}
 use Rattle.sw_peer.specs.Sights.{Nodes}
 use Rattle.sw_core.proofs.PartFacts.{part-at, read-facts}
 use Rattle.sw_core.specs.PartReads.{part_in}
-use Rattle.sw_core.specs.Laws.{NoDoubts, NoneFailed, RunEnters, RunReaches, RunStands, RunsJoin, entered_by, has_failed, is_entered_at, is_failed, is_restart, told_by}
+use Rattle.sw_core.specs.Laws.{NoDoubts, NoneFailed, RunEnters, RunReaches, RunStands, RunsJoin, entered_by, has_failed, is_entered_at, is_failed, is_restart}
+use Rattle.sw_core.specs.Laws.{told_by}
 use Rattle.sw_core.specs.Machine.{Came, Machine, MachineComes, MachineRestarts, RunLine, Runs, Went, came_in, made_writes, reached_with, state}
 
 -- ---- the lines that came
@@ -51,7 +53,8 @@ nothing-settled j before settled none s =
     (empty settled (omega (arith, zero_left, count)), empty before.doubts (omega (arith, zero_left, count)))
 
 -- a step that doesn't fail enters its write or leaves all
-either-way : (s : State) (j : Journal) (name : Name) (change : Change) (told : Bool) (answer : Answer) (made : Bool) (after : Journal) → is_failed answer ≡ false
+either-way : (s : State) (j : Journal) (name : Name) (change : Change) (told : Bool) (answer : Answer) (made : Bool) (after : Journal) →
+    is_failed answer ≡ false
     → Answers told s j name change answer made after → ((made ≡ true) × (after ≡ with_entry j name (write_of change))) ⊎ ((made ≡ false) × (after ≡ j))
 either-way s j name change told (answers.Done front) made after ok a = inl (a.is_made, a.entered)
 either-way s j name change told (answers.Buried front) made after ok a = inl (a.is_made, a.entered)
@@ -92,7 +95,8 @@ tells h g s t name change answer none ok step =
     by (inl made) =
         let entries : h.journal.entries ++ step.added ≡ h.journal.entries ++ Wrote name (write_of change) ∷ [] =
         sym (step.adds refl) ∙ (ap (λ (j : Journal). j.entries) made.1 ∙ ap (λ (es : List ObjEntry). es ++ Wrote name (write_of change) ∷ []) same_entries) in
-        let added : step.added ≡ Wrote name (write_of change) ∷ [] = append_cancel_left h.journal.entries step.added (Wrote name (write_of change) ∷ []) entries in (
+        let added : step.added ≡ Wrote name (write_of change) ∷ [] = append_cancel_left h.journal.entries step.added (Wrote name (write_of change) ∷ []) entries
+        in (
           (λ k. ap (written k) added ∙ ap (λ (b : Bool). if bytes_eq name.hash k then made_writes change b else []) (sym made.0)),
           ap (λ (j : Journal). j.doubts) made.1 ∙ zero_of.1,
         )
@@ -100,12 +104,14 @@ tells h g s t name change answer none ok step =
         let entries : h.journal.entries ++ step.added ≡ h.journal.entries ++ [] =
         sym (step.adds refl) ∙ (ap (λ (j : Journal). j.entries) same.1 ∙ (same_entries ∙ sym (append-nil h.journal.entries))) in
         let added : step.added ≡ [] = append_cancel_left h.journal.entries step.added [] entries in (
-          (λ k. ap (written k) added ∙ (neither (bytes_eq name.hash k) ∙ ap (λ (b : Bool). if bytes_eq name.hash k then made_writes change b else []) (sym same.0))),
+          (λ k. ap (written k) added ∙ (neither (bytes_eq name.hash k) ∙ ap (λ (b : Bool). if bytes_eq name.hash k then made_writes change b else [])
+              (sym same.0))),
           ap (λ (j : Journal). j.doubts) same.1 ∙ zero_of.1,
         )
 
 -- what reached with these writes, as a list that was told
-with-told : (reached : ℕ → Hash → List Write) (device : ℕ) (hash : Hash) (ws : List Write) (d : ℕ) (k : Hash) (vs : List Write) → vs ≡ (if bytes_eq hash k then ws else [])
+with-told : (reached : ℕ → Hash → List Write) (device : ℕ) (hash : Hash) (ws : List Write) (d : ℕ) (k : Hash) (vs : List Write) →
+    vs ≡ (if bytes_eq hash k then ws else [])
     → reached_with reached device hash ws d k ≡ reached d k ++ (if nat_eq device d then vs else [])
 with-told reached device hash ws d k vs is = by (nat_eq device d) (bytes_eq hash k) is
   where
@@ -125,11 +131,13 @@ module _ (nodes : Nodes) where
   elsewhere-none m after device hash none same here d k = by (nat_eq (nodes.lock d k) (nodes.lock device hash)) refl
     where
       by : (b : Bool) → nat_eq (nodes.lock d k) (nodes.lock device hash) ≡ b → (after.seen (nodes.lock d k)).journal.doubts ≡ []
-      by true is = let at : nodes.lock d k ≡ nodes.lock device hash = eqb-true (nodes.lock d k) (nodes.lock device hash) is in subst (λ (l : ℕ). (after.seen l).journal.doubts ≡ []) (sym at) here
+      by true is = let at : nodes.lock d k ≡ nodes.lock device hash = eqb-true (nodes.lock d k) (nodes.lock device hash) is in
+          subst (λ (l : ℕ). (after.seen l).journal.doubts ≡ []) (sym at) here
       by false is = ap (λ (h : History). h.journal.doubts) (same (nodes.lock d k) (apart is)) ∙ none d k
         where
           apart : nat_eq (nodes.lock d k) (nodes.lock device hash) ≡ false → nodes.lock d k ≢ nodes.lock device hash
-          apart no_match equal = let yes_match : nat_eq (nodes.lock d k) (nodes.lock device hash) ≡ true = eq-eqb (nodes.lock d k) (nodes.lock device hash) equal in cc
+          apart no_match equal = let yes_match : nat_eq (nodes.lock d k) (nodes.lock device hash) ≡ true =
+              eq-eqb (nodes.lock d k) (nodes.lock device hash) equal in cc
 
   restarted-none : (m : Machine) (device : ℕ) (after : Machine) → NoDoubts nodes m → MachineRestarts nodes m device after → NoDoubts nodes after
   restarted-none m device after none r d k = by (nat_eq d device) refl
@@ -147,9 +155,11 @@ module _ (nodes : Nodes) where
       → ((d : ℕ) (k : Hash) → after.reached d k ≡ m.reached d k ++ (if nat_eq line.device d then written k line.added else [])) × NoDoubts nodes after
   comes m line after none fine (Changed name change answer) is came =
       let makes = came.1 in
-      let told = tells (m.seen (nodes.lock line.device name.hash)) (after.seen (nodes.lock line.device name.hash)) (state m line.device name.hash) (state after line.device name.hash) name change answer
+      let told = tells (m.seen (nodes.lock line.device name.hash)) (after.seen (nodes.lock line.device name.hash)) (state m line.device name.hash)
+      (state after line.device name.hash) name change answer
       (none line.device name.hash) (sym (ap has_failed is) ∙ fine) makes.step in (
-        (λ d k. makes.reached d k ∙ with-told m.reached line.device name.hash (made_writes change makes.step.made) d k (written k line.added) (ap (written k) makes.added_is ∙ told.0 k)),
+        (λ d k. makes.reached d k ∙ with-told m.reached line.device name.hash (made_writes change makes.step.made) d k (written k line.added)
+            (ap (written k) makes.added_is ∙ told.0 k)),
         elsewhere-none m after line.device name.hash none makes.elsewhere told.1,
       )
   comes m line after none fine (Read name got) is came =
@@ -179,6 +189,10 @@ module _ (nodes : Nodes) where
   comes m line after none fine (Listed failed) is came = (
     (λ d k. came.1.reached d k ∙ nothing (m.reached d k) (nat_eq line.device d) (written k line.added) (ap (written k) came.0)),
     λ d k. ap (λ (h : History). h.journal.doubts) (came.1.same (nodes.lock d k)) ∙ none d k,
+  )
+  comes m line after none fine (AtContainer event entries) is came = (
+    (λ d k. ap (λ (x : Machine). x.reached d k) came.1 ∙ nothing (m.reached d k) (nat_eq line.device d) (written k line.added) (ap (written k) came.0)),
+    λ d k. ap (λ (x : Machine). (x.seen (nodes.lock d k)).journal.doubts) came.1 ∙ none d k,
   )
   comes m line after none fine Restarted is came = (
     (λ d k. came.1.reached d k ∙ nothing (m.reached d k) (nat_eq line.device d) (written k line.added) (ap (written k) came.0)),
@@ -231,17 +245,28 @@ enters nodes m (Came line ∷ lines) after r fine l =
         → ((r.0).seen l).journal.entries ≡ (m.seen l).journal.entries ++ (if is_entered_at nodes line.device line.event l then line.added else [])
     one (Changed name change answer) is came =
         let makes = came.1 in
-        subst (λ (e : Event). ((r.0).seen l).journal.entries ≡ (m.seen l).journal.entries ++ (if is_entered_at nodes line.device e l then line.added else [])) (sym is)
-        (at (nodes.lock line.device name.hash) makes.elsewhere (makes.step.adds refl ∙ ap (λ (es : List ObjEntry). (m.seen (nodes.lock line.device name.hash)).journal.entries ++ es) (sym makes.added_is)))
+        subst (λ (e : Event). ((r.0).seen l).journal.entries ≡ (m.seen l).journal.entries ++ (if is_entered_at nodes line.device e l then line.added else []))
+        (sym is)
+        (at (nodes.lock line.device name.hash) makes.elsewhere (makes.step.adds refl ∙ ap
+        (λ (es : List ObjEntry). (m.seen (nodes.lock line.device name.hash)).journal.entries ++ es) (sym makes.added_is)))
     one (Read name got) is came =
-        subst (λ (e : Event). ((r.0).seen l).journal.entries ≡ (m.seen l).journal.entries ++ (if is_entered_at nodes line.device e l then line.added else [])) (sym is)
-        (at (nodes.lock line.device name.hash) came.elsewhere (came.step.adds refl ∙ ap (λ (es : List ObjEntry). (m.seen (nodes.lock line.device name.hash)).journal.entries ++ es) (sym came.added_is)))
+        subst (λ (e : Event). ((r.0).seen l).journal.entries ≡ (m.seen l).journal.entries ++ (if is_entered_at nodes line.device e l then line.added else []))
+        (sym is)
+        (at (nodes.lock line.device name.hash) came.elsewhere (came.step.adds refl ∙ ap
+        (λ (es : List ObjEntry). (m.seen (nodes.lock line.device name.hash)).journal.entries ++ es) (sym came.added_is)))
     one (ReadPart read) is came =
         let own : ℕ = nodes.part_lock line.device (part_in read) in
-        subst (λ (e : Event). ((r.0).seen l).journal.entries ≡ (m.seen l).journal.entries ++ (if is_entered_at nodes line.device e l then line.added else [])) (sym is)
+        subst (λ (e : Event). ((r.0).seen l).journal.entries ≡ (m.seen l).journal.entries ++ (if is_entered_at nodes line.device e l then line.added else []))
+        (sym is)
         (at own came.elsewhere (read-facts nodes (m.seen own) read line.added ((r.0).seen own) (state m line.device) came.step).adds)
     one (Listed failed) is came =
-        subst (λ (e : Event). ((r.0).seen l).journal.entries ≡ (m.seen l).journal.entries ++ (if is_entered_at nodes line.device e l then line.added else [])) (sym is)
+        subst (λ (e : Event). ((r.0).seen l).journal.entries ≡ (m.seen l).journal.entries ++ (if is_entered_at nodes line.device e l then line.added else []))
+        (sym is)
         (ap (λ (h : History). h.journal.entries) (came.1.same l) ∙ sym (append-nil (m.seen l).journal.entries))
+    one (AtContainer event entries) is came =
+        subst (λ (e : Event). ((r.0).seen l).journal.entries ≡ (m.seen l).journal.entries ++ (if is_entered_at nodes line.device e l then line.added else []))
+        (sym is)
+        (ap (λ (x : Machine). (x.seen l).journal.entries) came.1 ∙ sym (append-nil (m.seen l).journal.entries))
     one Restarted is came = let never : true ≡ false = sym (ap is_restart is) ∙ fine.0 in cc
-enters nodes m (Went from message ∷ lines) after r fine l = enters nodes r.0 lines after r.2 fine l ∙ ap (λ (h : History). h.journal.entries ++ entered_by nodes lines l) (r.1.seen l)
+enters nodes m (Went from message ∷ lines) after r fine l = enters nodes r.0 lines after r.2 fine l ∙ ap
+    (λ (h : History). h.journal.entries ++ entered_by nodes lines l) (r.1.seen l)

@@ -76,7 +76,8 @@ one-more : (start : Machine) (s t : Sight) (line : Line) (has : HasRun start s) 
 one-more start s t line has nodes trail after comes stands = (one-line start s t (Came line) has nodes trail after comes stands).0
 
 -- a step that may change something came to a device itself
-pub run-changed : (start : Machine) (device : ℕ) (name : Name) (change : Change) (s : Sight) (answer : Answer) (t : Sight) → t.alone ≡ true → IsMade Local device name change s answer t → HasRun start s → HasRun start t
+pub run-changed : (start : Machine) (device : ℕ) (name : Name) (change : Change) (s : Sight) (answer : Answer) (t : Sight) → t.alone ≡ true →
+    IsMade Local device name change s answer t → HasRun start s → HasRun start t
 run-changed start device name change s answer t alone made has = by made.trail
   where
     line : Line
@@ -89,7 +90,8 @@ run-changed start device name change s answer t alone made has = by made.trail
     by (inr none) = run-kept start s t none.1 has
 
 -- a read came
-pub run-read : (start : Machine) (device : ℕ) (name : Name) (s : Sight) (got : Got) (t : Sight) → t.alone ≡ true → IsRead Local device name s got t → HasRun start s → HasRun start t
+pub run-read : (start : Machine) (device : ℕ) (name : Name) (s : Sight) (got : Got) (t : Sight) → t.alone ≡ true → IsRead Local device name s got t →
+    HasRun start s → HasRun start t
 run-read start device name s got t alone read has = by read.trail
   where
     line : Line
@@ -102,7 +104,8 @@ run-read start device name s got t alone read has = by read.trail
     by (inr none) = run-kept start s t none.1 has
 
 -- a read of a partition came, over whatever link: of what is compared
-pub run-hashes : (start : Machine) (link : Link) (device part : ℕ) (s : Sight) (got : Result (Vec SuffixHash Global) DirFault) (t : Sight) (hash : Hash) → IsOfPart s.nodes.power part hash
+pub run-hashes : (start : Machine) (link : Link) (device part : ℕ) (s : Sight) (got : Result (Vec SuffixHash Global) DirFault) (t : Sight) (hash : Hash) →
+    IsOfPart s.nodes.power part hash
     → t.alone ≡ true → IsHashesRead link device part s got t → HasRun start s → HasRun start t
 run-hashes start link device part s got t hash of_part alone read has = by read.trail
   where
@@ -116,7 +119,8 @@ run-hashes start link device part s got t hash of_part alone read has = by read.
     by (inr none) = run-kept start s t none.1 has
 
 -- and of the files of a suffix
-pub run-files : (start : Machine) (link : Link) (device part suffix : ℕ) (s : Sight) (got : Result (Vec DirLine Global) DirFault) (t : Sight) (hash : Hash) → IsOfPart s.nodes.power part hash
+pub run-files : (start : Machine) (link : Link) (device part suffix : ℕ) (s : Sight) (got : Result (Vec DirLine Global) DirFault) (t : Sight) (hash : Hash) →
+    IsOfPart s.nodes.power part hash
     → t.alone ≡ true → IsFilesRead link device part suffix s got t → HasRun start s → HasRun start t
 run-files start link device part suffix s got t hash of_part alone read has = by read.trail
   where
@@ -130,7 +134,8 @@ run-files start link device part suffix s got t hash of_part alone read has = by
     by (inr none) = run-kept start s t none.1 has
 
 -- and of a file
-pub run-write : (start : Machine) (link : Link) (device part : ℕ) (k : Hash) (file : FileName) (s : Sight) (got : Result (Option Stored) DirFault) (t : Sight) (hash : Hash)
+pub run-write : (start : Machine) (link : Link) (device part : ℕ) (k : Hash) (file : FileName) (s : Sight) (got : Result (Option Stored) DirFault) (t : Sight)
+    (hash : Hash)
     → IsOfPart s.nodes.power part hash → t.alone ≡ true → IsWriteRead link device part k file s got t → HasRun start s → HasRun start t
 run-write start link device part k file s got t hash of_part alone read has = by read.trail
   where
@@ -158,7 +163,8 @@ run-restarted start device s t alone r has =
 -- ---- calls at the device itself
 
 -- such a call is its step, once
-pub comes-once : {A : Type 0} (step : Sight → A → Sight → Type 0) (s : Sight) (answer : A) (t : Sight) → Calls step s Local (Ok answer) t → (mid : Sight) × step s answer mid × IsSame mid t
+pub comes-once : {A : Type 0} (step : Sight → A → Sight → Type 0) (s : Sight) (answer : A) (t : Sight) → Calls step s Local (Ok answer) t →
+    (mid : Sight) × step s answer mid × IsSame mid t
 comes-once {A} step s answer t call = subst (λ (xs : List A). Comes step s (xs ++ answer ∷ []) t) (call.1 refl) call.2
 
 -- and nothing is lost
@@ -168,41 +174,56 @@ none-lost step s lost t call = absurd (apart call.0)
     apart : Local ≡ Sent → ⊥
     apart same = cc
 
-pub run-changed-call : (start : Machine) (device : ℕ) (name : Name) (change : Change) (s : Sight) (answer : Answer) (t : Sight) → t.alone ≡ true → Calls (IsMade Local device name change) s Local (Ok answer) t → HasRun start s → HasRun start t
+pub run-changed-call : (start : Machine) (device : ℕ) (name : Name) (change : Change) (s : Sight) (answer : Answer) (t : Sight) → t.alone ≡ true →
+    Calls (IsMade Local device name change) s Local (Ok answer) t → HasRun start s → HasRun start t
 run-changed-call start device name change s answer t alone call has =
     let once = comes-once (IsMade Local device name change) s answer t call in
     run-kept start once.0 t once.2 (run-changed start device name change s answer once.0 (sym (ap (λ (x : Sight). x.alone) once.2.same) ∙ alone) once.1 has)
 
-pub run-read-call : (start : Machine) (device : ℕ) (name : Name) (s : Sight) (got : Got) (t : Sight) → t.alone ≡ true → Calls (IsRead Local device name) s Local (Ok got) t → HasRun start s → HasRun start t
+pub run-read-call : (start : Machine) (device : ℕ) (name : Name) (s : Sight) (got : Got) (t : Sight) → t.alone ≡ true →
+    Calls (IsRead Local device name) s Local (Ok got) t → HasRun start s → HasRun start t
 run-read-call start device name s got t alone call has =
     let once = comes-once (IsRead Local device name) s got t call in
     run-kept start once.0 t once.2 (run-read start device name s got once.0 (sym (ap (λ (x : Sight). x.alone) once.2.same) ∙ alone) once.1 has)
 
 -- the lines that such a call kept: one, or none where it wanted memory
-pub changed-lines : (device : ℕ) (name : Name) (change : Change) (s : Sight) (answer : Answer) (t : Sight) → Calls (IsMade Local device name change) s Local (Ok answer) t
-    → ((line : Line) × (line.device ≡ device) × (line.link ≡ Local) × (line.event ≡ Changed name change answer) × (t.trail ≡ option_map (λ lines. lines ++ line ∷ []) s.trail))
+pub changed-lines : (device : ℕ) (name : Name) (change : Change) (s : Sight) (answer : Answer) (t : Sight) →
+    Calls (IsMade Local device name change) s Local (Ok answer) t
+    → ((line : Line) × (line.device ≡ device) × (line.link ≡ Local) × (line.event ≡ Changed name change answer) ×
+    (t.trail ≡ option_map (λ lines. lines ++ line ∷ []) s.trail))
     ⊎ ((is_wanting answer ≡ true) × (t.trail ≡ s.trail))
 changed-lines device name change s answer t call =
     let once = comes-once (IsMade Local device name change) s answer t call in
     by once.0 once.1 (ap (λ (x : Sight). x.trail) once.2.same) once.1.trail
   where
     by : (mid : Sight) (made : IsMade Local device name change s answer mid) → t.trail ≡ mid.trail
-        → (mid.trail ≡ option_map (λ lines. lines ++ record { device = device; link = Local; event = Changed name change answer; added = made.step.added } ∷ []) s.trail) ⊎ ((is_wanting answer ≡ true) × IsSame s mid)
-        → ((line : Line) × (line.device ≡ device) × (line.link ≡ Local) × (line.event ≡ Changed name change answer) × (t.trail ≡ option_map (λ lines. lines ++ line ∷ []) s.trail))
+        → (mid.trail ≡ option_map (λ lines. lines ++ record { device = device; link = Local; event = Changed name change answer; added = made.step.added } ∷ [])
+        s.trail) ⊎ ((is_wanting answer ≡ true) × IsSame s mid)
+        → ((line : Line) × (line.device ≡ device) × (line.link ≡ Local) × (line.event ≡ Changed name change answer) ×
+        (t.trail ≡ option_map (λ lines. lines ++ line ∷ []) s.trail))
         ⊎ ((is_wanting answer ≡ true) × (t.trail ≡ s.trail))
-    by mid made last (inl kept) = inl (record { device = device; link = Local; event = Changed name change answer; added = made.step.added }, refl, refl, refl, last ∙ kept)
+    by mid made last (inl kept) = inl (
+      record { device = device; link = Local; event = Changed name change answer; added = made.step.added },
+      refl,
+      refl,
+      refl,
+      last ∙ kept,
+    )
     by mid made last (inr none) = inr (none.0, last ∙ ap (λ (x : Sight). x.trail) none.1.same)
 
 pub read-lines : (device : ℕ) (name : Name) (s : Sight) (got : Got) (t : Sight) → Calls (IsRead Local device name) s Local (Ok got) t
-    → ((line : Line) × (line.device ≡ device) × (line.link ≡ Local) × (line.event ≡ Read name got) × (t.trail ≡ option_map (λ lines. lines ++ line ∷ []) s.trail))
+    → ((line : Line) × (line.device ≡ device) × (line.link ≡ Local) × (line.event ≡ Read name got) ×
+    (t.trail ≡ option_map (λ lines. lines ++ line ∷ []) s.trail))
     ⊎ ((is_wanting_read got ≡ true) × (t.trail ≡ s.trail))
 read-lines device name s got t call =
     let once = comes-once (IsRead Local device name) s got t call in
     by once.0 once.1 (ap (λ (x : Sight). x.trail) once.2.same) once.1.trail
   where
     by : (mid : Sight) (read : IsRead Local device name s got mid) → t.trail ≡ mid.trail
-        → (mid.trail ≡ option_map (λ lines. lines ++ record { device = device; link = Local; event = Read name got; added = read.step.added } ∷ []) s.trail) ⊎ ((is_wanting_read got ≡ true) × IsSame s mid)
-        → ((line : Line) × (line.device ≡ device) × (line.link ≡ Local) × (line.event ≡ Read name got) × (t.trail ≡ option_map (λ lines. lines ++ line ∷ []) s.trail))
+        → (mid.trail ≡ option_map (λ lines. lines ++ record { device = device; link = Local; event = Read name got; added = read.step.added } ∷ []) s.trail) ⊎
+        ((is_wanting_read got ≡ true) × IsSame s mid)
+        → ((line : Line) × (line.device ≡ device) × (line.link ≡ Local) × (line.event ≡ Read name got) ×
+        (t.trail ≡ option_map (λ lines. lines ++ line ∷ []) s.trail))
         ⊎ ((is_wanting_read got ≡ true) × (t.trail ≡ s.trail))
     by mid read last (inl kept) = inl (record { device = device; link = Local; event = Read name got; added = read.step.added }, refl, refl, refl, last ∙ kept)
     by mid read last (inr none) = inr (none.0, last ∙ ap (λ (x : Sight). x.trail) none.1.same)
@@ -210,9 +231,11 @@ read-lines device name s got t call =
 -- the lines were taken
 pub run-taken : (start : Machine) (s t : Sight) → t ≡ record s { trail = Some [] } → (has : HasRun start s) → HasRun has.after t
 run-taken start s t taken has =
-    run-begins has.after t (subst (λ (x : Sight). StandsFor x has.after) (sym taken) (record { states = has.stands.states; seen = has.stands.seen; told = has.stands.told })) (ap (λ (x : Sight). x.trail) taken)
+    run-begins has.after t (subst (λ (x : Sight). StandsFor x has.after) (sym taken)
+    (record { states = has.stands.states; seen = has.stands.seen; told = has.stands.told })) (ap (λ (x : Sight). x.trail) taken)
 
 -- where no step failed, each hash stands at each device for the state of what had reached and of what the lines tell
 pub run-holds : (start : Machine) (s : Sight) (has : HasRun start s) → NoDoubts s.nodes start → NoneFailed has.lines → (device : ℕ) (hash : Hash)
     → s.objects.holds device hash ≡ state_of (start.reached device hash ++ told_by has.lines device hash)
-run-holds start s has none fine device hash = has.stands.states device hash ∙ ap state_of (reaches s.nodes start has.lines has.after has.run none fine device hash)
+run-holds start s has none fine device hash = has.stands.states device hash ∙ ap state_of
+    (reaches s.nodes start has.lines has.after has.run none fine device hash)

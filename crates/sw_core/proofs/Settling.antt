@@ -1,5 +1,6 @@
 -- Which entries a step added: that of the doubt which its listing settled, where its write had been made, and then its own.
-use Rattle.std.proofs.Common.{◌≡◌, ℕ, ◌+◌, ◌-◌, ◌≤◌, Bool, true, false, List, [], ◌∷◌, ◌++◌, length, map, take, nat_lt, bytes_eq, refl, sym, ◌∙◌, ap, subst, arith, append_assoc, Option, None, Some, option_to_list, ◌⊎◌, inl, inr, if◌then◌else◌}
+use Rattle.std.proofs.Common.{◌≡◌, ℕ, ◌+◌, ◌-◌, ◌≤◌, Bool, true, false, List, [], ◌∷◌, ◌++◌, length, map, take, nat_lt, bytes_eq, refl, sym, ◌∙◌, ap, subst}
+use Rattle.std.proofs.Common.{arith, append_assoc, Option, Some, ◌⊎◌, inl, inr, if◌then◌else◌}
 use Rattle.std.proofs.Math.Seq.{take-length}
 use Rattle.std.proofs.lemmas.Bool.Decides.{nat_tests}
 use Rattle.std.proofs.lemmas.List.{append-nil, append_cancel_left, length-append}
@@ -29,13 +30,16 @@ use Rattle.sw_core.specs.Lines.{briefs_in, settled_briefs}
 use Rattle.sw_peer.specs.Lines.{own_by}
 
 -- the first entry of a hash behind entries of others
-find-past : (hash : Hash) (before : List ObjEntry) (entry : ObjEntry) (behind : List ObjEntry) → written hash before ≡ [] → bytes_eq (entry_hash entry) hash ≡ true
+find-past : (hash : Hash) (before : List ObjEntry) (entry : ObjEntry) (behind : List ObjEntry) → written hash before ≡ [] →
+    bytes_eq (entry_hash entry) hash ≡ true
     → first_in hash (before ++ entry ∷ behind) ≡ Some entry
 find-past hash [] entry behind none is = ap (λ (b : Bool). if b then Some entry else first_in hash behind) is
 find-past hash (Wrote n v ∷ before) entry behind none is = by (λ rest. find-past hash before entry behind rest is) (bytes_eq n.hash hash) refl
   where
-    by : (written hash before ≡ [] → first_in hash (before ++ entry ∷ behind) ≡ Some entry) → (b : Bool) → bytes_eq n.hash hash ≡ b → first_in hash (Wrote n v ∷ before ++ entry ∷ behind) ≡ Some entry
-    by later true match = let never : v ∷ written hash before ≡ [] = sym (ap (λ (b : Bool). if b then v ∷ written hash before else written hash before) match) ∙ none in cc
+    by : (written hash before ≡ [] → first_in hash (before ++ entry ∷ behind) ≡ Some entry) → (b : Bool) → bytes_eq n.hash hash ≡ b →
+        first_in hash (Wrote n v ∷ before ++ entry ∷ behind) ≡ Some entry
+    by later true match = let never : v ∷ written hash before ≡ [] = sym (ap (λ (b : Bool). if b then v ∷ written hash before else written hash before) match) ∙
+        none in cc
     by later false other = ap (λ (b : Bool). if b then Some (Wrote n v) else first_in hash (before ++ entry ∷ behind)) other
         ∙ later (sym (ap (λ (b : Bool). if b then v ∷ written hash before else written hash before) other) ∙ none)
 
@@ -43,7 +47,8 @@ find-past hash (Wrote n v ∷ before) entry behind none is = by (λ rest. find-p
 abbrev IsSettled : Hash → Journal → List ObjEntry → Type 0
 IsSettled hash j settled = (settled ≡ []) ⊎ ((entry : ObjEntry) × (settled ≡ entry ∷ []) × (first_in hash j.doubts ≡ Some entry))
 
-settled-one : (hash : Hash) (o : Outline) (j after : Journal) → SettlesFirst hash o j after → (settled : List ObjEntry) × (after.entries ≡ j.entries ++ settled) × IsSettled hash j settled
+settled-one : (hash : Hash) (o : Outline) (j after : Journal) → SettlesFirst hash o j after →
+    (settled : List ObjEntry) × (after.entries ≡ j.entries ++ settled) × IsSettled hash j settled
 settled-one hash o j after (inl none) = ([], ap (λ (x : Journal). x.entries) none.1 ∙ sym (append-nil j.entries), inl refl)
 settled-one hash o j after (inr one) = by (is_new_to o one.write.time (tag_of one.write.kind)) refl
   where
@@ -51,17 +56,20 @@ settled-one hash o j after (inr one) = by (is_new_to o one.write.time (tag_of on
     first = ap (first_in hash) one.among ∙ find-past hash one.before (Wrote one.name one.write) one.behind one.first
         (subst (λ (h : Hash). bytes_eq h hash ≡ true) (sym one.of_hash) (hash-self hash))
 
-    by : (b : Bool) → is_new_to o one.write.time (tag_of one.write.kind) ≡ b → (settled : List ObjEntry) × (after.entries ≡ j.entries ++ settled) × IsSettled hash j settled
+    by : (b : Bool) → is_new_to o one.write.time (tag_of one.write.kind) ≡ b →
+        (settled : List ObjEntry) × (after.entries ≡ j.entries ++ settled) × IsSettled hash j settled
     by true new = (
       [],
       ap (λ (x : Journal). x.entries) one.settled
-          ∙ (ap (λ (b : Bool). (if b then record j { doubts = one.before ++ one.behind } else record j { entries = j.entries ++ Wrote one.name one.write ∷ []; doubts = one.before ++ one.behind }).entries) new ∙ sym (append-nil j.entries)),
+          ∙ (ap (λ (b : Bool). (if b then record j { doubts = one.before ++ one.behind } else record j
+          { entries = j.entries ++ Wrote one.name one.write ∷ []; doubts = one.before ++ one.behind }).entries) new ∙ sym (append-nil j.entries)),
       inl refl,
     )
     by false old = (
       Wrote one.name one.write ∷ [],
       ap (λ (x : Journal). x.entries) one.settled
-          ∙ ap (λ (b : Bool). (if b then record j { doubts = one.before ++ one.behind } else record j { entries = j.entries ++ Wrote one.name one.write ∷ []; doubts = one.before ++ one.behind }).entries) old,
+          ∙ ap (λ (b : Bool). (if b then record j { doubts = one.before ++ one.behind } else record j
+          { entries = j.entries ++ Wrote one.name one.write ∷ []; doubts = one.before ++ one.behind }).entries) old,
       inr (Wrote one.name one.write, refl, first),
     )
 
@@ -95,15 +103,24 @@ module _ (hash : Hash) (o : Outline) (j mid after : Journal) (settles : SettlesF
   }
 
 nothing-adds : (hash : Hash) (j after : Journal) → after ≡ j → AddsUp hash j 0 after
-nothing-adds hash j after same = record { settled = []; owned = []; entries = ap (λ (x : Journal). x.entries) same ∙ sym (append-nil j.entries); count = refl; is_settled = inl refl }
+nothing-adds hash j after same = record {
+  settled = [];
+  owned = [];
+  entries = ap (λ (x : Journal). x.entries) same ∙ sym (append-nil j.entries);
+  count = refl;
+  is_settled = inl refl;
+}
 
 abbrev entries_in : Journal → List ObjEntry
 entries_in j = j.entries
 
 module _ {V : Type 0} (tells : V → Bool) (files : V → Folders) (faults calls lists : V → ℕ) (k n : Kept V) (name : Name) where
-  pub called-adds : (change : Change) (answer : Answer) → Called tells files faults calls lists k name change answer n → AddsUp name.hash k.journal (own_by answer) n.journal
-  called-adds change (answers.Done front) c = entered-adds name.hash _ k.journal c.seen.journal n.journal c.seen.settles (Wrote name (write_of change)) (ap entries_in c.entered)
-  called-adds change (answers.Buried front) c = entered-adds name.hash _ k.journal c.seen.journal n.journal c.seen.settles (Wrote name (write_of change)) (ap entries_in c.entered)
+  pub called-adds : (change : Change) (answer : Answer) → Called tells files faults calls lists k name change answer n →
+      AddsUp name.hash k.journal (own_by answer) n.journal
+  called-adds change (answers.Done front) c = entered-adds name.hash _ k.journal c.seen.journal n.journal c.seen.settles (Wrote name (write_of change))
+      (ap entries_in c.entered)
+  called-adds change (answers.Buried front) c = entered-adds name.hash _ k.journal c.seen.journal n.journal c.seen.settles (Wrote name (write_of change))
+      (ap entries_in c.entered)
   called-adds change (answers.Conflict time) c = kept-adds name.hash _ k.journal c.seen.journal n.journal c.seen.settles (ap entries_in c.kept)
   called-adds change (answers.NotFound time) c = kept-adds name.hash _ k.journal c.seen.journal n.journal c.seen.settles (ap entries_in c.kept)
   called-adds change (answers.Mismatch second) c = kept-adds name.hash _ k.journal c.seen.journal n.journal c.seen.settles (ap entries_in c.kept)
@@ -115,7 +132,8 @@ module _ {V : Type 0} (tells : V → Bool) (files : V → Folders) (faults calls
   called-adds change answers.Failed (inr (inr c)) = kept-adds name.hash _ k.journal c.seen.journal n.journal c.seen.settles (ap entries_in c.in_doubt)
   called-adds change answers.NoMemory c = by c.journal
     where
-      by : (n.journal ≡ k.journal) ⊎ ((seen : Listed tells files faults calls lists k name) × (n.journal ≡ seen.journal)) → AddsUp name.hash k.journal 0 n.journal
+      by : (n.journal ≡ k.journal) ⊎ ((seen : Listed tells files faults calls lists k name) × (n.journal ≡ seen.journal)) →
+          AddsUp name.hash k.journal 0 n.journal
       by (inl same) = nothing-adds name.hash k.journal n.journal same
       by (inr listed) = kept-adds name.hash _ k.journal listed.0.journal n.journal listed.0.settles (ap entries_in listed.1)
 
@@ -127,7 +145,8 @@ module _ {V : Type 0} (tells : V → Bool) (files : V → Folders) (faults calls
   read-adds gots.Failed (inr c) = kept-adds name.hash _ k.journal c.seen.journal n.journal c.seen.settles (ap entries_in c.kept)
   read-adds gots.NoMemory c = by c.journal
     where
-      by : (n.journal ≡ k.journal) ⊎ ((seen : Listed tells files faults calls lists k name) × (n.journal ≡ seen.journal)) → AddsUp name.hash k.journal 0 n.journal
+      by : (n.journal ≡ k.journal) ⊎ ((seen : Listed tells files faults calls lists k name) × (n.journal ≡ seen.journal)) →
+          AddsUp name.hash k.journal 0 n.journal
       by (inl same) = nothing-adds name.hash k.journal n.journal same
       by (inr listed) = kept-adds name.hash _ k.journal listed.0.journal n.journal listed.0.settles (ap entries_in listed.1)
 
@@ -153,7 +172,8 @@ module _ (hash : Hash) (j after : Journal) (own : ℕ) (adds : AddsUp hash j own
       ≡ map brief_of (take (length added - own) added)
   briefed = by adds.settled adds.is_settled counted added-is
     where
-      by : (settled : List ObjEntry) → IsSettled hash j settled → length after.entries ≡ length j.entries + (length settled + own) → added ≡ settled ++ adds.owned
+      by : (settled : List ObjEntry) → IsSettled hash j settled → length after.entries ≡ length j.entries + (length settled + own) →
+          added ≡ settled ++ adds.owned
           → settled_briefs (briefs_in (first_in hash j.doubts)) (length after.entries - length j.entries) own ≡ map brief_of (take (length added - own) added)
       by settled (inl none) count all =
           let amount : length after.entries - length j.entries ≡ own = omega (arith, count, ap length none) in
@@ -165,7 +185,8 @@ module _ (hash : Hash) (j after : Journal) (own : ℕ) (adds : AddsUp hash j own
           let size : length added - own ≡ 1 = omega (arith, ap length all ∙ length-append settled adds.owned, ap length one.1, adds.count) in
           ap (λ (m : ℕ). settled_briefs (briefs_in (first_in hash j.doubts)) m own) amount
           ∙ (one-more own (briefs_in (first_in hash j.doubts)) ∙ (ap (λ (e : Option ObjEntry). briefs_in e) one.2
-          ∙ sym (ap (λ (m : ℕ). map brief_of (take m added)) size ∙ ap (λ (es : List ObjEntry). map brief_of (take 1 es)) (all ∙ ap (λ (es : List ObjEntry). es ++ adds.owned) one.1))))
+          ∙ sym (ap (λ (m : ℕ). map brief_of (take m added)) size ∙ ap (λ (es : List ObjEntry). map brief_of (take 1 es))
+          (all ∙ ap (λ (es : List ObjEntry). es ++ adds.owned) one.1))))
 
 -- a read of a partition adds the entries of settled doubts alone
 pub all-briefed : (j after : Journal) (added : List ObjEntry) → after.entries ≡ j.entries ++ added → (none briefs : List Brief) → none ≡ []

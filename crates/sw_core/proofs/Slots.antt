@@ -1,5 +1,6 @@
 -- Ranges of locks whose volumes are taken out and put in.
-use Rattle.std.proofs.Common.{◌≡◌, ◌≢◌, Bool, ℕ, zero, suc, ◌+◌, ◌<◌, ◌≤◌, List, [], ◌∷◌, ◌++◌, length, refl, sym, ◌∙◌, ap, subst, arith, Some, ◌⊎◌, inl, inr, slice_set, length-set}
+use Rattle.std.proofs.Common.{◌≡◌, ◌≢◌, Bool, ℕ, zero, suc, ◌+◌, ◌<◌, ◌≤◌, List, [], ◌∷◌, ◌++◌, length, refl, sym, ◌∙◌, ap, subst, arith, Some, ◌⊎◌, inl, inr}
+use Rattle.std.proofs.Common.{slice_set, length-set}
 use Rattle.std.specs.List.{flat_map, slice_get}
 use Rattle.std.proofs.lemmas.Grind.{flat_map-append}
 use Rattle.std.proofs.lemmas.List.{append-nil}
@@ -35,7 +36,8 @@ pub same-some : {X : Type 0} (a b : X) → Some a ≡ Some b → a ≡ b
 same-some a b same = cc
 
 -- an item of a list that grew by one
-at-push_cases : {X : Type 0} (xs : List X) (x : X) (i : ℕ) (y : X) → slice_get (xs ++ x ∷ []) i ≡ Some y → (slice_get xs i ≡ Some y) ⊎ ((i ≡ length xs) × (x ≡ y))
+at-push_cases : {X : Type 0} (xs : List X) (x : X) (i : ℕ) (y : X) → slice_get (xs ++ x ∷ []) i ≡ Some y →
+    (slice_get xs i ≡ Some y) ⊎ ((i ≡ length xs) × (x ≡ y))
 at-push_cases [] x zero y is = inr (refl, same-some x y is)
 at-push_cases [] x (suc i) y is = cc
 at-push_cases (z ∷ xs) x zero y is = inl is
@@ -69,7 +71,8 @@ module _ {V : Type 0} where
   lifted-down power v slots.Empty y secrets e is = cc
 
   pub one-down : (power first place : ℕ) (given : List V) (v : V) (old now : List (Slot V)) (x y : Slot V) → place ≡ first + length given → place < length now
-      → AreSetDown power first given old now → slice_get now place ≡ Some x → IsSetDown power v x y → AreSetDown power first (given ++ v ∷ []) old (slice_set now place y)
+      → AreSetDown power first given old now → slice_get now place ≡ Some x → IsSetDown power v x y →
+      AreSetDown power first (given ++ v ∷ []) old (slice_set now place y)
   one-down power first place given v old now x y here below all there is = record {
     within = λ i w secrets gives out. within i w secrets out (at-push_cases given v i w gives);
     outside = λ l out. at-set_other now place l y (apart l out) ∙ all.outside l (further l out);
@@ -84,7 +87,8 @@ module _ {V : Type 0} where
       further l (inl low) = inl low
       further l (inr high) = inr (omega (arith, length-push given v))
 
-      within : (i : ℕ) (w : V) (secrets : Secrets) → slice_get old (first + i) ≡ Some (slots.Lifted secrets) → (slice_get given i ≡ Some w) ⊎ ((i ≡ length given) × (v ≡ w))
+      within : (i : ℕ) (w : V) (secrets : Secrets) → slice_get old (first + i) ≡ Some (slots.Lifted secrets) →
+          (slice_get given i ≡ Some w) ⊎ ((i ≡ length given) × (v ≡ w))
           → slice_get (slice_set now place y) (first + i) ≡ Some (slots.Open (started w secrets power journal_entries journal_bytes))
       within i w secrets out (inl before) =
           let low : i < length given = slice_get_within given i w before in
@@ -94,7 +98,8 @@ module _ {V : Type 0} where
           let was : slice_get now (first + i) ≡ slice_get old (first + i) = all.outside (first + i) (inr (omega arith)) in
           let lifted : x ≡ slots.Lifted secrets = same-some x (slots.Lifted secrets) (sym there ∙ (ap (slice_get now) (sym same) ∙ (was ∙ out))) in
           ap (slice_get (slice_set now place y)) same
-          ∙ (at-set_same now place y below ∙ ap Some (lifted-down power v x y secrets lifted is ∙ ap (λ u. slots.Open (started u secrets power journal_entries journal_bytes)) last.1))
+          ∙ (at-set_same now place y below ∙ ap Some (lifted-down power v x y secrets lifted is ∙ ap
+          (λ u. slots.Open (started u secrets power journal_entries journal_bytes)) last.1))
 
   -- ---- directories taken out
 
@@ -154,7 +159,8 @@ module _ {V : Type 0} where
   -- ---- volumes that are there
 
   pub gives-more : (given : List (Slot V)) (x : Slot V) (vs : List V) → vs ≡ volume_in x → flat_map volume_in given ++ vs ≡ flat_map volume_in (given ++ x ∷ [])
-  gives-more given x vs e = ap (λ (us : List V). flat_map volume_in given ++ us) (e ∙ sym (append-nil (volume_in x))) ∙ sym (flat_map-append volume_in given (x ∷ []))
+  gives-more given x vs e = ap (λ (us : List V). flat_map volume_in given ++ us) (e ∙ sym (append-nil (volume_in x))) ∙ sym
+      (flat_map-append volume_in given (x ∷ []))
 
   pub gives-few : (given : List (Slot V)) → length (flat_map volume_in given) ≤ length given
   gives-few [] = omega arith
@@ -166,7 +172,8 @@ module _ {V : Type 0} (tells : V → Bool) (files : V → Folders) (faults : V �
   abbrev pub AllTellOn : ℕ → ℕ → List (Slot V) → Type 0
   AllTellOn first past old = (l : ℕ) (k : Kept V) → first ≤ l → l < past → slice_get old l ≡ Some (slots.Open k) → TellsOn tells files faults k
 
-  pub one-tells : (first place : ℕ) (old : List (Slot V)) (k : Kept V) → slice_get old place ≡ Some (slots.Open k) → AllTellOn first place old → TellsOn tells files faults k
+  pub one-tells : (first place : ℕ) (old : List (Slot V)) (k : Kept V) → slice_get old place ≡ Some (slots.Open k) → AllTellOn first place old →
+      TellsOn tells files faults k
       → AllTellOn first (place + 1) old
   one-tells first place old k there all told = λ l j from to was. at l j from to was (cases_lt l place)
     where

@@ -25,7 +25,8 @@ use Rattle.sw_core.specs.Doors.{ChangeRuns, FilesRuns, HashesRuns, ListingRuns, 
 use Rattle.sw_core.specs.Machine.{Machine, MachineMakes, made_writes, reached_with, state}
 
 -- what told goes on telling
-told-on : (s t : Sight) → t.nodes ≡ s.nodes → ((l : ℕ) → (t.objects.seen l).told ≡ (s.objects.seen l).told) → ((d : ℕ) (k : Hash) → (s.objects.seen (s.nodes.lock d k)).told ≡ true)
+told-on : (s t : Sight) → t.nodes ≡ s.nodes → ((l : ℕ) → (t.objects.seen l).told ≡ (s.objects.seen l).told) →
+    ((d : ℕ) (k : Hash) → (s.objects.seen (s.nodes.lock d k)).told ≡ true)
     → (d : ℕ) (k : Hash) → (t.objects.seen (t.nodes.lock d k)).told ≡ true
 told-on s t nodes same told d k = subst (λ (n : Nodes). (t.objects.seen (n.lock d k)).told ≡ true) (sym nodes) (same (s.nodes.lock d k) ∙ told d k)
 
@@ -33,7 +34,8 @@ state-made : (ws : List Write) (change : Change) (made : Bool) → state_of (ws 
 state-made ws change true = sym (joins_one_more ws (write_of change))
 state-made ws change false = ap state_of (append-nil ws)
 
-module _ (link : Link) (device : ℕ) (name : Name) (change : Change) (s : Sight) (answer : Answer) (t : Sight) (m : Machine) (stands : StandsFor s m) (alone : t.alone ≡ true)
+module _ (link : Link) (device : ℕ) (name : Name) (change : Change) (s : Sight) (answer : Answer) (t : Sight) (m : Machine) (stands : StandsFor s m)
+    (alone : t.alone ≡ true)
     (made : IsMade link device name change s answer t) where
   abbrev after : Machine
   after = record { reached = reached_with m.reached device name.hash (made_writes change made.step.made); seen = t.objects.seen; sent = m.sent }
@@ -43,7 +45,8 @@ module _ (link : Link) (device : ℕ) (name : Name) (change : Change) (s : Sight
 
   here : t.objects.holds device name.hash ≡ state_of (m.reached device name.hash ++ made_writes change made.step.made)
   here = made.step.leaves alone told_before
-      ∙ (ap (λ (x : State). left_by x change made.step.made) (stands.states device name.hash) ∙ sym (state-made (m.reached device name.hash) change made.step.made))
+      ∙ (ap (λ (x : State). left_by x change made.step.made) (stands.states device name.hash) ∙ sym
+      (state-made (m.reached device name.hash) change made.step.made))
 
   at : (d : ℕ) (k : Hash) (p q : Bool) → nat_eq device d ≡ p → bytes_eq name.hash k ≡ q
       → t.objects.holds d k ≡ state_of (if p && q then m.reached d k ++ made_writes change made.step.made else m.reached d k)
@@ -69,8 +72,11 @@ module _ (link : Link) (device : ℕ) (name : Name) (change : Change) (s : Sight
 
   makes : MachineMakes s.nodes m device name change answer made.step.added after
   makes = record {
-    step = recast t.alone (s.objects.seen (s.nodes.lock device name.hash)) (m.seen (s.nodes.lock device name.hash)) (s.objects.holds device name.hash) (state m device name.hash) name change answer
-        (t.objects.seen (s.nodes.lock device name.hash)) (t.objects.seen (s.nodes.lock device name.hash)) (t.objects.holds device name.hash) (state after device name.hash) alone (stands.seen (s.nodes.lock device name.hash)) (stands.states device name.hash) refl (states device name.hash) made.step;
+    step = recast t.alone (s.objects.seen (s.nodes.lock device name.hash)) (m.seen (s.nodes.lock device name.hash)) (s.objects.holds device name.hash)
+        (state m device name.hash) name change answer
+        (t.objects.seen (s.nodes.lock device name.hash)) (t.objects.seen (s.nodes.lock device name.hash)) (t.objects.holds device name.hash)
+        (state after device name.hash) alone (stands.seen (s.nodes.lock device name.hash)) (stands.states device name.hash) refl (states device name.hash)
+        made.step;
     added_is = refl;
     reached = λ d k. refl;
     elsewhere = λ x away. made.moves.objects.elsewhere x (λ d hash is same. away (same ∙ lock-at d hash is)) ∙ stands.seen x;
@@ -81,26 +87,38 @@ module _ (link : Link) (device : ℕ) (name : Name) (change : Change) (s : Sight
       lock-at d hash is = ap (λ (e : ℕ). s.nodes.lock e hash) is.0 ∙ ap (λ (x : Hash). s.nodes.lock device x) is.1
 
 pub change_runs : ChangeRuns
-change_runs link device name change s answer t m stands alone made =
-    (after link device name change s answer t m stands alone made, makes link device name change s answer t m stands alone made, now link device name change s answer t m stands alone made)
+change_runs link device name change s answer t m stands alone made = (
+  after link device name change s answer t m stands alone made,
+  makes link device name change s answer t m stands alone made,
+  now link device name change s answer t m stands alone made,
+)
 
 pub read_runs : ReadRuns
 read_runs link device name s got t m stands alone read = (
   record { reached = m.reached; seen = t.objects.seen; sent = m.sent },
   record {
-    step = recast-read t.alone (s.objects.seen (s.nodes.lock device name.hash)) (m.seen (s.nodes.lock device name.hash)) name.hash got (t.objects.seen (s.nodes.lock device name.hash)) (t.objects.seen (s.nodes.lock device name.hash)) (t.objects.holds device name.hash) (state m device name.hash)
+    step = recast-read t.alone (s.objects.seen (s.nodes.lock device name.hash)) (m.seen (s.nodes.lock device name.hash)) name.hash got
+        (t.objects.seen (s.nodes.lock device name.hash)) (t.objects.seen (s.nodes.lock device name.hash)) (t.objects.holds device name.hash)
+        (state m device name.hash)
         alone (stands.seen (s.nodes.lock device name.hash)) refl (read.holds_all alone device name.hash ∙ stands.states device name.hash) read.step;
     added_is = refl;
     reached = λ d k. refl;
-    elsewhere = λ x away. read.moves.objects.elsewhere x (λ d hash is same. away (same ∙ (ap (λ (e : ℕ). s.nodes.lock e hash) is.0 ∙ ap (λ (y : Hash). s.nodes.lock device y) is.1))) ∙ stands.seen x;
+    elsewhere = λ x away. read.moves.objects.elsewhere x (λ d hash is same. away
+        (same ∙ (ap (λ (e : ℕ). s.nodes.lock e hash) is.0 ∙ ap (λ (y : Hash). s.nodes.lock device y) is.1))) ∙ stands.seen x;
     sent = refl;
   },
-  record { states = λ d k. read.holds_all alone d k ∙ stands.states d k; seen = λ x. refl; told = told-on s t read.moves.nodes (λ x. (read.moves.objects.grows x).told) stands.told },
+  record {
+    states = λ d k. read.holds_all alone d k ∙ stands.states d k;
+    seen = λ x. refl;
+    told = told-on s t read.moves.nodes (λ x. (read.moves.objects.grows x).told) stands.told;
+  },
 )
 
 -- a read of a partition, of whatever kind
-module _ {A : Type 0} (link : Link) (device part : ℕ) (at : Hash → Type 0) (damages : Bool) (reading : Nodes → Bool → (Hash → State) → A → Type 0) (read : Result A DirFault → PartRead)
-    (s : Sight) (got : Result A DirFault) (t : Sight) (m : Machine) (hash : Hash) (of_part : IsOfPart s.nodes.power part hash) (stands : StandsFor s m) (alone : t.alone ≡ true)
+module _ {A : Type 0} (link : Link) (device part : ℕ) (at : Hash → Type 0) (damages : Bool) (reading : Nodes → Bool → (Hash → State) → A → Type 0)
+    (read : Result A DirFault → PartRead)
+    (s : Sight) (got : Result A DirFault) (t : Sight) (m : Machine) (hash : Hash) (of_part : IsOfPart s.nodes.power part hash) (stands : StandsFor s m)
+    (alone : t.alone ≡ true)
     (is : IsPartRead link device part at damages reading read s got t) where
   abbrev left : Machine
   left = record { reached = m.reached; seen = t.objects.seen; sent = m.sent }
@@ -111,8 +129,10 @@ module _ {A : Type 0} (link : Link) (device part : ℕ) (at : Hash → Type 0) (
   lock-in : (d : ℕ) (k : Hash) → IsInPart s.nodes.power device part at d k → s.nodes.lock d k ≡ l
   lock-in d k in_part = ap (λ (e : ℕ). s.nodes.lock e k) in_part.0 ∙ part-at s.nodes device part k in_part.1
 
-  abbrev recast_step : StepReadsPart true (m.seen l) (λ k. IsOfPart s.nodes.power part k × at k) damages (reading s.nodes) got (t.objects.seen l) (state m device)
-  recast_step = recast-part t.alone (s.objects.seen l) (m.seen l) (λ k. IsOfPart s.nodes.power part k × at k) (λ k. IsOfPart s.nodes.power part k × at k) (λ k in_part. in_part)
+  abbrev recast_step : StepReadsPart true (m.seen l) (λ k. IsOfPart s.nodes.power part k × at k) damages (reading s.nodes) got (t.objects.seen l)
+      (state m device)
+  recast_step = recast-part t.alone (s.objects.seen l) (m.seen l) (λ k. IsOfPart s.nodes.power part k × at k) (λ k. IsOfPart s.nodes.power part k × at k)
+      (λ k in_part. in_part)
       damages (reading s.nodes) (reading s.nodes) (λ b u x is. is) got (t.objects.seen l) (t.objects.seen l)
       (t.objects.holds device) (state m device) alone (stands.seen l) refl (λ k in_part. is.holds_all alone device k ∙ stands.states device k) is.step
 
@@ -176,7 +196,11 @@ listing_runs device failed s t m stands r = (
     reached = λ d k. refl;
     sent = refl;
   },
-  record { states = λ d k. r.holds d k ∙ stands.states d k; seen = λ x. refl; told = told-on s t r.nodes (λ l. ap (λ (h : History). h.told) (r.same l)) stands.told },
+  record {
+    states = λ d k. r.holds d k ∙ stands.states d k;
+    seen = λ x. refl;
+    told = told-on s t r.nodes (λ l. ap (λ (h : History). h.told) (r.same l)) stands.told;
+  },
 )
 
 pub restart_runs : RestartRuns
@@ -194,7 +218,11 @@ restart_runs device s t m stands alone r = (
     reached = λ d k. refl;
     sent = refl;
   },
-  record { states = λ d k. held d k (nat_eq d device) refl ∙ stands.states d k; seen = λ x. refl; told = λ d k. subst (λ (n : Nodes). (t.objects.seen (n.lock d k)).told ≡ true) (sym r.nodes) (still d k (nat_eq d device) refl) },
+  record {
+    states = λ d k. held d k (nat_eq d device) refl ∙ stands.states d k;
+    seen = λ x. refl;
+    told = λ d k. subst (λ (n : Nodes). (t.objects.seen (n.lock d k)).told ≡ true) (sym r.nodes) (still d k (nat_eq d device) refl);
+  },
 )
   where
     apart : (d : ℕ) → nat_eq d device ≡ false → d ≢ device

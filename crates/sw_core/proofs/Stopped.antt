@@ -1,5 +1,6 @@
 -- The volumes of nodes that are stopped, by their places.
-use Rattle.std.proofs.Common.{◌≡◌, ℕ, zero, suc, ◌+◌, ◌*◌, ◌^◌, ◌<◌, ◌≤◌, Bool, true, false, List, [], ◌∷◌, ◌++◌, length, take, drop, refl, sym, ◌∙◌, ap, subst, arith, Option, None, Some, ◌⊎◌, inl, inr}
+use Rattle.std.proofs.Common.{◌≡◌, ℕ, zero, suc, ◌+◌, ◌*◌, ◌^◌, ◌<◌, ◌≤◌, Bool, true, false, List, [], ◌∷◌, ◌++◌, length, take, drop, refl, sym, ◌∙◌, ap, subst}
+use Rattle.std.proofs.Common.{arith, Option, None, Some, ◌⊎◌, inl, inr}
 use Rattle.std.specs.List.{flat_map, slice_get}
 use Rattle.std.proofs.Math.Nat.{min-eq_left}
 use Rattle.std.proofs.lemmas.Grind.{flat_map-append}
@@ -7,9 +8,8 @@ use Rattle.std.proofs.lemmas.List.{length-append, length-take, take-append-drop}
 use Rattle.std.proofs.lemmas.Nat.{rows}
 use Rattle.sw_hashpath.specs.declared.secrets.Secrets.{Secrets}
 use Rattle.sw_objdir.specs.Directories.{Kept}
-use Rattle.sw_core.proofs.Anew.{apart-from}
 use Rattle.sw_core.proofs.Keeping.{out-cases}
-use Rattle.sw_core.specs.Stopping.{Gives, gap_first, gap_past}
+use Rattle.sw_core.specs.Stopping.{Gives, gap_past}
 use Rattle.sw_core.specs.Worlds.{AllNodes, IsSlot, IsWorld, first_of, is_out, past_of, volume_in}
 use Rattle.sw_core.specs.declared.slot.Slot.{Slot}
 use Rattle.sw_core.specs.declared.slot.Slot.TheVariants as slots
@@ -56,7 +56,8 @@ module _ {V : Type 0} where
       at rest (suc l) m is = rest l m is
 
   -- and a place whose volume is out none
-  lifted-volumes : (secrets : Secrets) (xs : List (Slot V)) → ((l : ℕ) → l < length xs → slice_get xs l ≡ Some (slots.Lifted secrets)) → flat_map volume_in xs ≡ []
+  lifted-volumes : (secrets : Secrets) (xs : List (Slot V)) → ((l : ℕ) → l < length xs → slice_get xs l ≡ Some (slots.Lifted secrets)) →
+      flat_map volume_in xs ≡ []
   lifted-volumes secrets [] all = refl
   lifted-volumes secrets (slots.Lifted s ∷ xs) all = lifted-volumes secrets xs (λ l h. all (suc l) (omega (arith, h)))
   lifted-volumes secrets (slots.Empty ∷ xs) all = let first : Some slots.Empty ≡ Some (slots.Lifted secrets) = all 0 (omega arith) in cc
@@ -77,8 +78,10 @@ module _ {V : Type 0} where
       then = λ l k at. let same : gap_past w.lock_bits None + l ≡ l = omega arith in each.1 l k (sym (ap (slice_get w.slots) same) ∙ at);
     }
       where
-        each : (length (flat_map volume_in w.slots) ≡ length w.slots) × ((l : ℕ) (k : Kept V) → slice_get w.slots l ≡ Some (slots.Open k) → slice_get (flat_map volume_in w.slots) l ≡ Some k.volume)
-        each = open-volumes w.slots (λ l h. let at = subst (λ (o : Option ℕ). IsSlot w.secrets w.power (is_out w.lock_bits o l) (slice_get w.slots l)) whole (is.slots l h) in (at.0, at.1))
+        each : (length (flat_map volume_in w.slots) ≡ length w.slots) ×
+            ((l : ℕ) (k : Kept V) → slice_get w.slots l ≡ Some (slots.Open k) → slice_get (flat_map volume_in w.slots) l ≡ Some k.volume)
+        each = open-volumes w.slots (λ l h. let at = subst (λ (o : Option ℕ). IsSlot w.secrets w.power (is_out w.lock_bits o l) (slice_get w.slots l)) whole
+            (is.slots l h) in (at.0, at.1))
 
     module _ (device : ℕ) (out : w.lifted ≡ Some device) where
       abbrev f : ℕ
@@ -106,7 +109,8 @@ module _ {V : Type 0} where
           rw is.count within
 
       parts : w.slots ≡ before ++ (gap ++ behind)
-      parts = sym (take-append-drop (first_of w.lock_bits device) w.slots) ∙ ap (λ (xs : List (Slot V)). before ++ xs) (sym (take-append-drop (2 ^ w.lock_bits) rest))
+      parts = sym (take-append-drop (first_of w.lock_bits device) w.slots) ∙ ap (λ (xs : List (Slot V)). before ++ xs)
+          (sym (take-append-drop (2 ^ w.lock_bits) rest))
 
       before-length : length before ≡ f
       before-length = length-take f w.slots ∙ min-eq_left {n = f} {m = length w.slots} (let all = enough in omega (arith, all))
@@ -115,10 +119,12 @@ module _ {V : Type 0} where
       total = ap length parts ∙ (length-append before (gap ++ behind) ∙ ap (λ (n : ℕ). length before + n) (length-append gap behind))
 
       rest-length : length w.slots ≡ f + length rest
-      rest-length = ap length (sym (take-append-drop (first_of w.lock_bits device) w.slots)) ∙ (length-append before rest ∙ ap (λ (n : ℕ). n + length rest) before-length)
+      rest-length = ap length (sym (take-append-drop (first_of w.lock_bits device) w.slots)) ∙
+          (length-append before rest ∙ ap (λ (n : ℕ). n + length rest) before-length)
 
       gap-length : length gap ≡ 2 ^ w.lock_bits
-      gap-length = length-take (2 ^ w.lock_bits) rest ∙ min-eq_left {n = 2 ^ w.lock_bits} {m = length rest} (let all = enough in let amount = rest-length in omega (arith, all, amount))
+      gap-length = length-take (2 ^ w.lock_bits) rest ∙ min-eq_left {n = 2 ^ w.lock_bits} {m = length rest}
+          (let all = enough in let amount = rest-length in omega (arith, all, amount))
 
       slot : (l : ℕ) → l < length w.slots → IsSlot w.secrets w.power (is_out w.lock_bits (Some device) l) (slice_get w.slots l)
       slot l h = subst (λ (o : Option ℕ). IsSlot w.secrets w.power (is_out w.lock_bits o l) (slice_get w.slots l)) out (is.slots l h)
@@ -148,29 +154,36 @@ module _ {V : Type 0} where
               apart (inr more) = absurd (omega (arith, more, high))
 
       at-before : (l : ℕ) → l < f → slice_get w.slots l ≡ slice_get before l
-      at-before l h = let amount = before-length in ap (λ (xs : List (Slot V)). slice_get xs l) parts ∙ get-left before (gap ++ behind) l (omega (arith, h, amount))
+      at-before l h = let amount = before-length in ap (λ (xs : List (Slot V)). slice_get xs l) parts ∙ get-left before (gap ++ behind) l
+          (omega (arith, h, amount))
 
       at-gap : (l : ℕ) → l < 2 ^ w.lock_bits → slice_get w.slots (f + l) ≡ slice_get gap l
       at-gap l h =
           let amount = before-length in let size = gap-length in
-          ap (λ (xs : List (Slot V)). slice_get xs (f + l)) parts ∙ (get-right before (gap ++ behind) (f + l) l (omega (arith, amount)) ∙ get-left gap behind l (omega (arith, h, size)))
+          ap (λ (xs : List (Slot V)). slice_get xs (f + l)) parts ∙ (get-right before (gap ++ behind) (f + l) l (omega (arith, amount)) ∙ get-left gap behind l
+          (omega (arith, h, size)))
 
       at-behind : (l : ℕ) → slice_get w.slots (p + l) ≡ slice_get behind l
       at-behind l =
           let amount = before-length in let size = gap-length in
           ap (λ (xs : List (Slot V)). slice_get xs (p + l)) parts
-          ∙ (get-right before (gap ++ behind) (p + l) (2 ^ w.lock_bits + l) (omega (arith, amount)) ∙ get-right gap behind (2 ^ w.lock_bits + l) l (omega (arith, size)))
+          ∙ (get-right before (gap ++ behind) (p + l) (2 ^ w.lock_bits + l) (omega (arith, amount)) ∙ get-right gap behind (2 ^ w.lock_bits + l) l
+          (omega (arith, size)))
 
-      opened : (xs : List (Slot V)) (at : ℕ) → ((l : ℕ) → l < length xs → slice_get w.slots (at + l) ≡ slice_get xs l) → ((l : ℕ) → l < length xs → (at + l < length w.slots) × ((at + l < f) ⊎ (p ≤ at + l))) → AllOpen xs
+      opened : (xs : List (Slot V)) (at : ℕ) → ((l : ℕ) → l < length xs → slice_get w.slots (at + l) ≡ slice_get xs l) →
+          ((l : ℕ) → l < length xs → (at + l < length w.slots) × ((at + l < f) ⊎ (p ≤ at + l))) → AllOpen xs
       opened xs at same where_ l h =
           let there = outside (at + l) (where_ l h).0 (where_ l h).1 in
           (there.0, sym (same l h) ∙ there.1)
 
-      before-open : (length (flat_map volume_in before) ≡ length before) × ((l : ℕ) (k : Kept V) → slice_get before l ≡ Some (slots.Open k) → slice_get (flat_map volume_in before) l ≡ Some k.volume)
-      before-open = open-volumes before (opened before 0 (λ l h. let amount = before-length in let same : 0 + l ≡ l = omega arith in ap (slice_get w.slots) same ∙ at-before l (omega (arith, h, amount)))
+      before-open : (length (flat_map volume_in before) ≡ length before) ×
+          ((l : ℕ) (k : Kept V) → slice_get before l ≡ Some (slots.Open k) → slice_get (flat_map volume_in before) l ≡ Some k.volume)
+      before-open = open-volumes before (opened before 0 (λ l h. let amount = before-length in let same : 0 + l ≡ l = omega arith in
+          ap (slice_get w.slots) same ∙ at-before l (omega (arith, h, amount)))
           (λ l h. let amount = before-length in let all = enough in (omega (arith, h, amount, all), inl (omega (arith, h, amount)))))
 
-      behind-open : (length (flat_map volume_in behind) ≡ length behind) × ((l : ℕ) (k : Kept V) → slice_get behind l ≡ Some (slots.Open k) → slice_get (flat_map volume_in behind) l ≡ Some k.volume)
+      behind-open : (length (flat_map volume_in behind) ≡ length behind) ×
+          ((l : ℕ) (k : Kept V) → slice_get behind l ≡ Some (slots.Open k) → slice_get (flat_map volume_in behind) l ≡ Some k.volume)
       behind-open = open-volumes behind (opened behind p (λ l h. at-behind l)
           (λ l h. let amount = before-length in let size = gap-length in let all = total in (omega (arith, h, amount, size, all), inr (omega arith))))
 
@@ -183,9 +196,11 @@ module _ {V : Type 0} where
         before = flat_map volume_in before;
         behind = flat_map volume_in behind;
         all = ap (flat_map volume_in) parts ∙ (flat_map-append volume_in before (gap ++ behind)
-            ∙ ap (λ (vs : List V). flat_map volume_in before ++ vs) (flat_map-append volume_in gap behind ∙ ap (λ (vs : List V). vs ++ flat_map volume_in behind) gap-none));
+            ∙ ap (λ (vs : List V). flat_map volume_in before ++ vs) (flat_map-append volume_in gap behind ∙ ap
+            (λ (vs : List V). vs ++ flat_map volume_in behind) gap-none));
         low = before-open.0 ∙ before-length;
-        high = let amount = before-length in let size = gap-length in let all = total in let each = behind-open.0 in let count = is.count in omega (arith, amount, size, all, each, count);
+        high = let amount = before-length in let size = gap-length in let all = total in let each = behind-open.0 in let count = is.count in
+            omega (arith, amount, size, all, each, count);
         first = λ l k h at. before-open.1 l k (sym (at-before l h) ∙ at);
         then = λ l k at. behind-open.1 l k (sym (at-behind l) ∙ at);
       }

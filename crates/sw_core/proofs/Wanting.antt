@@ -3,7 +3,8 @@ use Rattle.std.proofs.Common.{◌≡◌, ◌<◌, ◌≤◌, ◌+◌, ℕ, Bool,
 use Rattle.std.specs.Result.{is_err}
 use Rattle.std.proofs.lemmas.List.{append-nil}
 use Rattle.sw_hashpath.specs.declared.name.Name.{Name}
-use Rattle.sw_peer.proofs.Calls.{calls-once, faithful-once, grows-refl, made-step, moves-counted, moves-refl, part-step, read-step, same-refl, settles-none, wanting}
+use Rattle.sw_history.proofs.Growing.{grows-refl}
+use Rattle.sw_peer.proofs.Calls.{calls-once, faithful-once, made-step, moves-counted, moves-refl, part-step, read-step, same-refl, settles-none, wanting}
 use Rattle.sw_peer.specs.Histories.{History}
 use Rattle.sw_peer.specs.Sights.{Calls, IsAt, IsInPart, IsMade, IsPartRead, IsRead, Moves, Nodes, PartMoves, Sight}
 use Rattle.sw_peer.specs.Journals.{Hash}
@@ -46,10 +47,12 @@ wanting-read link device name s = record {
     other is = cc
 
 -- a read of a partition that wants memory before it is made, at nodes whose count of asking messages may have risen
-pub wanting-part : {A : Type 0} (link : Link) (device part : ℕ) (at : Hash → Type 0) (damages : Bool) (reading : Nodes → Bool → (Hash → State) → A → Type 0) (read : Result A DirFault → PartRead)
+pub wanting-part : {A : Type 0} (link : Link) (device part : ℕ) (at : Hash → Type 0) (damages : Bool) (reading : Nodes → Bool → (Hash → State) → A → Type 0)
+    (read : Result A DirFault → PartRead)
     (s : Sight) (asks : ℕ) → IsPartRead link device part at damages reading read s (Err dir_faults.NoMemory) (record s { asks = asks })
 wanting-part {A} link device part at damages reading read s asks = record {
-  moves = moves-counted (IsInPart s.nodes.power device part at) s s s.faults s.faults s.asks asks s.carriage s.carriage (omega arith) (moves-refl (IsInPart s.nodes.power device part at) s);
+  moves = moves-counted (IsInPart s.nodes.power device part at) s s s.faults s.faults s.asks asks s.carriage s.carriage (omega arith)
+      (moves-refl (IsInPart s.nodes.power device part at) s);
   holds_all = λ alone d hash. refl;
   step = record {
     follows = grows-refl h;
@@ -73,21 +76,28 @@ wanting-part {A} link device part at damages reading read s asks = record {
     other : (r : Result A DirFault) → r ≡ Err dir_faults.NoMemory → r ≡ Err dir_faults.Failed → ⊥
     other r wants fails = cc
 
-module _ {V : Type 0} (tells : V → Bool) (files : V → Folders) (faults : V → ℕ) (w : AllNodes V) (lines : List Line) (same : lines ≡ w.lines) (link : Link) (device : ℕ) (name : Name) where
-  pub wants : (change : Change) → Calls (IsMade link device name change) (sight_of tells files faults w) link (Ok answers.NoMemory) (sight_of tells files faults (record w { lines = lines }))
+module _ {V : Type 0} (tells : V → Bool) (files : V → Folders) (faults : V → ℕ) (w : AllNodes V) (lines : List Line) (same : lines ≡ w.lines) (link : Link)
+    (device : ℕ) (name : Name) where
+  pub wants : (change : Change) → Calls (IsMade link device name change) (sight_of tells files faults w) link (Ok answers.NoMemory)
+      (sight_of tells files faults (record w { lines = lines }))
   wants change = rw same (calls-once (Moves (IsAt device name.hash)) (IsMade link device name change) (made-step link device name change)
-      (sight_of tells files faults w) (sight_of tells files faults w) link answers.NoMemory (faithful-once link) (wanting link device name change (sight_of tells files faults w)))
+      (sight_of tells files faults w) (sight_of tells files faults w) link answers.NoMemory (faithful-once link)
+      (wanting link device name change (sight_of tells files faults w)))
 
-  pub wants-read : Calls (IsRead link device name) (sight_of tells files faults w) link (Ok gots.NoMemory) (sight_of tells files faults (record w { lines = lines }))
+  pub wants-read : Calls (IsRead link device name) (sight_of tells files faults w) link (Ok gots.NoMemory)
+      (sight_of tells files faults (record w { lines = lines }))
   wants-read = rw same (calls-once (Moves (IsAt device name.hash)) (IsRead link device name) (read-step link device name)
-      (sight_of tells files faults w) (sight_of tells files faults w) link gots.NoMemory (faithful-once link) (wanting-read link device name (sight_of tells files faults w)))
+      (sight_of tells files faults w) (sight_of tells files faults w) link gots.NoMemory (faithful-once link)
+      (wanting-read link device name (sight_of tells files faults w)))
 
 -- a read of a partition that wants memory for its line
-module _ {V A : Type 0} (tells : V → Bool) (files : V → Folders) (faults : V → ℕ) (w : AllNodes V) (lines : List Line) (same : lines ≡ w.lines) (link : Link) (device part asks : ℕ)
+module _ {V A : Type 0} (tells : V → Bool) (files : V → Folders) (faults : V → ℕ) (w : AllNodes V) (lines : List Line) (same : lines ≡ w.lines) (link : Link)
+    (device part asks : ℕ)
     (at : Hash → Type 0) (damages : Bool) (reading : Nodes → Bool → (Hash → State) → A → Type 0) (read : Result A DirFault → PartRead) where
   pub wants-part : Calls (IsPartRead link device part at damages reading read) (sight_of tells files faults w) link (Ok (Err dir_faults.NoMemory))
       (sight_of tells files faults (record w { lines = lines; asks = asks }))
-  wants-part = rw same (calls-once (PartMoves device part at) (IsPartRead link device part at damages reading read) (part-step link device part at damages reading read)
+  wants-part = rw same (calls-once (PartMoves device part at) (IsPartRead link device part at damages reading read)
+      (part-step link device part at damages reading read)
       (sight_of tells files faults w) (sight_of tells files faults (record w { asks = asks })) link (Err dir_faults.NoMemory)
       (faithful-once link) (wanting-part link device part at damages reading read (sight_of tells files faults w) asks))
 

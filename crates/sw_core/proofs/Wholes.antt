@@ -13,6 +13,8 @@ use Rattle.sw_hashpath.specs.Paths.{hash_of}
 use Rattle.sw_hashpath.specs.declared.bad_name.BadName.{BadName}
 use Rattle.sw_hashpath.specs.declared.name.Name.{Name}
 use Rattle.sw_hashpath.specs.declared.secrets.Secrets.{Secrets}
+use Rattle.sw_container_locks.specs.declared.cont_slot.ContSlot.{ContSlot}
+use Rattle.sw_keeper.specs.MemState.{MemState}
 use Rattle.sw_objdir.specs.Directories.{Kept}
 use Rattle.sw_peer.proofs.Hashes.{hash-same}
 use Rattle.sw_peer.specs.declared.line.Line.{Line}
@@ -79,7 +81,30 @@ module _ {V : Type 0} (w : AllNodes V) (is : IsWorld w) where
   -- the same with other lines, and another count
   pub lined : (lines : List Line) (asks : ℕ) → IsWorld (record w { lines = lines; asks = asks })
   lined lines asks =
-      record { devices = is.devices; lock_bits = is.lock_bits; least = is.least; greatest = is.greatest; fine = is.fine; count = is.count; out = is.out; slots = is.slots }
+      record {
+        devices = is.devices;
+        lock_bits = is.lock_bits;
+        least = is.least;
+        greatest = is.greatest;
+        fine = is.fine;
+        count = is.count;
+        out = is.out;
+        slots = is.slots;
+      }
+
+  -- or with other containers
+  pub contained : (lines : List Line) (containers : List (ContSlot MemState)) → IsWorld (record w { lines = lines; containers = containers })
+  contained lines containers =
+      record {
+        devices = is.devices;
+        lock_bits = is.lock_bits;
+        least = is.least;
+        greatest = is.greatest;
+        fine = is.fine;
+        count = is.count;
+        out = is.out;
+        slots = is.slots;
+      }
 
   module _ (whole : w.lifted ≡ None) where
     -- each lock has an open directory

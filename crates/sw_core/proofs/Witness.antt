@@ -4,7 +4,7 @@ use Rattle.std.specs.Int.{byte_at, bytes_high_first, w16, w32, to_be_bytes}
 use Rattle.std.proofs.Math.Nat.{mod-eq_of_lt, mul-le-mul_right, suc-mul}
 use Rattle.std.proofs.lemmas.List.Elements.{All-append, All-cons}
 use Rattle.std.proofs.lemmas.Nat.{div-mul-add, from_be_bytes-to_be_bytes_2, from_be_bytes-to_be_bytes_4, mod_below, pow-add, pow_pos}
-use Rattle.sw_hashpath.specs.HashParts.{IsDigest, partition_of, suffix_of}
+use Rattle.sw_hashpath.specs.HashParts.{suffix_of}
 use Rattle.sw_peer.specs.Journals.{Hash}
 use Rattle.sw_peer.specs.Parts.{IsOfPart}
 
@@ -38,7 +38,8 @@ fits : (power part : ℕ) → power ≤ 32 → part < 2 ^ power → part * 2 ^ (
 fits power part few below =
     let sum : power + (32 - power) ≡ 32 = omega (arith, few) in
     let whole : 2 ^ power * 2 ^ (32 - power) ≡ 2 ^ 32 = sym (pow-add 2 power (32 - power)) ∙ ap (λ (n : ℕ). 2 ^ n) sum in
-    let most : suc part * 2 ^ (32 - power) ≤ 2 ^ power * 2 ^ (32 - power) = mul-le-mul_right {m = suc part} {n = 2 ^ power} (2 ^ (32 - power)) (omega (arith, below)) in
+    let most : suc part * 2 ^ (32 - power) ≤ 2 ^ power * 2 ^ (32 - power) =
+    mul-le-mul_right {m = suc part} {n = 2 ^ power} (2 ^ (32 - power)) (omega (arith, below)) in
     let more : suc part * 2 ^ (32 - power) ≡ part * 2 ^ (32 - power) + 2 ^ (32 - power) = suc-mul part (2 ^ (32 - power)) in
     let some : 0 < 2 ^ (32 - power) = pow_pos (32 - power) in
     subst (λ (n : ℕ). part * 2 ^ (32 - power) < n) whole (omega (arith, most, more, some))
@@ -53,7 +54,8 @@ of-part power part suffix few below =
         All-append IsByte (to_be_bytes w32 (part * shift)) (zeros 10 (to_be_bytes w16 suffix)) (are-bytes 4 (part * shift))
             (blank 10 (to_be_bytes w16 suffix) (are-bytes 2 suffix)),
       );
-      part_is = ap (λ (n : ℕ). n / shift) (from_be_bytes-to_be_bytes_4 (part * shift) (fits power part few below) ∙ plain) ∙ div-mul-add part shift 0 (pow_pos (32 - power));
+      part_is = ap (λ (n : ℕ). n / shift) (from_be_bytes-to_be_bytes_4 (part * shift) (fits power part few below) ∙ plain) ∙ div-mul-add part shift 0
+          (pow_pos (32 - power));
     }
 
 pub of-suffix : (power part suffix : ℕ) → suffix < 4096 → suffix_of (hash_with power part suffix) ≡ suffix

@@ -38,19 +38,22 @@ ReadRuns = (link : Link) (device : ℕ) (name : Name) (s : Sight) (got : Got) (t
 
 -- so is a read of a partition, which has a hash: of what is compared
 abbrev pub HashesRuns : Type 0
-HashesRuns = (link : Link) (device part : ℕ) (s : Sight) (got : Result (Vec SuffixHash Global) DirFault) (t : Sight) (m : Machine) (hash : Hash) → IsOfPart s.nodes.power part hash
+HashesRuns = (link : Link) (device part : ℕ) (s : Sight) (got : Result (Vec SuffixHash Global) DirFault) (t : Sight) (m : Machine) (hash : Hash) →
+    IsOfPart s.nodes.power part hash
     → StandsFor s m → t.alone ≡ true → (read : IsHashesRead link device part s got t)
     → (after : Machine) × MachineReadsPart s.nodes m device (Hashes part got) read.step.added after × StandsFor t after
 
 -- of the files of a suffix
 abbrev pub FilesRuns : Type 0
-FilesRuns = (link : Link) (device part suffix : ℕ) (s : Sight) (got : Result (Vec DirLine Global) DirFault) (t : Sight) (m : Machine) (hash : Hash) → IsOfPart s.nodes.power part hash
+FilesRuns = (link : Link) (device part suffix : ℕ) (s : Sight) (got : Result (Vec DirLine Global) DirFault) (t : Sight) (m : Machine) (hash : Hash) →
+    IsOfPart s.nodes.power part hash
     → StandsFor s m → t.alone ≡ true → (read : IsFilesRead link device part suffix s got t)
     → (after : Machine) × MachineReadsPart s.nodes m device (Files part suffix got) read.step.added after × StandsFor t after
 
 -- and of a file
 abbrev pub WriteRuns : Type 0
-WriteRuns = (link : Link) (device part : ℕ) (k : Hash) (file : FileName) (s : Sight) (got : Result (Option Stored) DirFault) (t : Sight) (m : Machine) (hash : Hash) → IsOfPart s.nodes.power part hash
+WriteRuns = (link : Link) (device part : ℕ) (k : Hash) (file : FileName) (s : Sight) (got : Result (Option Stored) DirFault) (t : Sight) (m : Machine)
+    (hash : Hash) → IsOfPart s.nodes.power part hash
     → StandsFor s m → t.alone ≡ true → (read : IsWriteRead link device part k file s got t)
     → (after : Machine) × MachineReadsPart s.nodes m device (Write part k file got) read.step.added after × StandsFor t after
 

@@ -6,7 +6,7 @@ use Rattle.sw_peer.specs.declared.answer.Answer.{Answer}
 use Rattle.sw_peer.specs.declared.answer.Answer.TheVariants as answers
 use Rattle.sw_peer.specs.declared.entry.ObjEntry.{ObjEntry}
 use Rattle.sw_peer.specs.declared.line.Event.{Event}
-use Rattle.sw_peer.specs.declared.line.Event.TheVariants.{Changed, Listed, Read, ReadPart, Restarted}
+use Rattle.sw_peer.specs.declared.line.Event.TheVariants.{AtContainer, Changed, Listed, Read, ReadPart, Restarted}
 use Rattle.sw_state.specs.States.{state_of}
 use Rattle.sw_state.specs.declared.write.Write.{Write}
 use Rattle.sw_core.specs.PartReads.{part_in}
@@ -30,12 +30,13 @@ is_failed (answers.Damaged bad) = false
 is_failed answers.Failed = true
 is_failed answers.NoMemory = false
 
--- whether a changing step failed
+-- whether a step that may change an object failed
 abbrev pub has_failed : Event → Bool
 has_failed (Changed name change answer) = is_failed answer
 has_failed (Read name got) = false
 has_failed (ReadPart read) = false
 has_failed (Listed failed) = false
+has_failed (AtContainer event entries) = false
 has_failed Restarted = false
 
 -- no changing step failed
@@ -64,6 +65,7 @@ is_entered_at nodes device (Changed name change answer) l = nat_eq (nodes.lock d
 is_entered_at nodes device (Read name got) l = nat_eq (nodes.lock device name.hash) l
 is_entered_at nodes device (ReadPart read) l = nat_eq (nodes.part_lock device (part_in read)) l
 is_entered_at nodes device (Listed failed) l = false
+is_entered_at nodes device (AtContainer event entries) l = false
 is_entered_at nodes device Restarted l = false
 
 -- the entries that the lines added to a lock's journal
@@ -77,6 +79,7 @@ is_restart (Changed name change answer) = false
 is_restart (Read name got) = false
 is_restart (ReadPart read) = false
 is_restart (Listed failed) = false
+is_restart (AtContainer event entries) = false
 is_restart Restarted = true
 
 abbrev pub NoneRestarted : List RunLine → Type 0
@@ -92,10 +95,12 @@ RunEnters = (nodes : Nodes) (m : Machine) (lines : List RunLine) (after : Machin
 
 -- two runs, one after the other, are one
 abbrev pub RunsJoin : Type 0
-RunsJoin = (nodes : Nodes) (m : Machine) (lines : List RunLine) (mid : Machine) (more : List RunLine) (after : Machine) → Runs nodes m lines mid → Runs nodes mid more after
+RunsJoin = (nodes : Nodes) (m : Machine) (lines : List RunLine) (mid : Machine) (more : List RunLine) (after : Machine) → Runs nodes m lines mid →
+    Runs nodes mid more after
     → Runs nodes m (lines ++ more) after
 
 -- where no lock has counted a fault at the end, no step failed
 abbrev pub RunSound : Type 0
-RunSound = (nodes : Nodes) (m : Machine) (lines : List RunLine) (after : Machine) → Runs nodes m lines after → ((device : ℕ) (hash : Hash) → (after.seen (nodes.lock device hash)).faults ≡ 0)
+RunSound = (nodes : Nodes) (m : Machine) (lines : List RunLine) (after : Machine) → Runs nodes m lines after →
+    ((device : ℕ) (hash : Hash) → (after.seen (nodes.lock device hash)).faults ≡ 0)
     → NoneFailed lines

@@ -1,4 +1,5 @@
--- The machine: what reached every device, what the journals of its locks have, and the messages that were ever sent. (This project's
+-- The machine of objects: what reached every device, what the journals of its locks have, and the messages that were ever sent. What comes to a
+-- container leaves it as it is. (This project's
 -- own; the answers are those of OpenStack Swift's object server, as `sw_peer` has them.)
 use Rattle.std.specs.Prelude.{◌≡◌, ◌≢◌, ⊤, ℕ, ◌≤◌, Bool, true, ◌&&◌, List, [], ◌∷◌, ◌++◌, nat_eq, if◌then◌else◌, Contains}
 use Rattle.std.specs.Str.{bytes_eq}
@@ -17,7 +18,7 @@ use Rattle.sw_peer.specs.declared.change.Change.TheVariants.{Receive}
 use Rattle.sw_peer.specs.declared.entry.ObjEntry.{ObjEntry}
 use Rattle.sw_peer.specs.declared.got.Got.{Got}
 use Rattle.sw_peer.specs.declared.line.Event.{Event}
-use Rattle.sw_peer.specs.declared.line.Event.TheVariants.{Changed, Listed, Read, ReadPart, Restarted}
+use Rattle.sw_peer.specs.declared.line.Event.TheVariants.{AtContainer, Changed, Listed, Read, ReadPart, Restarted}
 use Rattle.sw_peer.specs.declared.line.Line.{Line}
 use Rattle.sw_peer.specs.declared.link.Link.{Link}
 use Rattle.sw_peer.specs.declared.part_read.PartRead.{PartRead}
@@ -70,7 +71,8 @@ came_in (Went from message ∷ lines) = came_in lines
 module _ (nodes : Nodes) where
   -- a step that may change something: that of the lock's history, with what reached in place of what is held
   pub record MachineMakes (m : Machine) (device : ℕ) (name : Name) (change : Change) (answer : Answer) (added : List ObjEntry) (after : Machine) : Type 0 where
-    pub step : StepChanges true (m.seen (nodes.lock device name.hash)) (state m device name.hash) name change answer (after.seen (nodes.lock device name.hash)) (state after device name.hash)
+    pub step : StepChanges true (m.seen (nodes.lock device name.hash)) (state m device name.hash) name change answer (after.seen (nodes.lock device name.hash))
+        (state after device name.hash)
     pub added_is : added ≡ step.added
     pub reached : (d : ℕ) (k : Hash) → after.reached d k ≡ reached_with m.reached device name.hash (made_writes change step.made) d k
     pub elsewhere : (l : ℕ) → l ≢ nodes.lock device name.hash → after.seen l ≡ m.seen l
@@ -125,6 +127,7 @@ module _ (nodes : Nodes) where
   MachineComes m link device (Read name got) added after = MachineReads m device name got added after
   MachineComes m link device (ReadPart read) added after = MachineReadsPart m device read added after
   MachineComes m link device (Listed failed) added after = (added ≡ []) × MachineLists m device failed after
+  MachineComes m link device (AtContainer event entries) added after = (added ≡ []) × (after ≡ m)
   MachineComes m link device Restarted added after = (added ≡ []) × MachineRestarts m device after
 
   -- a device sends a write that it stands for

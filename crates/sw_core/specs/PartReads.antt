@@ -22,10 +22,12 @@ IsReadOf nodes h (Hashes part got) added g t =
     (step : StepReadsPart true h (λ hash. IsOfPart nodes.power part hash × ⊤) false (λ told s got. AreHashes nodes.power part told s got.items) got g t)
     × (added ≡ step.added)
 IsReadOf nodes h (Files part suffix got) added g t =
-    (step : StepReadsPart true h (λ hash. IsOfPart nodes.power part hash × (suffix_of hash ≡ suffix)) false (λ told s got. AreLines nodes.power part suffix told s got.items) got g t)
+    (step : StepReadsPart true h (λ hash. IsOfPart nodes.power part hash × (suffix_of hash ≡ suffix)) false
+    (λ told s got. AreLines nodes.power part suffix told s got.items) got g t)
     × (added ≡ step.added)
 IsReadOf nodes h (Write part hash file got) added g t =
-    (step : StepReadsPart true h (λ other. IsOfPart nodes.power part other × (other ≡ hash)) true (λ told s got. IsFile nodes.fits hash file told s got) got g t)
+    (step : StepReadsPart true h (λ other. IsOfPart nodes.power part other × (other ≡ hash)) true (λ told s got. IsFile nodes.fits hash file told s got) got g
+    t)
     × (added ≡ step.added)
 
 -- what every such read makes of the history

@@ -1,21 +1,32 @@
 -- What a world is, and what its user knows of its nodes. (This project's own.)
-use Rattle.std.specs.Prelude.{◌≡◌, refl, ⊤, ℕ, ◌+◌, ◌-◌, ◌*◌, ◌/◌, ◌%◌, ◌^◌, ◌<◌, ◌≤◌, ◌⊎◌, Bool, true, false, ◌&&◌, nat_le, nat_lt, List, [], ◌∷◌, ◌++◌, length, map, Option}
+use Rattle.std.specs.Prelude.{◌≡◌, refl, ℕ, ◌+◌, ◌-◌, ◌*◌, ◌/◌, ◌%◌, ◌^◌, ◌<◌, ◌≤◌, ◌⊎◌, Bool, true, false, ◌&&◌, nat_le, nat_lt, List, [], ◌∷◌, ◌++◌, length}
+use Rattle.std.specs.Prelude.{map, Option}
 use Rattle.std.specs.Prelude.{Some, None, is_none, IsSome}
-use Rattle.std.specs.List.{flat_map, slice_get}
+use Rattle.std.specs.List.{All, flat_map, slice_get}
+use Rattle.std.specs.Str.{bytes_eq}
 use Rattle.std.specs.declared.alloc.Global.{Global}
 use Rattle.std.specs.declared.vec.Vec.{Vec}
 use Rattle.sw_core.specs.Limits.{journal_bytes, journal_entries}
 use Rattle.sw_core.specs.Machine.{empty_history}
 use Rattle.sw_core.specs.declared.slot.Slot.{Slot}
 use Rattle.sw_core.specs.declared.slot.Slot.TheVariants as slots
+use Rattle.sw_container_locks.specs.Halves.{half_of}
+use Rattle.sw_container_locks.specs.Slots.{IsOpen, begun, opened as opened_locks}
+use Rattle.sw_container_locks.specs.declared.cont_slot.ContSlot.{ContSlot}
+use Rattle.sw_container_locks.specs.declared.cont_slot.ContSlot.TheVariants as cont_slots
+use Rattle.sw_container_steps.specs.declared.cont_entry.ContEntry.{ContEntry}
+use Rattle.sw_hashpath.specs.BadNames.{bad_name}
 use Rattle.sw_hashpath.specs.HashParts.{partition_of}
+use Rattle.sw_hashpath.specs.Paths.{hash_of}
 use Rattle.sw_hashpath.specs.declared.place.Place.{Place}
 use Rattle.sw_hashpath.specs.declared.secrets.Secrets.{Secrets}
 use Rattle.sw_hashdir.specs.Places.{in_order}
 use Rattle.sw_hashdir.specs.Steps.{is_hashed}
+use Rattle.sw_history.specs.Halves.{Half, HalfRestarts}
+use Rattle.sw_keeper.specs.MemState.{MemState}
+use Rattle.sw_keeper.specs.Places.{at}
 use Rattle.sw_objdir.specs.Directories.{Kept, held, history_of, is_told, started}
 use Rattle.sw_peer.specs.Carriage.{faithful}
-use Rattle.sw_peer.specs.Halves.{HistoryOf}
 use Rattle.sw_peer.specs.Histories.{History}
 use Rattle.sw_peer.specs.Journals.{Hash}
 use Rattle.sw_peer.specs.Sights.{Nodes, Sight}
@@ -23,6 +34,7 @@ use Rattle.sw_peer.specs.declared.line.Event.TheVariants.{Restarted}
 use Rattle.sw_peer.specs.declared.line.Line.{Line}
 use Rattle.sw_peer.specs.declared.link.Link.TheVariants.{Local}
 use Rattle.sw_ring.specs.declared.ring.Ring.{Ring}
+use Rattle.sw_rows.specs.declared.tables.Tables.{Tables}
 use Rattle.sw_state.specs.States.{state_of}
 use Rattle.sw_state.specs.declared.state.State.{State}
 use Rattle.sw_volume.specs.Tree.{Folders}
@@ -36,6 +48,7 @@ pub record AllNodes (V : Type 0) : Type 0 where
   pub lines : List Line  -- of what came since they were last taken
   pub asks : ℕ  -- how many messages asked for hashes or files
   pub lifted : Option ℕ  -- the device whose volumes are out
+  pub containers : List (ContSlot MemState)  -- the container locks, one beside each object lock
 
 -- ---- places
 
@@ -85,6 +98,11 @@ pub record IsWorld {V : Type 0} (w : AllNodes V) : Type 0 where
 
 -- ---- what its user knows
 
+-- whether nothing is wrong with the names of a container, and its hash is that of its path under these secrets
+abbrev pub is_hashed_place : Secrets → Place → Bool
+is_hashed_place secrets place =
+    bytes_eq (hash_of secrets place.account (Some place.container) None) place.hash && is_none (bad_name place.account (Some place.container) None)
+
 abbrev pub nodes_of : ℕ → ℕ → ℕ → Secrets → Nodes
 nodes_of devices lock_bits power secrets =
     record {
@@ -93,6 +111,7 @@ nodes_of devices lock_bits power secrets =
       power = power;
       secrets = secrets;
       fits = is_hashed secrets;
+      fits_place = is_hashed_place secrets;
       lock = lock_of lock_bits power;
       part_lock = part_lock_of lock_bits power;
       one_lock = λ device hash digest. refl;
@@ -103,9 +122,41 @@ abbrev pub shown : Option ℕ → ℕ → ℕ
 shown None devices = devices
 shown (Some device) devices = 0
 
--- no node keeps a container
-abbrev pub no_containers : HistoryOf Place ⊤ ⊥
-no_containers = record { told = false; opening = λ place. tt; journal = record { entries = []; doubts = []; max_entries = 0; max_bytes = 0 }; faults = 0 }
+-- ---- containers: their tables are kept in memory
+
+abbrev pub mem_tells : MemState → Bool
+mem_tells k = true
+
+abbrev pub mem_holds : MemState → Place → Option Tables
+mem_holds k = at k.shelves
+
+abbrev pub mem_faults : MemState → ℕ
+mem_faults k = k.faults
+
+-- a keeper that holds nothing
+abbrev pub empty_keeper : MemState
+empty_keeper = record { shelves = []; failing = []; calls = 0; faults = 0 }
+
+-- the lock of a container at a device is numbered as that of an object
+abbrev pub place_lock : ℕ → ℕ → ℕ → Place → ℕ
+place_lock lock_bits power device place = lock_of lock_bits power device place.hash
+
+-- what is known of these locks
+abbrev pub containers_at : ℕ → ℕ → List (ContSlot MemState) → Half Place (Option Tables) ContEntry
+containers_at lock_bits power locks = half_of mem_tells mem_holds mem_faults (place_lock lock_bits power) locks
+
+-- the locks beside those of these volumes, under which no container was ever created
+abbrev pub empty_locks : {V : Type 0} → List V → List (ContSlot MemState)
+empty_locks volumes = map (λ v. cont_slots.Open (begun empty_keeper)) volumes
+
+-- so many of them
+abbrev pub AreEmpty : ℕ → List (ContSlot MemState) → Type 0
+AreEmpty count locks = (keepers : List MemState) × (length keepers ≡ count) × All (λ keeper. keeper ≡ empty_keeper) keepers × (locks ≡ opened_locks keepers)
+
+-- there is a container lock for each stripe of each device, and all are open
+pub record AreContainers (devices lock_bits : ℕ) (locks : List (ContSlot MemState)) : Type 0 where
+  pub count : length locks ≡ devices * 2 ^ lock_bits
+  pub are_open : (l : ℕ) → l < length locks → IsOpen locks l
 
 module _ {V : Type 0} (tells : V → Bool) (files : V → Folders) (faults : V → ℕ) where
   -- the history of a lock; where no directory is open one in which nothing has happened
@@ -129,7 +180,7 @@ module _ {V : Type 0} (tells : V → Bool) (files : V → Folders) (faults : V �
       seen = λ l. seen_of (slice_get w.slots l);
       holds = λ d hash. held_of (slice_get w.slots (lock_of w.lock_bits w.power d hash)) hash;
     };
-    containers = record { seen = λ l. no_containers; holds = λ d place. tt };
+    containers = containers_at w.lock_bits w.power w.containers;
     alone = true;
     faults = 0;
     asks = w.asks;
@@ -150,6 +201,7 @@ opened ring volumes = record {
   lines = [];
   asks = 0;
   lifted = None;
+  containers = empty_locks volumes;
 }
 
 -- the volume of a lock, where it is there
@@ -216,10 +268,12 @@ pub record Lifts {V : Type 0} (tells : V → Bool) (files : V → Folders) (faul
 abbrev pub restart_line : ℕ → Line
 restart_line device = record { device = device; link = Local; event = Restarted; added = [] }
 
--- it was set down over these volumes
+-- it was set down over these volumes, and its container locks began anew over what they held
 pub record SetsDown {V : Type 0} (old : AllNodes V) (device : ℕ) (volumes : List V) (new : AllNodes V) : Type 0 where
   pub down : AreSetDown old.power (first_of old.lock_bits device) volumes old.slots new.slots
-  pub rest : new ≡ record old { slots = new.slots; lines = old.lines ++ restart_line device ∷ []; lifted = None }
+  pub containers : HalfRestarts (place_lock old.lock_bits old.power) true device (containers_at old.lock_bits old.power old.containers)
+      (containers_at old.lock_bits old.power new.containers)
+  pub rest : new ≡ record old { slots = new.slots; lines = old.lines ++ restart_line device ∷ []; lifted = None; containers = new.containers }
 
 -- there is room for the volumes of all locks, and, while a device is out, for the line of its restart
 pub record HasRoom {V : Type 0} (slots : List (Slot V)) (room : Vec V Global) (lines spare : Vec Line Global) (lifted : Option ℕ) : Type 0 where

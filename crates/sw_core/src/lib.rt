@@ -5,6 +5,9 @@
 //! gives its volumes, and [`World::set_down`], which begins anew on them. `specs/Machine.antt` has the machine: what reached each device, and
 //! what the journals of its locks have.
 //!
+//! Beside each object lock stands one of containers (`sw_container_locks`), whose tables are kept in memory. The world is their door too; their
+//! machine is `sw_container_machine`, over the same lines.
+//!
 //! What is promised: each step of the world is one of the machine, with calls that fail, full journals and restarts, so that the files of
 //! each hash at each device stand for the state of the writes that reached it; and where no step failed, the entries of the lines tell
 //! these writes.

@@ -5,6 +5,7 @@ ghost use Rattle.sw_core.specs.Worlds.{IsWorld, IsSameWorld, Lifts, SetsDown, lo
 ghost use Rattle.sw_peer.specs.Sights.{IsListed};
 ghost use Rattle.sw_volume.specs.declared.errors.VolumeError.TheVariants.{NoMemory as Wanting};
 
+mod containers;
 mod door;
 mod listing;
 mod slots;
@@ -12,6 +13,7 @@ mod slots;
 use crate::lines::LineList;
 use crate::parts::Parts;
 use crate::slot::Slot;
+use crate::world::containers::empty_locks;
 use crate::world::listing::files_in;
 use crate::world::slots::{
     lift_slots, lifted_slots, line_of_listing, line_of_restart, make_room, open_slots, volumes_in,
@@ -19,7 +21,9 @@ use crate::world::slots::{
 use std::alloc::Global;
 use std::marker::Model;
 use std::mem;
+use sw_container_locks::ContLocks;
 use sw_hashpath::{Secrets, partition};
+use sw_keeper::MemKeeper;
 use sw_outside::{BytesList, NoMemory};
 use sw_peer::KeptLine;
 use sw_ring::Ring;
@@ -27,7 +31,8 @@ use sw_volume::{Volume, VolumeError};
 
 /// All nodes of all devices of a ring, which nobody else changes, and the lines of what came to them.
 ///
-/// A device has 2 to the `lock_bits` object locks, each with a volume of its own, and a name belongs to the one of its stripe.
+/// A device has 2 to the `lock_bits` object locks, each with a volume of its own, and a name belongs to the one of its stripe. Beside each stands a lock
+/// of containers.
 #[derive(Drop)]
 pub struct World<V: Volume + Drop> {
     devices: u16,
@@ -39,6 +44,8 @@ pub struct World<V: Volume + Drop> {
     /// How many messages asked for hashes or files.
     asks: u64,
     lifted: Option<u8>,
+    /// One lock of containers beside each slot. Their tables are kept in memory, for as long as the world stands.
+    containers: ContLocks<MemKeeper>,
     /// Empty, with room for all volumes, so that giving them back takes no memory.
     room: Vec<V>,
     /// Empty, with room for one line while a device is out, so that setting it down takes none either.
@@ -47,7 +54,7 @@ pub struct World<V: Volume + Drop> {
 
 impl<V: Volume + Drop> Model for World<V> {
     ghost use Rattle.sw_core.specs.Stopping.{Gives};
-    ghost use Rattle.sw_core.specs.Worlds.{IsWorld, AllNodes, HasRoom, IsWorld};
+    ghost use Rattle.sw_core.specs.Worlds.{AllNodes, AreContainers, HasRoom, IsWorld};
 
     ghost Value = { AllNodes V };
 
@@ -60,6 +67,7 @@ impl<V: Volume + Drop> Model for World<V> {
       lines = w.lines.items;
       asks = w.asks;
       lifted = w.lifted;
+      containers = w.containers;
     } };
 
     ghost invariant = { λ w. IsWorld (record {
@@ -71,13 +79,15 @@ impl<V: Volume + Drop> Model for World<V> {
       lines = w.lines.items;
       asks = w.asks;
       lifted = w.lifted;
+      containers = w.containers;
     })
-        × HasRoom w.slots.items w.room w.lines w.spare w.lifted };
+        × HasRoom w.slots.items w.room w.lines w.spare w.lifted
+        × AreContainers w.devices w.lock_bits w.containers };
 }
 
 impl<V: Volume + Drop> World<V> {
     /// The nodes of a ring over these volumes: those of the first device, one a stripe, then those of the next. Each begins with what its
-    /// volume's files stand for. Where memory runs out the volumes come back.
+    /// volume's files stand for, and with no container. Where memory runs out the volumes come back.
     pub fn open(alloc: Global, ring: &Ring, parts: Parts<V>) -> Result<World<V>, Parts<V>>
         requires volumes { length parts.volumes.items ≡ length ring.now.devices * 2 ^ ring.now.lock_bits }
         ensures opens { IfOk result (λ w. w ≡ opened ring.now parts.volumes.items) }
@@ -93,6 +103,9 @@ impl<V: Volume + Drop> World<V> {
         let Ok(mut slots) = lifted_slots(alloc, &ring.secrets, count) else {
             return Err(parts);
         };
+        let Ok(containers) = empty_locks(alloc, count) else {
+            return Err(parts);
+        };
         open_slots(alloc, &mut slots, 0, ring.power, parts.volumes);
         Ok(World {
             devices: ring.devices.as_slice().len() as u16,
@@ -103,6 +116,7 @@ impl<V: Volume + Drop> World<V> {
             lines: Vec::new(alloc),
             asks: 0,
             lifted: None,
+            containers,
             room,
             spare: Vec::new(alloc),
         })
@@ -154,14 +168,16 @@ impl<V: Volume + Drop> World<V> {
     }
 
     /// Sets the lifted device down over these volumes, one a stripe: the journal of each of its locks begins anew with what its volume's
-    /// files stand for. It takes no memory.
+    /// files stand for, or its tables are. It takes no memory.
     pub fn set_down(&mut self, alloc: Global, device: u8, parts: Parts<V>)
         requires lifted { self.old.lifted ≡ Some device }
         requires volumes { length parts.volumes.items ≡ 2 ^ self.old.lock_bits }
         ensures { SetsDown self.old device parts.volumes.items self.new }
     {
-        let first = usize::from(device) * stripes(self.lock_bits);
+        let count = stripes(self.lock_bits);
+        let first = usize::from(device) * count;
         open_slots(alloc, &mut self.slots, first, self.power, parts.volumes);
+        self.containers.restart(alloc, first, first + count);
         make_room(alloc, &mut self.lines, &mut self.spare);
         self.lines.push_reserved(line_of_restart(alloc, device));
         self.lifted = None;

@@ -18,7 +18,8 @@ use sw_volume::MemVolume;
 
 /// A ring of two devices, each of two locks.
 const RING: &[u8] =
-    br#"{"devices":["sda","sdb"],"part_power":2,"lock_bits":1,"replicas":2,"hash_prefix":"","hash_suffix":"endcap","object":[[0,1],[1,0],[0,1],[1,0]],"container":[[0,1],[1,0],[0,1],[1,0]]}"#;
+    br#"{"devices":["sda","sdb"],"part_power":2,"lock_bits":1,"replicas":2,"hash_prefix":"","hash_suffix":"endcap","object":[[0,1],[1,0],[0,1],[1,0]],
+        "container":[[0,1],[1,0],[0,1],[1,0]]}"#;
 
 /// Each message comes once.
 const FAITHFUL: Acts = Acts {
@@ -69,7 +70,7 @@ fn told(line: &Line) -> Came {
         Event::ReadPart(PartRead::Write(_, _, _, _)) => Came::Write(line.device, line.link),
         Event::Listed(false) => Came::Listing(line.device),
         Event::Restarted => Came::Restart(line.device),
-        Event::Listed(true) | Event::Read(_, _) => Came::Other,
+        Event::Listed(true) | Event::Read(_, _) | Event::AtContainer(_, _) => Came::Other,
     }
 }
 

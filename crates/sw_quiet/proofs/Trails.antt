@@ -101,13 +101,13 @@ pub sets-quietly : {V : Type 0} (old : AllNodes V) (device : ℕ) (volumes : Lis
     → new ≡ record mid { lines = [] } → SetsDownQuietly old device volumes new
 sets-quietly {V} old device volumes mid new sets gone =
     subst (λ (w : AllNodes V). SetsDownQuietly old device volumes w) (sym gone)
-    (record { down = sets.down; rest = ap (λ (w : AllNodes V). record w { lines = [] }) sets.rest })
+    (record { down = sets.down; containers = sets.containers; rest = ap (λ (w : AllNodes V). record w { lines = [] }) sets.rest })
 
 module _ {V : Type 0} (tells : V → Bool) (files : V → Folders) (faults : V → ℕ) where
   pub lifting-restarts : LiftingRestartsQuietly tells files faults
   lifting-restarts old mid new device given up sets =
-      let kept : AllNodes V = record mid { slots = new.slots; lines = mid.lines ++ restart_line device ∷ []; lifted = None } in
-      let down : SetsDown mid device given kept = record { down = sets.down; rest = refl } in
+      let kept : AllNodes V = record mid { slots = new.slots; lines = mid.lines ++ restart_line device ∷ []; lifted = None; containers = new.containers } in
+      let down : SetsDown mid device given kept = record { down = sets.down; containers = sets.containers; rest = refl } in
       let plain = restarts tells files faults old mid kept device given up.whole up.is_device up down in
       subst (λ (w : AllNodes V). Restarts device (quiet_sight_of tells files faults old) (quiet_sight_of tells files faults w)) (sym sets.rest)
       (restarts-blind device (sight_of tells files faults old) (sight_of tells files faults kept) plain)

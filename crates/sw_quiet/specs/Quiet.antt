@@ -1,6 +1,7 @@
 -- All nodes that keep no trail: what their user knows of them, and what setting a device down leaves. (This project's own.)
-use Rattle.std.specs.Prelude.{◌≡◌, ℕ, Bool, List, [], None}
-use Rattle.sw_core.specs.Worlds.{AllNodes, AreSetDown, first_of, sight_of}
+use Rattle.std.specs.Prelude.{◌≡◌, ℕ, Bool, true, List, [], None}
+use Rattle.sw_core.specs.Worlds.{AllNodes, AreSetDown, containers_at, first_of, place_lock, sight_of}
+use Rattle.sw_history.specs.Halves.{HalfRestarts}
 use Rattle.sw_peer.specs.Sights.{Sight}
 use Rattle.sw_volume.specs.Tree.{Folders}
 
@@ -12,7 +13,9 @@ without_trail s = record s { trail = None }
 abbrev pub quiet_sight_of : {V : Type 0} → (V → Bool) → (V → Folders) → (V → ℕ) → AllNodes V → Sight
 quiet_sight_of tells files faults w = without_trail (sight_of tells files faults w)
 
--- a device was set down over these volumes, and no line is left
+-- a device was set down over these volumes, its container locks began anew, and no line is left
 pub record SetsDownQuietly {V : Type 0} (old : AllNodes V) (device : ℕ) (volumes : List V) (new : AllNodes V) : Type 0 where
   pub down : AreSetDown old.power (first_of old.lock_bits device) volumes old.slots new.slots
-  pub rest : new ≡ record old { slots = new.slots; lines = []; lifted = None }
+  pub containers : HalfRestarts (place_lock old.lock_bits old.power) true device (containers_at old.lock_bits old.power old.containers)
+      (containers_at old.lock_bits old.power new.containers)
+  pub rest : new ≡ record old { slots = new.slots; lines = []; lifted = None; containers = new.containers }

@@ -23,7 +23,8 @@ use Rattle.sw_peer.specs.declared.part_read.Stored.{Stored}
 use Rattle.sw_replicator.proofs.Compared.{IsPicked, all-both, files-count, own-lines}
 use Rattle.sw_replicator.proofs.Reading.{files-held, files-told, lines-within, write-held, write-told}
 use Rattle.sw_replicator.specs.Meeting.{known}
-use Rattle.sw_replicator.specs.Pushing.{InTurn, IsAskedNext, IsBeside, IsCompared, IsFilePushed, IsLinePushed, IsOursPushed, IsPassedOn, IsRun, IsSuffixPushed, differing}
+use Rattle.sw_replicator.specs.Pushing.{InTurn, IsAskedNext, IsBeside, IsCompared, IsFilePushed, IsLinePushed, IsOursPushed, IsPassedOn, IsRun, IsSuffixPushed}
+use Rattle.sw_replicator.specs.Pushing.{differing}
 use Rattle.sw_state.specs.States.{writes_of}
 use Rattle.sw_state.specs.declared.state.State.{State}
 use Rattle.sw_steps.proofs.Going.{Goes, Sure, files-goes, goes-join, goes-same, hashes-goes, made-goes, part-later, sure-before, write-goes}
@@ -146,7 +147,8 @@ module _ (start : Machine) (from to part : ℕ) (hash : Hash) (apart : from ≢ 
 
   -- ---- a suffix
 
-  ours-go : (suffix : ℕ) (theirs : List DirLine) (a : Sight) (ours : Result (Vec DirLine Global) DirFault) (n : Sight) (o : Outcome) (c : Sight) (p : Outcome) (on : Bool)
+  ours-go : (suffix : ℕ) (theirs : List DirLine) (a : Sight) (ours : Result (Vec DirLine Global) DirFault) (n : Sight) (o : Outcome) (c : Sight) (p : Outcome)
+      (on : Bool)
       → Calls (IsFilesRead Local from part suffix) a Local (Ok ours) n → IsOursPushed from to part theirs ours n o c p on → Goes_on n c
   ours-go suffix theirs a (Ok ours) n o c p on reads go =
       lines-go theirs n n ours.items o c p on (goes-same start from to part hash n n refl)

@@ -100,7 +100,8 @@ module _ (hash : Hash) where
 -- ---- the exchange
 
 -- a collision doesn't depend on what a door around counts
-pub collides-out : (from to part suffix : ℕ) (acts : Acts) (s : Sight) (result : Result Outcome NoMemory) (t : Sight) (over : IsPushedOver from to part acts s result t)
+pub collides-out : (from to part suffix : ℕ) (acts : Acts) (s : Sight) (result : Result Outcome NoMemory) (t : Sight)
+    (over : IsPushedOver from to part acts s result t)
     → Collides from to part suffix (begun acts s) (sight_after over) → Collides from to part suffix s t
 collides-out from to part suffix acts s result t over c = record {
   ours = c.ours;

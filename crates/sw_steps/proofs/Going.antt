@@ -103,7 +103,8 @@ module _ (start : Machine) (from to part : ℕ) (hash : Hash) where
       → IsOfPart a.nodes.power part name.hash → (Sure a → Contains (writes_of (a.objects.holds from name.hash)) w) → Goes a b
   made-goes apart name w a r b p is own = record {
     moves = moves;
-    kept = λ sure h. (calls-moves (Moves (IsAt to name.hash)) (IsMade Sent to name (Receive w)) (made-step Sent to name (Receive w)) a Sent r b p).objects.others
+    kept = λ sure h. (calls-moves (Moves (IsAt to name.hash)) (IsMade Sent to name (Receive w)) (made-step Sent to name (Receive w)) a Sent r b
+        p).objects.others
         sure.0 from h (λ at. apart at.0);
     runs = λ sure there has. (run-received-call start to name w a r b sure.0 p
         (run-went start a from (carrying to name w) has (own (sure-before a b moves sure)))).run;

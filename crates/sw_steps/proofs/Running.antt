@@ -61,7 +61,8 @@ begun-as {D} sight old new acts now messages faults asks door are no_message no_
     ∙ (ap (λ (n : ℕ). around (sight old) acts 0 n asks) no_fault ∙ ap (λ (n : ℕ). around (sight old) acts 0 0 n) none_asked)))
 
 -- the nodes and the door around them after a push
-abbrev pub sight_after : {from to part : ℕ} {acts : Acts} {s : Sight} {result : Result Outcome NoMemory} {t : Sight} → IsPushedOver from to part acts s result t → Sight
+abbrev pub sight_after : {from to part : ℕ} {acts : Acts} {s : Sight} {result : Result Outcome NoMemory} {t : Sight} →
+    IsPushedOver from to part acts s result t → Sight
 sight_after {t = t} over = around t over.acts_behind over.messages over.faults over.asks
 
 pub pushing_runs : PushingRuns

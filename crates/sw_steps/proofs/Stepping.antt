@@ -50,7 +50,8 @@ made-nodes [] s t made = ap (λ (x : Sight). x.nodes) made
 made-nodes (step ∷ steps) s t made = made-nodes steps made.0 t made.2 ∙ step-nodes step s made.0 made.1
 
 -- a step that may be made of one world may be made of another with the same nodes
-may-still : (devices more : ℕ) (bits narrow power strong : ℕ) (secrets other : Secrets) → nodes_of more narrow strong other ≡ nodes_of devices bits power secrets → (step : Step)
+may-still : (devices more : ℕ) (bits narrow power strong : ℕ) (secrets other : Secrets) →
+    nodes_of more narrow strong other ≡ nodes_of devices bits power secrets → (step : Step)
     → MayBeMade devices power secrets step → MayBeMade more strong other step
 may-still devices more bits narrow power strong secrets other same (steps.Change device name change) may = (
   subst (λ (n : ℕ). device < n) (sym (ap (λ (n : Nodes). n.devices) same)) may.0,
@@ -60,8 +61,10 @@ may-still devices more bits narrow power strong secrets other same (steps.Read d
   subst (λ (n : ℕ). device < n) (sym (ap (λ (n : Nodes). n.devices) same)) may.0,
   ap (λ (n : Nodes). n.fits name) same ∙ may.1,
 )
-may-still devices more bits narrow power strong secrets other same (steps.List device) may = subst (λ (n : ℕ). device < n) (sym (ap (λ (n : Nodes). n.devices) same)) may
-may-still devices more bits narrow power strong secrets other same (steps.Restart device) may = subst (λ (n : ℕ). device < n) (sym (ap (λ (n : Nodes). n.devices) same)) may
+may-still devices more bits narrow power strong secrets other same (steps.List device) may =
+    subst (λ (n : ℕ). device < n) (sym (ap (λ (n : Nodes). n.devices) same)) may
+may-still devices more bits narrow power strong secrets other same (steps.Restart device) may =
+    subst (λ (n : ℕ). device < n) (sym (ap (λ (n : Nodes). n.devices) same)) may
 may-still devices more bits narrow power strong secrets other same (steps.Push from to part acts) may = (
   subst (λ (n : ℕ). from < n) (sym (ap (λ (n : Nodes). n.devices) same)) may.0,
   subst (λ (n : ℕ). to < n) (sym (ap (λ (n : Nodes). n.devices) same)) may.1,
@@ -70,7 +73,8 @@ may-still devices more bits narrow power strong secrets other same (steps.Push f
 )
 
 -- the next step may be made of the world that those before it left
-pub may-next : (steps : List Step) (i : ℕ) (step : Step) (devices bits power now_devices now_bits now_power : ℕ) (secrets now_secrets : Secrets) (lifted now_lifted : Option ℕ)
+pub may-next : (steps : List Step) (i : ℕ) (step : Step) (devices bits power now_devices now_bits now_power : ℕ) (secrets now_secrets : Secrets)
+    (lifted now_lifted : Option ℕ)
     → lifted ≡ None → now_lifted ≡ None → nodes_of (shown now_lifted now_devices) now_bits now_power now_secrets
     ≡ nodes_of (shown lifted devices) bits power secrets
     → i < length steps → step ≡ get_or steps i step → All (MayBeMade devices power secrets) steps → MayBeMade now_devices now_power now_secrets step

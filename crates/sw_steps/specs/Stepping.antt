@@ -24,7 +24,8 @@ MayBeMade devices power secrets (steps.Push from to part acts) = (from < devices
 
 -- the step was made, of nodes that were seen so before it, and so after it. A push that was hindered, or lost messages, was made
 abbrev pub IsStepMade : Step → Sight → Sight → Type 0
-IsStepMade (steps.Change device name change) s t = (answer : Answer) × (is_wanting answer ≡ false) × Calls (IsMade Local device name change) s Local (Ok answer) t
+IsStepMade (steps.Change device name change) s t = (answer : Answer) × (is_wanting answer ≡ false) × Calls (IsMade Local device name change) s Local (Ok answer)
+    t
 IsStepMade (steps.Read device name) s t = (got : Got) × (is_wanting_read got ≡ false) × Calls (IsRead Local device name) s Local (Ok got) t
 IsStepMade (steps.List device) s t = (failed : Bool) × IsListed device failed s t
 IsStepMade (steps.Restart device) s t = Restarts device s t

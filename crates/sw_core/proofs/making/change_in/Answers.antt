@@ -8,13 +8,18 @@ new-requires g c =
     let v = g.V.Volume in let k = c.args.dir.now in let n = c.change-answer.new.self in
     let made = c.change-answer.ensures.made.made in
     let adds = called-adds v.tells v.holds v.faults v.calls v.lists k n c.args.name.now c.args.change c.change-answer.result c.change-answer.ensures.called in
-    let added : c.added_since-added.result ≡ made.added = c.added_since-added.ensures k.journal.entries made.added c.front-from.ensures.length (made.adds refl) in
-    rw (c.settled_of-settled.ensures, c.front.ensures.length, c.front-from.ensures.length, c.own_entries.ensures, c.requires.doubted, added)
-    (briefed c.args.name.now.hash k.journal n.journal (own_by c.change-answer.result) adds made.added (made.adds refl))
+    let added : c.added_since-added.result ≡ made.added = c.added_since-added.ensures k.journal.entries made.added c.front-from.ensures.length (made.adds refl)
+    in
+    record {
+      settled = rw (c.settled_of-settled.ensures, c.front.ensures.length, c.front-from.ensures.length, c.own_entries.ensures, c.requires.doubted, added)
+          (briefed c.args.name.now.hash k.journal n.journal (own_by c.change-answer.result) adds made.added (made.adds refl));
+      entered = refl;
+    }
 
 pub returns : goal.returns
 returns g c =
     let k = c.args.dir.now in
     let made = c.change-answer.ensures.made.made in
-    let added : c.added_since-added.result ≡ made.added = c.added_since-added.ensures k.journal.entries made.added c.front-from.ensures.length (made.adds refl) in
+    let added : c.added_since-added.result ≡ made.added = c.added_since-added.ensures k.journal.entries made.added c.front-from.ensures.length (made.adds refl)
+    in
     record { step = c.change-answer.ensures.made; line_is = c.new.ensures ∙ rw (c.requires.named, c.of-seen.ensures, added) refl }

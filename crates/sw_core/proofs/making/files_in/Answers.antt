@@ -1,4 +1,4 @@
-use Rattle.std.proofs.Common.{◌≡◌, refl, sym, ◌∙◌, ap}
+use Rattle.std.proofs.Common.{◌≡◌, refl, ◌∙◌}
 use Rattle.sw_core.proofs.Settling.{all-briefed}
 use Rattle.sw_core.proofs.making.files_in.Goals as goal
 
@@ -7,7 +7,11 @@ new-requires g c =
     let k = c.args.dir.now in
     let read = c.files_of-got.ensures.read.read in
     let added : c.added_since.result ≡ read.added = c.added_since.ensures k.journal.entries read.added c.front-from.ensures.length (read.adds refl) in
-    rw added (all-briefed k.journal (c.files_of-got.new.self).journal read.added (read.adds refl) c.new-settled.result.items c.files_of-got.new.settled.items c.new-settled.ensures.items c.files_of-got.ensures.briefs)
+    record {
+      settled = rw added (all-briefed k.journal (c.files_of-got.new.self).journal read.added (read.adds refl) c.new-settled.result.items
+          c.files_of-got.new.settled.items c.new-settled.ensures.items c.files_of-got.ensures.briefs);
+      entered = refl;
+    }
 
 pub returns : goal.returns
 returns g c =

@@ -7,13 +7,18 @@ new-requires g c =
     let v = g.V.Volume in let k = c.args.dir.now in let n = c.get-got.new.self in
     let read = c.get-got.ensures.read.read in
     let adds = read-adds v.tells v.holds v.faults v.calls v.lists k n c.args.name.now c.get-got.result c.get-got.ensures.called in
-    let added : c.added_since-added.result ≡ read.added = c.added_since-added.ensures k.journal.entries read.added c.front-from.ensures.length (read.adds refl) in
-    rw (c.settled_of-settled.ensures, c.front.ensures.length, c.front-from.ensures.length, c.requires.doubted, added)
-    (briefed c.args.name.now.hash k.journal n.journal 0 adds read.added (read.adds refl))
+    let added : c.added_since-added.result ≡ read.added = c.added_since-added.ensures k.journal.entries read.added c.front-from.ensures.length (read.adds refl)
+    in
+    record {
+      settled = rw (c.settled_of-settled.ensures, c.front.ensures.length, c.front-from.ensures.length, c.requires.doubted, added)
+          (briefed c.args.name.now.hash k.journal n.journal 0 adds read.added (read.adds refl));
+      entered = refl;
+    }
 
 pub returns : goal.returns
 returns g c =
     let k = c.args.dir.now in
     let read = c.get-got.ensures.read.read in
-    let added : c.added_since-added.result ≡ read.added = c.added_since-added.ensures k.journal.entries read.added c.front-from.ensures.length (read.adds refl) in
+    let added : c.added_since-added.result ≡ read.added = c.added_since-added.ensures k.journal.entries read.added c.front-from.ensures.length (read.adds refl)
+    in
     record { step = c.get-got.ensures.read; line_is = c.new.ensures ∙ rw (c.of.ensures, c.of-2.ensures, added) refl }

@@ -38,5 +38,6 @@ returns-clause-whole g c =
     subst (λ (x : Change). Calls (IsMade Local c.args.device c.args.name.now x) s Local (Ok c.in-Ok.answer) t) c.in_ok-change.ensures c.in-Ok.ensures.made in
     let moves = calls-moves (Moves (IsAt c.args.device c.args.name.now.hash)) (IsMade Local c.args.device c.args.name.now c.args.change.now)
     (made-step Local c.args.device c.args.name.now c.args.change.now) s Local (Ok c.in-Ok.answer) t call in
-    still-whole c.args.world.now.lifted c.change.new.self.lifted c.args.device c.args.world.now.devices c.change.new.self.devices c.requires.whole c.requires.device
+    still-whole c.args.world.now.lifted c.change.new.self.lifted c.args.device c.args.world.now.devices c.change.new.self.devices c.requires.whole
+    c.requires.device
     (ap (λ (n : Nodes). n.devices) moves.nodes)

@@ -8,12 +8,14 @@ use Rattle.sw_steps.proofs.run.make.Goals as goal
 pub returns-in-Change-clause-made : goal.returns-in-Change-clause-made
 returns-in-Change-clause-made g c =
     let v = g.V.Volume in let see = sight_of v.tells v.holds v.faults in
-    subst (λ (x : Step). OnOk c.change_at.result (IsStepMade x (see c.args.door.now.door) (see c.change_at.new.world))) (sym c.in-Change.is) c.change_at.ensures.made
+    subst (λ (x : Step). OnOk c.change_at.result (IsStepMade x (see c.args.door.now.door) (see c.change_at.new.world))) (sym c.in-Change.is)
+    c.change_at.ensures.made
 
 pub returns-in-Change-clause-tried : goal.returns-in-Change-clause-tried
 returns-in-Change-clause-tried g c =
     let v = g.V.Volume in let see = sight_of v.tells v.holds v.faults in
-    subst (λ (x : Step). OnErr c.change_at.result (IsStepTried x (see c.args.door.now.door) (see c.change_at.new.world))) (sym c.in-Change.is) c.change_at.ensures.tried
+    subst (λ (x : Step). OnErr c.change_at.result (IsStepTried x (see c.args.door.now.door) (see c.change_at.new.world))) (sym c.in-Change.is)
+    c.change_at.ensures.tried
 
 pub returns-in-Read-clause-made : goal.returns-in-Read-clause-made
 returns-in-Read-clause-made g c =
@@ -38,19 +40,23 @@ returns-in-List-clause-tried g c =
 pub returns-in-Restart-clause-made : goal.returns-in-Restart-clause-made
 returns-in-Restart-clause-made g c =
     let v = g.V.Volume in let see = sight_of v.tells v.holds v.faults in
-    subst (λ (x : Step). OnOk c.restart_at.result (IsStepMade x (see c.args.door.now.door) (see c.restart_at.new.world))) (sym c.in-Restart.is) c.restart_at.ensures.made
+    subst (λ (x : Step). OnOk c.restart_at.result (IsStepMade x (see c.args.door.now.door) (see c.restart_at.new.world))) (sym c.in-Restart.is)
+    c.restart_at.ensures.made
 
 pub returns-in-Restart-clause-tried : goal.returns-in-Restart-clause-tried
 returns-in-Restart-clause-tried g c =
     let v = g.V.Volume in let see = sight_of v.tells v.holds v.faults in
-    subst (λ (x : Step). OnErr c.restart_at.result (IsStepTried x (see c.args.door.now.door) (see c.restart_at.new.world))) (sym c.in-Restart.is) c.restart_at.ensures.tried
+    subst (λ (x : Step). OnErr c.restart_at.result (IsStepTried x (see c.args.door.now.door) (see c.restart_at.new.world))) (sym c.in-Restart.is)
+    c.restart_at.ensures.tried
 
 pub returns-in-Push-clause-made : goal.returns-in-Push-clause-made
 returns-in-Push-clause-made g c =
     let v = g.V.Volume in let see = sight_of v.tells v.holds v.faults in
-    subst (λ (x : Step). OnOk c.push_at.result (IsStepMade x (see c.args.door.now.door) (see c.push_at.new.door.door))) (sym c.in-Push.is) c.push_at.ensures.made
+    subst (λ (x : Step). OnOk c.push_at.result (IsStepMade x (see c.args.door.now.door) (see c.push_at.new.door.door))) (sym c.in-Push.is)
+    c.push_at.ensures.made
 
 pub returns-in-Push-clause-tried : goal.returns-in-Push-clause-tried
 returns-in-Push-clause-tried g c =
     let v = g.V.Volume in let see = sight_of v.tells v.holds v.faults in
-    subst (λ (x : Step). OnErr c.push_at.result (IsStepTried x (see c.args.door.now.door) (see c.push_at.new.door.door))) (sym c.in-Push.is) c.push_at.ensures.tried
+    subst (λ (x : Step). OnErr c.push_at.result (IsStepTried x (see c.args.door.now.door) (see c.push_at.new.door.door))) (sym c.in-Push.is)
+    c.push_at.ensures.tried

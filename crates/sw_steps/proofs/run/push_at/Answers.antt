@@ -26,7 +26,8 @@ returns-in-Ok-clause-runs g c =
     let old = c.args.door.now.door in let new = c.push_over.new.door.door in
     let most : old.power ≤ 32 = subst (λ (n : ℕ). n ≤ 32) c.power.ensures.value c.power.ensures.most in
     λ start has.
-    pushing_runs start c.args.from c.args.to c.args.part c.args.acts (see old) c.push_over.result (see new) (hash_with old.power c.args.part 0) c.push_over.ensures
+    pushing_runs start c.args.from c.args.to c.args.part c.args.acts (see old) c.push_over.result (see new) (hash_with old.power c.args.part 0)
+    c.push_over.ensures
     c.requires.apart refl (of-part old.power c.args.part 0 most c.requires.part) has
 
 pub returns-in-Err-clause-runs : goal.returns-in-Err-clause-runs
@@ -35,5 +36,6 @@ returns-in-Err-clause-runs g c =
     let old = c.args.door.now.door in let new = c.push_over.new.door.door in
     let most : old.power ≤ 32 = subst (λ (n : ℕ). n ≤ 32) c.power.ensures.value c.power.ensures.most in
     λ start has.
-    pushing_runs start c.args.from c.args.to c.args.part c.args.acts (see old) c.push_over.result (see new) (hash_with old.power c.args.part 0) c.push_over.ensures
+    pushing_runs start c.args.from c.args.to c.args.part c.args.acts (see old) c.push_over.result (see new) (hash_with old.power c.args.part 0)
+    c.push_over.ensures
     c.requires.apart refl (of-part old.power c.args.part 0 most c.requires.part) has

@@ -20,11 +20,13 @@ invariant_of-self-2 g c =
       lines = i.lines.items;
       asks = i.asks;
       lifted = i.lifted;
+      containers = i.containers;
     } in
     let whole : i.lifted ≡ None = rw (sym c.self.view_is) at c.requires.whole in
     let looked = rw (c.from.ensures, c.stripes-count.ensures.value) at c.files_in-paths.ensures.looked in (
       looked-world v.tells v.holds v.faults w c.self.invariant.0 whole c.args.device c.files_in-paths.new.places.items c.push_reserved.new.self.items looked,
       roomy i.slots.items c.files_in-paths.new.places.items i.room i.lines c.push_reserved.new.self i.spare i.lifted whole looked.count c.self.invariant.1,
+      c.self.invariant.2,
     )
 
 pub returns-clause-listed : goal.returns-clause-listed
@@ -40,6 +42,7 @@ returns-clause-listed g c =
       lines = i.lines.items;
       asks = i.asks;
       lifted = i.lifted;
+      containers = i.containers;
     } in
     let whole : i.lifted ≡ None = rw (sym c.self.view_is) at c.requires.whole in
     let looked = rw (c.from.ensures, c.stripes-count.ensures.value) at c.files_in-paths.ensures.looked in

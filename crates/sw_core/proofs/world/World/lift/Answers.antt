@@ -15,6 +15,7 @@ lift_slots-requires-clause-are_open g c =
       lines = i.lines.items;
       asks = i.asks;
       lifted = i.lifted;
+      containers = i.containers;
     } in
     let whole : i.lifted ≡ None = rw (sym c.self.view_is) at c.requires.whole in
     let below : c.args.device < i.devices = rw (sym c.self.view_is) at c.requires.device in
@@ -32,6 +33,7 @@ invariant_of-self-2 g c =
       lines = i.lines.items;
       asks = i.asks;
       lifted = i.lifted;
+      containers = i.containers;
     } in
     let whole : i.lifted ≡ None = rw (sym c.self.view_is) at c.requires.whole in
     let below : c.args.device < i.devices = rw (sym c.self.view_is) at c.requires.device in
@@ -40,4 +42,5 @@ invariant_of-self-2 g c =
       roomy-out i.slots.items c.lift_slots.new.places.items i.room i.lines c.reserve.new.self i.spare c.in_ok-spare.spare i.lifted c.args.device lifted.count
           (c.in_ok-spare.ensures.items, omega (arith, c.in_ok-spare.ensures.capacity)) (omega (arith, c.in_ok-reserve.ensures.ok))
           c.self.invariant.1,
+      c.self.invariant.2,
     )

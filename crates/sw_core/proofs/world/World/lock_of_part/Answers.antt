@@ -1,14 +1,13 @@
-use Rattle.std.proofs.Common.{◌≡◌, ◌+◌, ◌-◌, ◌*◌, ◌/◌, ◌^◌, ◌<◌, length, sym, ◌∙◌, ap}
+use Rattle.std.proofs.Common.{◌-◌, ◌/◌, ◌^◌, ◌<◌, sym}
 use Rattle.sw_core.proofs.Stripes.{lock-is, lock-within, part-below}
-use Rattle.sw_core.specs.Worlds.{part_lock_of}
-use Rattle.sw_core.proofs.world.World.lock_of_part.Given.{Over}
 use Rattle.sw_core.proofs.world.World.lock_of_part.Goals as goal
 
 pub returns-clause-lock : goal.returns-clause-lock
 returns-clause-lock g c =
     let i = c.self.inside in
     let below : c.args.part < 2 ^ i.power = rw (sym c.self.view_is) at c.requires.part in
-    rw (sym c.self.view_is, c.from.ensures, c.from-2.ensures, c.stripes.ensures.value) (lock-is i.lock_bits i.power c.args.device c.args.part c.self.invariant.0.fine below)
+    rw (sym c.self.view_is, c.from.ensures, c.from-2.ensures, c.stripes.ensures.value)
+    (lock-is i.lock_bits i.power c.args.device c.args.part c.self.invariant.0.fine below)
 
 pub returns-clause-within : goal.returns-clause-within
 returns-clause-within g c =
@@ -16,4 +15,5 @@ returns-clause-within g c =
     let below : c.args.part < 2 ^ i.power = rw (sym c.self.view_is) at c.requires.part in
     let device : c.args.device < i.devices = rw (sym c.self.view_is) at c.requires.device in
     rw (sym c.self.view_is, c.from.ensures, c.from-2.ensures, c.stripes.ensures.value, c.self.invariant.0.count)
-    (lock-within i.lock_bits i.devices c.args.device (c.args.part / 2 ^ (i.power - i.lock_bits)) device (part-below i.lock_bits i.power c.args.part c.self.invariant.0.fine below))
+    (lock-within i.lock_bits i.devices c.args.device (c.args.part / 2 ^ (i.power - i.lock_bits)) device
+    (part-below i.lock_bits i.power c.args.part c.self.invariant.0.fine below))

@@ -1,4 +1,5 @@
 use Rattle.std.proofs.Common.{◌≡◌, ◌*◌, ◌^◌, ◌≤◌, length, None, refl, arith, All}
+use Rattle.sw_core.proofs.Containing.{empty-containers, empty-is}
 use Rattle.sw_core.proofs.Keeping.{opened-slots, opened-world}
 use Rattle.sw_core.proofs.Wholes.{none-some}
 use Rattle.sw_core.specs.declared.slot.Slot.TheVariants as slots
@@ -21,13 +22,16 @@ invariant_of-result g c =
     omega (arith, c.open_slots.ensures.count, same-count g c, c.args.parts.volumes.ok.0, c.len-count.ensures, c.in-Ok-with_capacity.ensures.capacity) in (
       opened-world c.in-Ok.secrets ring.power c.args.parts.volumes.items c.in-Ok-lifted_slots.slots.items c.open_slots.new.places.items (same-count g c)
           (all-out g c) c.open_slots.ensures (length c.as_slice.result.now) ring.lock_bits
-          c.new.result.items 0 few ring.few_lock_bits ring.lock_bits_within_power ring.least_power greatest amount,
+          c.new.result.items 0 c.in-Ok-empty_locks.containers few ring.few_lock_bits ring.lock_bits_within_power ring.least_power greatest amount,
       record {
         empty = c.in-Ok-with_capacity.ensures.items;
         wide = wide;
         spared = λ out. none-some None refl out;
         line = λ out. none-some None refl out;
       },
+      empty-containers c.len-count.result (length c.as_slice.result.now) ring.lock_bits c.in-Ok-empty_locks.containers
+          (omega (arith, c.len-count.ensures, c.args.parts.volumes.ok.0, amount))
+          c.in-Ok-empty_locks.ensures,
     )
 
 pub returns-clause-opens : goal.returns-clause-opens
@@ -35,4 +39,6 @@ returns-clause-opens g c =
     let ring = c.args.ring.now in
     let slots = opened-slots c.in-Ok.secrets ring.power c.args.parts.volumes.items c.in-Ok-lifted_slots.slots.items c.open_slots.new.places.items
     (same-count g c) (all-out g c) c.open_slots.ensures in
-    rw (slots, c.as_slice.ensures, c.in-Ok.ensures, c.new.ensures.items) refl
+    let containers = empty-is c.len-count.result c.args.parts.volumes.items c.in-Ok-empty_locks.containers
+    (omega (arith, c.len-count.ensures, c.args.parts.volumes.ok.0)) c.in-Ok-empty_locks.ensures in
+    rw (slots, c.as_slice.ensures, c.in-Ok.ensures, c.new.ensures.items, containers) refl

@@ -15,5 +15,6 @@ returns-clause-gives g c =
       lines = i.lines.items;
       asks = i.asks;
       lifted = i.lifted;
+      containers = i.containers;
     } in
     rw (sym c.self.view_is) (gives w c.self.invariant.0 c.volumes_in.result.items c.volumes_in.ensures)

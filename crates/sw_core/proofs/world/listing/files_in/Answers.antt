@@ -1,6 +1,7 @@
 use Rattle.std.proofs.Common.{◌≡◌, ◌+◌, ◌<◌, [], Err, Some, ℕ, length, refl, sym, ◌∙◌, ap, subst, arith, rules}
 use Rattle.std.proofs.lemmas.Option.{slice_get_read}
-use Rattle.sw_core.proofs.Listed.{calm-where, listed-all, none-found, none-looked, none-open, none-there, one-calm, one-found, one-looked, one-risen, risen-where, same-calm, stood-there, wider-looked}
+use Rattle.sw_core.proofs.Listed.{calm-where, listed-all, none-found, none-looked, none-open, none-there, one-calm, one-found, one-looked, one-risen}
+use Rattle.sw_core.proofs.Listed.{risen-where, same-calm, stood-there, wider-looked}
 use Rattle.sw_core.proofs.Slots.{same-some}
 use Rattle.sw_core.specs.Listing.{AllTell, IsPathAmong}
 use Rattle.sw_core.specs.declared.slot.Slot.TheVariants as slots
@@ -25,7 +26,8 @@ returns-in_err-add_files-clause-looked g c =
     let before = c.loop-at-test.true in
     let below : at < length now = omega arith in
     let there = slice_get_read now (length now) at c.index_mut.result.now refl below c.index_mut.ensures.value in
-    one-looked g.V.Volume.tells g.V.Volume.holds g.V.Volume.faults c.args.first at c.args.past c.args.places.now.items now c.in-Open.dir c.add_files.new.self c.loop-at.auto.at before below
+    one-looked g.V.Volume.tells g.V.Volume.holds g.V.Volume.faults c.args.first at c.args.past c.args.places.now.items now c.in-Open.dir c.add_files.new.self
+    c.loop-at.auto.at before below
     c.loop-at.invariant.looked (there ∙ ap Some c.in-Open.is)
     (record { looks = c.add_files.ensures.looks; journal = c.add_files.ensures.journal; held = c.add_files.ensures.held })
 
@@ -42,7 +44,8 @@ returns-in_err-add_files-clause-risen g c =
     λ failed. one-risen g.V.Volume.tells g.V.Volume.holds g.V.Volume.faults c.args.first at c.args.places.now.items now c.in-Open.dir c.add_files.new.self below
     c.loop-at.invariant.looked (there ∙ ap Some c.in-Open.is)
     (risen-where c.add_files.result c.from_residual.result c.in_err-add_files.field-0.0
-    (HasRisen (g.V.Volume.faults c.in-Open.dir.volume) (g.V.Volume.faults c.add_files.new.self.volume)) c.in_err-add_files.was said failed c.add_files.ensures.cause.risen)
+    (HasRisen (g.V.Volume.faults c.in-Open.dir.volume) (g.V.Volume.faults c.add_files.new.self.volume)) c.in_err-add_files.was said failed
+    c.add_files.ensures.cause.risen)
 
 pub loop-at-preserved : goal.loop-at-preserved
 loop-at-preserved g c =

@@ -20,7 +20,13 @@ lift_slot-requires g c =
     let before = c.loop-at-test.true in
     let below : at < length now = omega arith in
     let there = slice_get_read now (length now) at c.index_mut.result.now refl below c.index_mut.ensures.value in
-    record { is_open = (kept.0, open-now c.args.first at c.loop-at.volumes.items c.args.places.now.items now c.index_mut.result.now kept.0 c.loop-at.invariant.lifted there kept.1) }
+    record {
+      is_open = (
+        kept.0,
+        open-now c.args.first at c.loop-at.volumes.items c.args.places.now.items now c.index_mut.result.now kept.0
+            c.loop-at.invariant.lifted there kept.1,
+      );
+    }
 
 pub push_reserved-requires : goal.push_reserved-requires
 push_reserved-requires g c =
@@ -47,7 +53,8 @@ loop-at-preserved g c =
     let room = c.loop-at.invariant.room in
     let kept_room = c.push_reserved.ensures.in_place in
     record {
-      lifted = rw (c.push_reserved.ensures.items, gives.0) (one-lifted c.args.first at given old now kept.0 c.lift_slot.new.place below lifted (there ∙ ap Some is) gives.1);
+      lifted = rw (c.push_reserved.ensures.items, gives.0) (one-lifted c.args.first at given old now kept.0 c.lift_slot.new.place below lifted
+          (there ∙ ap Some is) gives.1);
       told = one-tells g.V.Volume.tells g.V.Volume.holds g.V.Volume.faults c.args.first at old kept.0 kept.1 c.loop-at.invariant.told gives.2;
       room = omega arith;
     }

@@ -17,41 +17,110 @@ use Rattle.sw_core.proofs.world.door.WorldObjectDoor.get.Goals as goal
 pub returns-then-is_err-clause-read : goal.returns-then-is_err-clause-read
 returns-then-is_err-clause-read g c =
     let v = g.V.Volume in let i = c.self.inside in
-    let w : AllNodes _ = record { devices = i.devices; lock_bits = i.lock_bits; power = i.power; secrets = i.secrets; slots = i.slots.items; lines = i.lines.items; asks = i.asks; lifted = i.lifted } in
+    let w : AllNodes _ = record {
+      devices = i.devices;
+      lock_bits = i.lock_bits;
+      power = i.power;
+      secrets = i.secrets;
+      slots = i.slots.items;
+      lines = i.lines.items;
+      asks = i.asks;
+      lifted = i.lifted;
+      containers = i.containers;
+    } in
     rw (sym c.self.view_is) (wants-read v.tells v.holds v.faults w c.reserve.new.self.items c.reserve.ensures.items c.args.link c.args.device c.args.name.now)
 
 pub invariant_of-self-2 : goal.invariant_of-self-2
 invariant_of-self-2 g c =
     let i = c.self.inside in
-    let w : AllNodes _ = record { devices = i.devices; lock_bits = i.lock_bits; power = i.power; secrets = i.secrets; slots = i.slots.items; lines = i.lines.items; asks = i.asks; lifted = i.lifted } in
-    let whole : i.lifted ≡ None = none-out i.lifted c.args.device i.devices (rw (sym c.self.view_is) at c.requires.device) in
-    (lined w c.self.invariant.0 c.reserve.new.self.items i.asks, roomy i.slots.items i.slots.items i.room i.lines c.reserve.new.self i.spare i.lifted whole refl c.self.invariant.1)
+    let w : AllNodes _ = record {
+      devices = i.devices;
+      lock_bits = i.lock_bits;
+      power = i.power;
+      secrets = i.secrets;
+      slots = i.slots.items;
+      lines = i.lines.items;
+      asks = i.asks;
+      lifted = i.lifted;
+      containers = i.containers;
+    } in
+    let whole : i.lifted ≡ None = none-out i.lifted c.args.device i.devices (rw (sym c.self.view_is) at c.requires.device) in (
+      lined w c.self.invariant.0 c.reserve.new.self.items i.asks,
+      roomy i.slots.items i.slots.items i.room i.lines c.reserve.new.self i.spare i.lifted whole refl
+          c.self.invariant.1,
+      c.self.invariant.2,
+    )
 
 pub invariant_of-self-in_default : goal.invariant_of-self-in_default
 invariant_of-self-in_default g c =
     let i = c.self.inside in
-    let w : AllNodes _ = record { devices = i.devices; lock_bits = i.lock_bits; power = i.power; secrets = i.secrets; slots = i.slots.items; lines = i.lines.items; asks = i.asks; lifted = i.lifted } in
-    let whole : i.lifted ≡ None = none-out i.lifted c.args.device i.devices (rw (sym c.self.view_is) at c.requires.device) in
-    (lined w c.self.invariant.0 c.reserve.new.self.items i.asks, roomy i.slots.items i.slots.items i.room i.lines c.reserve.new.self i.spare i.lifted whole refl c.self.invariant.1)
+    let w : AllNodes _ = record {
+      devices = i.devices;
+      lock_bits = i.lock_bits;
+      power = i.power;
+      secrets = i.secrets;
+      slots = i.slots.items;
+      lines = i.lines.items;
+      asks = i.asks;
+      lifted = i.lifted;
+      containers = i.containers;
+    } in
+    let whole : i.lifted ≡ None = none-out i.lifted c.args.device i.devices (rw (sym c.self.view_is) at c.requires.device) in (
+      lined w c.self.invariant.0 c.reserve.new.self.items i.asks,
+      roomy i.slots.items i.slots.items i.room i.lines c.reserve.new.self i.spare i.lifted whole refl
+          c.self.invariant.1,
+      c.self.invariant.2,
+    )
 
 pub returns-in_default-clause-read : goal.returns-in_default-clause-read
 returns-in_default-clause-read g c =
     let v = g.V.Volume in let i = c.self.inside in
-    let w : AllNodes _ = record { devices = i.devices; lock_bits = i.lock_bits; power = i.power; secrets = i.secrets; slots = i.slots.items; lines = i.lines.items; asks = i.asks; lifted = i.lifted } in
+    let w : AllNodes _ = record {
+      devices = i.devices;
+      lock_bits = i.lock_bits;
+      power = i.power;
+      secrets = i.secrets;
+      slots = i.slots.items;
+      lines = i.lines.items;
+      asks = i.asks;
+      lifted = i.lifted;
+      containers = i.containers;
+    } in
     rw (sym c.self.view_is) (wants-read v.tells v.holds v.faults w c.reserve.new.self.items c.reserve.ensures.items c.args.link c.args.device c.args.name.now)
 
 pub unreachable-requires : goal.unreachable-requires
 unreachable-requires g c =
     let i = c.self.inside in
-    let w : AllNodes _ = record { devices = i.devices; lock_bits = i.lock_bits; power = i.power; secrets = i.secrets; slots = i.slots.items; lines = i.lines.items; asks = i.asks; lifted = i.lifted } in
+    let w : AllNodes _ = record {
+      devices = i.devices;
+      lock_bits = i.lock_bits;
+      power = i.power;
+      secrets = i.secrets;
+      slots = i.slots.items;
+      lines = i.lines.items;
+      asks = i.asks;
+      lifted = i.lifted;
+      containers = i.containers;
+    } in
     let whole : i.lifted ≡ None = none-out i.lifted c.args.device i.devices (rw (sym c.self.view_is) at c.requires.device) in
     let there = open-at w c.self.invariant.0 whole c.lock-place.result c.lock-place.ensures.within in
-    absurd (c.in_default-index_mut.not-Open there.0 (some-same c.index_mut.result.now (slots.Open there.0) (sym (found i.slots.items c.lock-place.result c.index_mut.result.now c.lock-place.ensures.within c.index_mut.ensures.value) ∙ there.1)))
+    absurd (c.in_default-index_mut.not-Open there.0 (some-same c.index_mut.result.now (slots.Open there.0)
+    (sym (found i.slots.items c.lock-place.result c.index_mut.result.now c.lock-place.ensures.within c.index_mut.ensures.value) ∙ there.1)))
 
 pub get_in-got-requires-clause-hashed : goal.get_in-got-requires-clause-hashed
 get_in-got-requires-clause-hashed g c =
     let i = c.self.inside in
-    let w : AllNodes _ = record { devices = i.devices; lock_bits = i.lock_bits; power = i.power; secrets = i.secrets; slots = i.slots.items; lines = i.lines.items; asks = i.asks; lifted = i.lifted } in
+    let w : AllNodes _ = record {
+      devices = i.devices;
+      lock_bits = i.lock_bits;
+      power = i.power;
+      secrets = i.secrets;
+      slots = i.slots.items;
+      lines = i.lines.items;
+      asks = i.asks;
+      lifted = i.lifted;
+      containers = i.containers;
+    } in
     let whole : i.lifted ≡ None = none-out i.lifted c.args.device i.devices (rw (sym c.self.view_is) at c.requires.device) in
     let at : slice_get i.slots.items c.lock-place.result ≡ Some (slots.Open c.in-Open.dir) =
     found i.slots.items c.lock-place.result c.index_mut.result.now c.lock-place.ensures.within c.index_mut.ensures.value ∙ ap Some c.in-Open.is in
@@ -61,32 +130,60 @@ get_in-got-requires-clause-hashed g c =
 pub invariant_of-self-3 : goal.invariant_of-self-3
 invariant_of-self-3 g c =
     let i = c.self.inside in
-    let w : AllNodes _ = record { devices = i.devices; lock_bits = i.lock_bits; power = i.power; secrets = i.secrets; slots = i.slots.items; lines = i.lines.items; asks = i.asks; lifted = i.lifted } in
+    let w : AllNodes _ = record {
+      devices = i.devices;
+      lock_bits = i.lock_bits;
+      power = i.power;
+      secrets = i.secrets;
+      slots = i.slots.items;
+      lines = i.lines.items;
+      asks = i.asks;
+      lifted = i.lifted;
+      containers = i.containers;
+    } in
     let whole : i.lifted ≡ None = none-out i.lifted c.args.device i.devices (rw (sym c.self.view_is) at c.requires.device) in
     let at : slice_get i.slots.items c.lock-place.result ≡ Some (slots.Open c.in-Open.dir) =
     found i.slots.items c.lock-place.result c.index_mut.result.now c.lock-place.ensures.within c.index_mut.ensures.value ∙ ap Some c.in-Open.is in
     let same = c.get_in-got.ensures.step.same in let read = c.get_in-got.ensures.step.read in (
-      stepped w c.self.invariant.0 whole c.lock-place.result c.in-Open.dir c.get_in-got.new.dir c.push_reserved.new.self.items i.asks at same.secrets same.power read.follows.max_entries read.follows.max_bytes,
-      roomy i.slots.items _ i.room i.lines c.push_reserved.new.self i.spare i.lifted whole (length-set i.slots.items c.lock-place.result (slots.Open c.get_in-got.new.dir)) c.self.invariant.1,
+      stepped w c.self.invariant.0 whole c.lock-place.result c.in-Open.dir c.get_in-got.new.dir c.push_reserved.new.self.items i.asks at same.secrets same.power
+          read.follows.max_entries read.follows.max_bytes,
+      roomy i.slots.items _ i.room i.lines c.push_reserved.new.self i.spare i.lifted whole
+          (length-set i.slots.items c.lock-place.result (slots.Open c.get_in-got.new.dir)) c.self.invariant.1,
+      c.self.invariant.2,
     )
 
 pub returns-clause-read : goal.returns-clause-read
 returns-clause-read g c =
     let v = g.V.Volume in let i = c.self.inside in
-    let w : AllNodes _ = record { devices = i.devices; lock_bits = i.lock_bits; power = i.power; secrets = i.secrets; slots = i.slots.items; lines = i.lines.items; asks = i.asks; lifted = i.lifted } in
+    let w : AllNodes _ = record {
+      devices = i.devices;
+      lock_bits = i.lock_bits;
+      power = i.power;
+      secrets = i.secrets;
+      slots = i.slots.items;
+      lines = i.lines.items;
+      asks = i.asks;
+      lifted = i.lifted;
+      containers = i.containers;
+    } in
     let d : Kept _ = c.in-Open.dir in
     let x : Kept _ = c.get_in-got.new.dir in
     let there : slice_get i.slots.items c.lock-place.result ≡ Some (slots.Open d) =
     found i.slots.items c.lock-place.result c.index_mut.result.now c.lock-place.ensures.within c.index_mut.ensures.value ∙ ap Some c.in-Open.is in
-    let at : slice_get w.slots (lock_of w.lock_bits w.power c.args.device c.args.name.now.hash) ≡ Some (slots.Open d) = ap (slice_get w.slots) (sym c.lock-place.ensures.lock) ∙ there in
+    let at : slice_get w.slots (lock_of w.lock_bits w.power c.args.device c.args.name.now.hash) ≡ Some (slots.Open d) =
+    ap (slice_get w.slots) (sym c.lock-place.ensures.lock) ∙ there in
     let step = c.get_in-got.ensures.step in
     let line : Line = record { device = c.args.device; link = c.args.link; event = Read c.args.name.now c.get_in-got.result.0; added = step.read.added } in
-    let items : c.push_reserved.new.self.items ≡ w.lines ++ line ∷ [] = c.push_reserved.ensures.items ∙ rw (c.reserve.ensures.items, c.get_in-got.ensures.line_is) refl in
+    let items : c.push_reserved.new.self.items ≡ w.lines ++ line ∷ [] =
+    c.push_reserved.ensures.items ∙ rw (c.reserve.ensures.items, c.get_in-got.ensures.line_is) refl in
     rw (sym c.self.view_is, c.lock-place.ensures.lock)
-    (calls-once (Moves (IsAt c.args.device c.args.name.now.hash)) (IsRead c.args.link c.args.device c.args.name.now) (read-step c.args.link c.args.device c.args.name.now)
-    (sight_of v.tells v.holds v.faults w) (sight_of v.tells v.holds v.faults (after v.tells v.holds v.faults w c.args.device c.args.name.now d x at c.push_reserved.new.self.items)) c.args.link c.get_in-got.result.0
+    (calls-once (Moves (IsAt c.args.device c.args.name.now.hash)) (IsRead c.args.link c.args.device c.args.name.now)
+    (read-step c.args.link c.args.device c.args.name.now)
+    (sight_of v.tells v.holds v.faults w) (sight_of v.tells v.holds v.faults
+    (after v.tells v.holds v.faults w c.args.device c.args.name.now d x at c.push_reserved.new.self.items)) c.args.link c.get_in-got.result.0
     (faithful-once c.args.link)
-    (world-read v.tells v.holds v.faults w c.args.device c.args.name.now d x at c.push_reserved.new.self.items c.args.link c.get_in-got.result.0 step.all step.read items))
+    (world-read v.tells v.holds v.faults w c.args.device c.args.name.now d x at c.push_reserved.new.self.items c.args.link c.get_in-got.result.0 step.all
+    step.read items))
 
 pub push_reserved-requires : goal.push_reserved-requires
 push_reserved-requires g c = reserved c.reserve.result _ _ (sym c.is_err.ensures.value ∙ c.if-is_err.false) c.reserve.ensures.ok

@@ -1,21 +1,18 @@
-use Rattle.std.proofs.Common.{◌≡◌, ◌^◌, ◌<◌, ◌≤◌, true, false, [], ◌∷◌, ◌++◌, Some, None, refl, sym, ◌∙◌, ap, subst, arith}
+use Rattle.std.proofs.Common.{◌≡◌, true, [], ◌∷◌, ◌++◌, Some, None, refl, sym, ◌∙◌, ap, subst}
 use Rattle.std.proofs.lemmas.List.{length-set}
-use Rattle.std.specs.Bool.{⊤}
 use Rattle.std.specs.List.{slice_get}
-use Rattle.sw_hashpath.specs.HashParts.{suffix_of}
 use Rattle.sw_hashdir.specs.Steps.{is_hashed}
 use Rattle.sw_objdir.specs.Directories.{Kept}
 use Rattle.sw_peer.proofs.Calls.{calls-once, faithful-once, write-step}
 use Rattle.sw_peer.specs.Journals.{Hash}
-use Rattle.sw_peer.specs.Parts.{AreHashes, AreLines, IsFile, IsOfPart}
+use Rattle.sw_peer.specs.Parts.{IsFile, IsOfPart}
 use Rattle.sw_peer.specs.Sights.{IsWriteRead, PartMoves}
 use Rattle.sw_peer.specs.declared.line.Event.TheVariants.{ReadPart}
 use Rattle.sw_peer.specs.declared.line.Line.{Line}
-use Rattle.sw_peer.specs.declared.part_read.PartRead.TheVariants.{Files, Hashes, Write}
+use Rattle.sw_peer.specs.declared.part_read.PartRead.TheVariants.{Write}
 use Rattle.sw_core.proofs.Placed.{part_after, world-part}
-use Rattle.sw_core.proofs.Wanting.{wants-part}
+use Rattle.sw_core.proofs.Wanting.{reserved, wants-part}
 use Rattle.sw_core.proofs.Wholes.{found, lined, none-out, open-at, open-is, roomy, some-same, stepped}
-use Rattle.sw_core.proofs.Witness.{hash_with, of-part, of-suffix}
 use Rattle.sw_core.specs.Worlds.{AllNodes, part_lock_of, sight_of}
 use Rattle.sw_core.specs.declared.slot.Slot.TheVariants as slots
 use Rattle.sw_core.proofs.world.door.WorldReplicaDoor.read_write.Goals as goal
@@ -23,76 +20,180 @@ use Rattle.sw_core.proofs.world.door.WorldReplicaDoor.read_write.Goals as goal
 pub returns-then-is_err-clause-read : goal.returns-then-is_err-clause-read
 returns-then-is_err-clause-read g c =
     let v = g.V.Volume in let i = c.self.inside in
-    let w : AllNodes _ = record { devices = i.devices; lock_bits = i.lock_bits; power = i.power; secrets = i.secrets; slots = i.slots.items; lines = i.lines.items; asks = i.asks; lifted = i.lifted } in
+    let w : AllNodes _ = record {
+      devices = i.devices;
+      lock_bits = i.lock_bits;
+      power = i.power;
+      secrets = i.secrets;
+      slots = i.slots.items;
+      lines = i.lines.items;
+      asks = i.asks;
+      lifted = i.lifted;
+      containers = i.containers;
+    } in
     rw (sym c.self.view_is) (wants-part v.tells v.holds v.faults w c.reserve.new.self.items c.reserve.ensures.items c.args.link c.args.device c.args.part i.asks
-    (λ other. other ≡ c.args.hash.now) true (λ nodes told s got. IsFile nodes.fits c.args.hash.now c.args.file.now told s got) (λ got. Write c.args.part c.args.hash.now c.args.file.now got))
+    (λ other. other ≡ c.args.hash.now) true (λ nodes told s got. IsFile nodes.fits c.args.hash.now c.args.file.now told s got)
+    (λ got. Write c.args.part c.args.hash.now c.args.file.now got))
 
 pub unreachable-requires : goal.unreachable-requires
 unreachable-requires g c =
     let i = c.self.inside in
-    let w : AllNodes _ = record { devices = i.devices; lock_bits = i.lock_bits; power = i.power; secrets = i.secrets; slots = i.slots.items; lines = i.lines.items; asks = i.asks; lifted = i.lifted } in
+    let w : AllNodes _ = record {
+      devices = i.devices;
+      lock_bits = i.lock_bits;
+      power = i.power;
+      secrets = i.secrets;
+      slots = i.slots.items;
+      lines = i.lines.items;
+      asks = i.asks;
+      lifted = i.lifted;
+      containers = i.containers;
+    } in
     let whole : i.lifted ≡ None = none-out i.lifted c.args.device i.devices (rw (sym c.self.view_is) at c.requires.device) in
     let there = open-at w c.self.invariant.0 whole c.lock_of_part-place.result c.lock_of_part-place.ensures.within in
-    absurd (c.in_default.not-Open there.0 (some-same c.index_mut.result.now (slots.Open there.0) (sym (found i.slots.items c.lock_of_part-place.result c.index_mut.result.now c.lock_of_part-place.ensures.within c.index_mut.ensures.value) ∙ there.1)))
+    absurd (c.in_default.not-Open there.0 (some-same c.index_mut.result.now (slots.Open there.0)
+    (sym (found i.slots.items c.lock_of_part-place.result c.index_mut.result.now c.lock_of_part-place.ensures.within c.index_mut.ensures.value) ∙ there.1)))
 
 pub write_in-got-requires : goal.write_in-got-requires
 write_in-got-requires g c =
     let i = c.self.inside in
-    let w : AllNodes _ = record { devices = i.devices; lock_bits = i.lock_bits; power = i.power; secrets = i.secrets; slots = i.slots.items; lines = i.lines.items; asks = i.asks; lifted = i.lifted } in
+    let w : AllNodes _ = record {
+      devices = i.devices;
+      lock_bits = i.lock_bits;
+      power = i.power;
+      secrets = i.secrets;
+      slots = i.slots.items;
+      lines = i.lines.items;
+      asks = i.asks;
+      lifted = i.lifted;
+      containers = i.containers;
+    } in
     let whole : i.lifted ≡ None = none-out i.lifted c.args.device i.devices (rw (sym c.self.view_is) at c.requires.device) in
     let at : slice_get i.slots.items c.lock_of_part-place.result ≡ Some (slots.Open c.in-Open.dir) =
-    found i.slots.items c.lock_of_part-place.result c.index_mut.result.now c.lock_of_part-place.ensures.within c.index_mut.ensures.value ∙ ap Some c.in-Open.is in
+    found i.slots.items c.lock_of_part-place.result c.index_mut.result.now c.lock_of_part-place.ensures.within c.index_mut.ensures.value ∙ ap Some c.in-Open.is
+    in
     let power : c.in-Open.dir.power ≡ i.power = (open-is w c.self.invariant.0 whole c.lock_of_part-place.result c.in-Open.dir at).1 in
     record { within = subst (λ (n : _). IsOfPart n c.args.part c.args.hash.now) (sym power) (rw (sym c.self.view_is) at c.requires.within) }
 
 pub invariant_of-self-3 : goal.invariant_of-self-3
 invariant_of-self-3 g c =
     let i = c.self.inside in
-    let w : AllNodes _ = record { devices = i.devices; lock_bits = i.lock_bits; power = i.power; secrets = i.secrets; slots = i.slots.items; lines = i.lines.items; asks = i.asks; lifted = i.lifted } in
+    let w : AllNodes _ = record {
+      devices = i.devices;
+      lock_bits = i.lock_bits;
+      power = i.power;
+      secrets = i.secrets;
+      slots = i.slots.items;
+      lines = i.lines.items;
+      asks = i.asks;
+      lifted = i.lifted;
+      containers = i.containers;
+    } in
     let whole : i.lifted ≡ None = none-out i.lifted c.args.device i.devices (rw (sym c.self.view_is) at c.requires.device) in
     let at : slice_get i.slots.items c.lock_of_part-place.result ≡ Some (slots.Open c.in-Open.dir) =
-    found i.slots.items c.lock_of_part-place.result c.index_mut.result.now c.lock_of_part-place.ensures.within c.index_mut.ensures.value ∙ ap Some c.in-Open.is in
+    found i.slots.items c.lock_of_part-place.result c.index_mut.result.now c.lock_of_part-place.ensures.within c.index_mut.ensures.value ∙ ap Some c.in-Open.is
+    in
     let same = c.write_in-got.ensures.step.same in let read = c.write_in-got.ensures.step.read in (
-      stepped w c.self.invariant.0 whole c.lock_of_part-place.result c.in-Open.dir c.write_in-got.new.dir c.push_reserved.new.self.items i.asks at same.secrets same.power read.follows.max_entries read.follows.max_bytes,
-      roomy i.slots.items _ i.room i.lines c.push_reserved.new.self i.spare i.lifted whole (length-set i.slots.items c.lock_of_part-place.result (slots.Open c.write_in-got.new.dir)) c.self.invariant.1,
+      stepped w c.self.invariant.0 whole c.lock_of_part-place.result c.in-Open.dir c.write_in-got.new.dir c.push_reserved.new.self.items i.asks at same.secrets
+          same.power read.follows.max_entries read.follows.max_bytes,
+      roomy i.slots.items _ i.room i.lines c.push_reserved.new.self i.spare i.lifted whole
+          (length-set i.slots.items c.lock_of_part-place.result (slots.Open c.write_in-got.new.dir)) c.self.invariant.1,
+      c.self.invariant.2,
     )
 
 pub returns-clause-read : goal.returns-clause-read
 returns-clause-read g c =
     let v = g.V.Volume in let i = c.self.inside in
-    let w : AllNodes _ = record { devices = i.devices; lock_bits = i.lock_bits; power = i.power; secrets = i.secrets; slots = i.slots.items; lines = i.lines.items; asks = i.asks; lifted = i.lifted } in
+    let w : AllNodes _ = record {
+      devices = i.devices;
+      lock_bits = i.lock_bits;
+      power = i.power;
+      secrets = i.secrets;
+      slots = i.slots.items;
+      lines = i.lines.items;
+      asks = i.asks;
+      lifted = i.lifted;
+      containers = i.containers;
+    } in
     let whole : i.lifted ≡ None = none-out i.lifted c.args.device i.devices (rw (sym c.self.view_is) at c.requires.device) in
     let at : slice_get i.slots.items c.lock_of_part-place.result ≡ Some (slots.Open c.in-Open.dir) =
-    found i.slots.items c.lock_of_part-place.result c.index_mut.result.now c.lock_of_part-place.ensures.within c.index_mut.ensures.value ∙ ap Some c.in-Open.is in
+    found i.slots.items c.lock_of_part-place.result c.index_mut.result.now c.lock_of_part-place.ensures.within c.index_mut.ensures.value ∙ ap Some c.in-Open.is
+    in
     let d : Kept _ = c.in-Open.dir in
     let x : Kept _ = c.write_in-got.new.dir in
-    let here : slice_get w.slots (part_lock_of w.lock_bits w.power c.args.device c.args.part) ≡ Some (slots.Open d) = ap (slice_get w.slots) (sym c.lock_of_part-place.ensures.lock) ∙ at in
+    let here : slice_get w.slots (part_lock_of w.lock_bits w.power c.args.device c.args.part) ≡ Some (slots.Open d) =
+    ap (slice_get w.slots) (sym c.lock_of_part-place.ensures.lock) ∙ at in
     let power : d.power ≡ i.power = (open-is w c.self.invariant.0 whole c.lock_of_part-place.result d at).1 in
     let secrets : d.secrets ≡ i.secrets = (open-is w c.self.invariant.0 whole c.lock_of_part-place.result d at).0 in
     let step = c.write_in-got.ensures.step in
-    let line : Line = record { device = c.args.device; link = c.args.link; event = ReadPart (Write c.args.part c.args.hash.now c.args.file.now c.write_in-got.result.0); added = step.read.added } in
-    let items : c.push_reserved.new.self.items ≡ w.lines ++ line ∷ [] = c.push_reserved.ensures.items ∙ rw (c.reserve.ensures.items, c.write_in-got.ensures.line_is) refl in
+    let line : Line = record {
+      device = c.args.device;
+      link = c.args.link;
+      event = ReadPart (Write c.args.part c.args.hash.now c.args.file.now c.write_in-got.result.0);
+      added = step.read.added;
+    } in
+    let items : c.push_reserved.new.self.items ≡ w.lines ++ line ∷ [] =
+    c.push_reserved.ensures.items ∙ rw (c.reserve.ensures.items, c.write_in-got.ensures.line_is) refl in
     let hash : Hash = c.args.hash.now in
     let of : IsOfPart i.power c.args.part hash = rw (sym c.self.view_is) at c.requires.within in
     rw (sym c.self.view_is, c.lock_of_part-place.ensures.lock)
-    (calls-once (PartMoves c.args.device c.args.part (λ other. other ≡ c.args.hash.now)) (IsWriteRead c.args.link c.args.device c.args.part c.args.hash.now c.args.file.now) (write-step c.args.link c.args.device c.args.part c.args.hash.now c.args.file.now)
+    (calls-once (PartMoves c.args.device c.args.part (λ other. other ≡ c.args.hash.now))
+    (IsWriteRead c.args.link c.args.device c.args.part c.args.hash.now c.args.file.now)
+    (write-step c.args.link c.args.device c.args.part c.args.hash.now c.args.file.now)
     (sight_of v.tells v.holds v.faults w)
-    (sight_of v.tells v.holds v.faults (part_after v.tells v.holds v.faults w c.args.device c.args.part d x here c.push_reserved.new.self.items i.asks (λ other. other ≡ c.args.hash.now) (λ k. IsOfPart d.power c.args.part k × (k ≡ c.args.hash.now)) true (λ nodes told s got. IsFile nodes.fits c.args.hash.now c.args.file.now told s got) (λ told s got. IsFile (is_hashed d.secrets) c.args.hash.now c.args.file.now told s got) (λ got. Write c.args.part c.args.hash.now c.args.file.now got)))
+    (sight_of v.tells v.holds v.faults (part_after v.tells v.holds v.faults w c.args.device c.args.part d x here c.push_reserved.new.self.items i.asks
+    (λ other. other ≡ c.args.hash.now) (λ k. IsOfPart d.power c.args.part k × (k ≡ c.args.hash.now)) true
+    (λ nodes told s got. IsFile nodes.fits c.args.hash.now c.args.file.now told s got)
+    (λ told s got. IsFile (is_hashed d.secrets) c.args.hash.now c.args.file.now told s got) (λ got. Write c.args.part c.args.hash.now c.args.file.now got)))
     c.args.link c.write_in-got.result.0
     (faithful-once c.args.link)
-    (world-part v.tells v.holds v.faults w c.args.device c.args.part d x here c.push_reserved.new.self.items i.asks (λ other. other ≡ c.args.hash.now) (λ k. IsOfPart d.power c.args.part k × (k ≡ c.args.hash.now)) true (λ nodes told s got. IsFile nodes.fits c.args.hash.now c.args.file.now told s got) (λ told s got. IsFile (is_hashed d.secrets) c.args.hash.now c.args.file.now told s got) (λ got. Write c.args.part c.args.hash.now c.args.file.now got)
-    c.args.link c.write_in-got.result.0 hash of refl (λ k is. (subst (λ (n : _). IsOfPart n c.args.part k) (sym power) is.0, is.1)) (λ b s y is. subst (λ (q : _). IsFile (is_hashed q) c.args.hash.now c.args.file.now b s y) secrets is) step items))
+    (world-part v.tells v.holds v.faults w c.args.device c.args.part d x here c.push_reserved.new.self.items i.asks (λ other. other ≡ c.args.hash.now)
+    (λ k. IsOfPart d.power c.args.part k × (k ≡ c.args.hash.now)) true (λ nodes told s got. IsFile nodes.fits c.args.hash.now c.args.file.now told s got)
+    (λ told s got. IsFile (is_hashed d.secrets) c.args.hash.now c.args.file.now told s got) (λ got. Write c.args.part c.args.hash.now c.args.file.now got)
+    c.args.link c.write_in-got.result.0 hash of refl (λ k is. (subst (λ (n : _). IsOfPart n c.args.part k) (sym power) is.0, is.1))
+    (λ b s y is. subst (λ (q : _). IsFile (is_hashed q) c.args.hash.now c.args.file.now b s y) secrets is) step items))
 
 pub invariant_of-self : goal.invariant_of-self
 invariant_of-self g c =
     let i = c.self.inside in
-    let w : AllNodes _ = record { devices = i.devices; lock_bits = i.lock_bits; power = i.power; secrets = i.secrets; slots = i.slots.items; lines = i.lines.items; asks = i.asks; lifted = i.lifted } in
-    let whole : i.lifted ≡ None = none-out i.lifted c.args.device i.devices (rw (sym c.self.view_is) at c.requires.device) in
-    (lined w c.self.invariant.0 c.reserve.new.self.items i.asks, roomy i.slots.items i.slots.items i.room i.lines c.reserve.new.self i.spare i.lifted whole refl c.self.invariant.1)
+    let w : AllNodes _ = record {
+      devices = i.devices;
+      lock_bits = i.lock_bits;
+      power = i.power;
+      secrets = i.secrets;
+      slots = i.slots.items;
+      lines = i.lines.items;
+      asks = i.asks;
+      lifted = i.lifted;
+      containers = i.containers;
+    } in
+    let whole : i.lifted ≡ None = none-out i.lifted c.args.device i.devices (rw (sym c.self.view_is) at c.requires.device) in (
+      lined w c.self.invariant.0 c.reserve.new.self.items i.asks,
+      roomy i.slots.items i.slots.items i.room i.lines c.reserve.new.self i.spare i.lifted whole refl
+          c.self.invariant.1,
+      c.self.invariant.2,
+    )
 
 pub invariant_of-self-2 : goal.invariant_of-self-2
 invariant_of-self-2 g c =
     let i = c.self.inside in
-    let w : AllNodes _ = record { devices = i.devices; lock_bits = i.lock_bits; power = i.power; secrets = i.secrets; slots = i.slots.items; lines = i.lines.items; asks = i.asks; lifted = i.lifted } in
-    let whole : i.lifted ≡ None = none-out i.lifted c.args.device i.devices (rw (sym c.self.view_is) at c.requires.device) in
-    (lined w c.self.invariant.0 c.reserve.new.self.items i.asks, roomy i.slots.items i.slots.items i.room i.lines c.reserve.new.self i.spare i.lifted whole refl c.self.invariant.1)
+    let w : AllNodes _ = record {
+      devices = i.devices;
+      lock_bits = i.lock_bits;
+      power = i.power;
+      secrets = i.secrets;
+      slots = i.slots.items;
+      lines = i.lines.items;
+      asks = i.asks;
+      lifted = i.lifted;
+      containers = i.containers;
+    } in
+    let whole : i.lifted ≡ None = none-out i.lifted c.args.device i.devices (rw (sym c.self.view_is) at c.requires.device) in (
+      lined w c.self.invariant.0 c.reserve.new.self.items i.asks,
+      roomy i.slots.items i.slots.items i.room i.lines c.reserve.new.self i.spare i.lifted whole refl
+          c.self.invariant.1,
+      c.self.invariant.2,
+    )
+
+pub push_reserved-requires : goal.push_reserved-requires
+push_reserved-requires g c = reserved c.reserve.result _ _ (sym c.is_err.ensures.value ∙ c.if-is_err.false) c.reserve.ensures.ok

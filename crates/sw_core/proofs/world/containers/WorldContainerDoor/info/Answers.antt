@@ -1,0 +1,70 @@
+use Rattle.std.proofs.Common.{◌≡◌, [], ◌∷◌, ◌++◌, None, refl, sym, ◌∙◌}
+use Rattle.sw_core.proofs.Containing.{still-there, wants-look, world-look}
+use Rattle.sw_core.proofs.Wanting.{reserved}
+use Rattle.sw_core.proofs.Wholes.{contained, none-out, roomy}
+use Rattle.sw_core.specs.Worlds.{AllNodes}
+use Rattle.sw_container_steps.specs.Reads.{info_of}
+use Rattle.sw_peer.specs.declared.cont_event.ContEvent.TheVariants.{Informed}
+use Rattle.sw_core.proofs.world.containers.WorldContainerDoor.info.Goals as goal
+
+pub returns-then-is_err-clause-read : goal.returns-then-is_err-clause-read
+returns-then-is_err-clause-read g c =
+    let v = g.V.Volume in
+    let i = c.self.inside in
+    let w : AllNodes _ = record {
+      devices = i.devices;
+      lock_bits = i.lock_bits;
+      power = i.power;
+      secrets = i.secrets;
+      slots = i.slots.items;
+      lines = i.lines.items;
+      asks = i.asks;
+      lifted = i.lifted;
+      containers = i.containers;
+    } in
+    rw (sym c.self.view_is) (wants-look v.tells v.holds v.faults w c.args.link c.args.device c.args.place.now info_of (λ got. Informed c.args.place.now got)
+    c.reserve.new.self.items c.reserve.ensures.items)
+
+pub push_reserved-requires : goal.push_reserved-requires
+push_reserved-requires g c = reserved c.reserve.result _ _ (sym c.is_err.ensures.value ∙ c.if-is_err.false) c.reserve.ensures.ok
+
+pub invariant_of-self-3 : goal.invariant_of-self-3
+invariant_of-self-3 g c =
+    let i = c.self.inside in
+    let w : AllNodes _ = record {
+      devices = i.devices;
+      lock_bits = i.lock_bits;
+      power = i.power;
+      secrets = i.secrets;
+      slots = i.slots.items;
+      lines = i.lines.items;
+      asks = i.asks;
+      lifted = i.lifted;
+      containers = i.containers;
+    } in
+    let whole : i.lifted ≡ None = none-out i.lifted c.args.device i.devices (rw (sym c.self.view_is) at c.requires.device) in (
+      contained w c.self.invariant.0 c.push_reserved.new.self.items c.info-got.new.self,
+      roomy i.slots.items i.slots.items i.room i.lines c.push_reserved.new.self i.spare i.lifted whole refl c.self.invariant.1,
+      rw c.info-got.ensures.rest (still-there i.devices i.lock_bits c.lock-lock.result i.containers c.info-got.ensures.after c.self.invariant.2),
+    )
+
+pub returns-clause-read : goal.returns-clause-read
+returns-clause-read g c =
+    let v = g.V.Volume in
+    let i = c.self.inside in
+    let w : AllNodes _ = record {
+      devices = i.devices;
+      lock_bits = i.lock_bits;
+      power = i.power;
+      secrets = i.secrets;
+      slots = i.slots.items;
+      lines = i.lines.items;
+      asks = i.asks;
+      lifted = i.lifted;
+      containers = i.containers;
+    } in
+    let items : c.push_reserved.new.self.items ≡ w.lines ++ c.info-got.result.1 ∷ [] = c.push_reserved.ensures.items ∙ rw c.reserve.ensures.items refl in
+    rw (sym c.self.view_is)
+    (world-look v.tells v.holds v.faults w c.args.link c.args.device c.args.place.now info_of (λ got. Informed c.args.place.now got) c.info-got.result.0
+    c.info-got.new.self c.info-got.result.1 c.push_reserved.new.self.items
+    (rw c.lock-lock.ensures.lock at c.info-got.ensures) items)
