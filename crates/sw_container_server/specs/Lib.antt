@@ -3,5 +3,6 @@ pub mod Laws
 pub mod Places
 pub mod Replies
 pub mod RowFields
+pub mod Serving
 pub mod Targets
 pub mod Verdicts

@@ -13,6 +13,8 @@ use Rattle.sw_listing_json.specs.Json.{IsJson}
 use Rattle.sw_message.specs.declared.fields.Field.{Field}
 use Rattle.sw_message.specs.declared.response.ReplyBody.TheVariants.{Whole}
 use Rattle.sw_message.specs.declared.response.Response.{Response}
+use Rattle.sw_hashpath.specs.declared.place.Place.{Place}
+use Rattle.sw_metafile.specs.Escapes.{escape}
 use Rattle.sw_object_server.specs.Replies.{at_time, bare, field}
 use Rattle.sw_timestamp.specs.TimeText.{normal_text}
 
@@ -49,6 +51,16 @@ shows_time (answers.NotEmpty count) = false
 shows_time answers.JournalFull = false
 shows_time answers.Failed = false
 shows_time answers.NoMemory = false
+
+-- ---- rows that another container has
+
+-- the path of a row in the container of a place
+abbrev pub moved_path : Place → List ℕ → List ℕ
+moved_path shard name = codes "/" ++ (shard.account ++ (codes "/" ++ (shard.container ++ (codes "/" ++ name))))
+
+-- the reply that sends a client on with a row of this name: the path in escaped form, and nothing else
+abbrev pub moved_reply : Place → List ℕ → Response
+moved_reply shard name = record { status = 301; fields = field (codes "Location") (escape (moved_path shard name)) ∷ []; body = Whole [] }
 
 -- ---- what is told of a container
 

@@ -1,13 +1,13 @@
-ghost use Rattle.std.specs.Prelude.{◌≡◌, ◌<◌, ℕ, true, false, IfSome, decimal};
+ghost use Rattle.std.specs.Prelude.{◌≡◌, ◌<◌, ℕ, true, false, IfSome};
 ghost use Rattle.std.specs.Option.{option_copied};
-ghost use Rattle.std.specs.Str.{bytes_eq};
 ghost use Rattle.sw_fields.specs.Fields.{is_type as is_type_text};
 ghost use Rattle.sw_message.specs.Framing.{length_of};
-ghost use Rattle.sw_container_server.specs.RowFields.{IsNumberBelow, IsReplica, etag_in as etag_in_text, etag_of as etag_of_fields, size_of as size_of_fields, type_of as type_of_fields};
+ghost use Rattle.sw_container_server.specs.RowFields.{IsNumberBelow, IsReplica, etag_in as etag_in_text, etag_of as etag_of_fields, size_of as size_of_fields};
+ghost use Rattle.sw_container_server.specs.RowFields.{type_of as type_of_fields};
 
 use hex::FromHex;
-use itoa::Buffer;
 use sw_message::FieldList;
+use sw_object_server::has_number;
 use sw_outside::is_utf8;
 use sw_ring::Ring;
 
@@ -87,12 +87,4 @@ fn is_number_below(count: u8, text: &[u8]) -> bool
         }
     }
     false
-}
-
-/// Whether the text is the decimal form of the number.
-pub(crate) fn has_number(text: &[u8], number: u32) -> bool
-    ensures { result ≡ bytes_eq text.now (decimal number) }
-{
-    let mut buffer = Buffer::new();
-    text == buffer.format(number).as_bytes()
 }

@@ -4,7 +4,6 @@ ghost use Rattle.sw_container_server.specs.Places.{IsKeeper, name_fault, place_i
 ghost use Rattle.sw_container_server.specs.Targets.{is_for_containers as is_for_containers_of, target_of as target_of_path};
 
 use crate::asked::ContAsked;
-use crate::fields::has_number;
 use crate::naming::place_of;
 use crate::target::{Target, is_row, target_of};
 use crate::verb::{Verb, verb_of};
@@ -13,6 +12,7 @@ use crate::verdict::Verdict;
 use std::alloc::Global;
 use sw_hashpath::{Place, partition};
 use sw_message::Request;
+use sw_object_server::has_number;
 use sw_outside::NoMemory;
 use sw_ring::{Ring, Which};
 

@@ -1,14 +1,11 @@
-ghost use Rattle.std.specs.Prelude.{◌≡◌, [], ◌∷◌, true, IfOk, OnErr};
-ghost use Rattle.sw_object_server.specs.Replies.{at_time as at_time_reply};
-ghost use Rattle.sw_timestamp.specs.TimeText.{normal_text};
+ghost use Rattle.std.specs.Prelude.{◌≡◌, true, IfOk, OnErr};
 ghost use Rattle.sw_container_server.specs.Replies.{made_status as made_status_of, reply_to as reply_to_answer, shows_time};
 
 use std::alloc::Global;
 use sw_container_steps::{ContAnswer, ContChange};
-use sw_message::{Field, FieldList, ReplyBody, Response};
-use sw_object_server::bare;
-use sw_outside::{Bytes, NoMemory};
-use sw_timestamp::Timestamp;
+use sw_message::Response;
+use sw_object_server::{at_time, bare};
+use sw_outside::NoMemory;
 
 /// The status that tells that this change was made, or had nothing to change. A creation that was is told by its answer.
 pub fn made_status(change: &ContChange) -> u16
@@ -31,40 +28,10 @@ pub fn reply_to(alloc: Global, made: u16, answer: ContAnswer) -> Result<Response
         ContAnswer::There(_) => Ok(bare(alloc, 202)),
         ContAnswer::Done(_) => Ok(bare(alloc, made)),
         ContAnswer::Absent => Ok(bare(alloc, 404)),
-        ContAnswer::Stale(time) => stale(alloc, time),
+        ContAnswer::Stale(time) => at_time(alloc, 409, time),
         ContAnswer::NotEmpty(_) => Ok(bare(alloc, 409)),
         ContAnswer::JournalFull => Ok(bare(alloc, 503)),
         ContAnswer::Failed => Ok(bare(alloc, 507)),
         ContAnswer::NoMemory => Ok(bare(alloc, 500)),
     }
-}
-
-/// The reply where what stands isn't earlier: 409 with its time.
-fn stale(alloc: Global, time: Timestamp) -> Result<Response, NoMemory>
-    ensures { IfOk result (λ response. response ≡ at_time_reply 409 time) }
-{
-    let time = field(alloc, b"X-Backend-Timestamp", &time_text(time))?;
-    Ok(Response {
-        status: 409,
-        fields: FieldList::from(vec![in alloc; time]?),
-        body: ReplyBody::Whole(Bytes::from(Vec::new(alloc))),
-    })
-}
-
-pub(crate) fn field(alloc: Global, name: &[u8], value: &[u8]) -> Result<Field, NoMemory>
-    ensures { IfOk result (λ field. field ≡ record { name = name.now; value = value.now }) }
-{
-    Ok(Field {
-        name: Bytes::copy(alloc, name)?,
-        value: Bytes::copy(alloc, value)?,
-    })
-}
-
-/// The normal form of a time.
-pub(crate) fn time_text(time: Timestamp) -> [u8; 16]
-    ensures { result ≡ normal_text time }
-{
-    let mut text = [0u8; 16];
-    time.write_normal(&mut text);
-    text
 }

@@ -4,7 +4,7 @@ ghost use Rattle.sw_container_server.specs.Targets.{is_for_containers as is_for_
 use std::alloc::Global;
 use sw_fields::has_value;
 use sw_message::Request;
-use sw_object_server::{at_slash, decoded, slash_count};
+use sw_object_server::{parts_of, slash_count};
 use sw_outside::{Bytes, NoMemory};
 
 /// The path of a container has so many slashes, one before each of its segments. That of a row has more.
@@ -38,19 +38,16 @@ pub(crate) fn is_row(path: &[u8]) -> bool
     CONTAINER_SLASHES < slash_count(path)
 }
 
-/// What a path names. Each segment is decoded by itself.
+/// What a path names. Its segments are cut and decoded as those of an object's path.
 pub(crate) fn target_of(alloc: Global, path: &[u8]) -> Result<Target, NoMemory>
     ensures { IfOk result (λ target. target ≡ target_of_path path.now) }
 {
-    let (device, rest) = at_slash(&path[path.len().min(1)..]);
-    let (partition, rest) = at_slash(rest);
-    let (account, rest) = at_slash(rest);
-    let (container, object) = at_slash(rest);
+    let parts = parts_of(alloc, path)?;
     Ok(Target {
-        device: decoded(alloc, device)?,
-        partition: decoded(alloc, partition)?,
-        account: decoded(alloc, account)?,
-        container: decoded(alloc, container)?,
-        object: decoded(alloc, object)?,
+        device: parts.device,
+        partition: parts.partition,
+        account: parts.account,
+        container: parts.container,
+        object: parts.object,
     })
 }

@@ -1,7 +1,9 @@
 ghost use Rattle.std.specs.Prelude.{◌≡◌, true, decimal, IfOk, OnErr};
-ghost use Rattle.sw_container_server.specs.Replies.{IsListingReply, IsListingText, hash_text as hash_text_of, head_reply as head_reply_of, info_reply as info_reply_of, shown_listing, takes_memory, told_fields as told_fields_of, type_text as type_text_of};
+ghost use Rattle.sw_container_server.specs.Replies.{IsListingReply, IsListingText, hash_text as hash_text_of, head_reply as head_reply_of};
+ghost use Rattle.sw_container_server.specs.Replies.{info_reply as info_reply_of, shown_listing, takes_memory, told_fields as told_fields_of};
+ghost use Rattle.sw_container_server.specs.Replies.{type_text as type_text_of};
 
-use crate::replies::{field, reply_to, time_text};
+use crate::replies::reply_to;
 use itoa::Buffer;
 use std::alloc::Global;
 use sw_container_steps::{ContAnswer, Info};
@@ -9,6 +11,7 @@ use sw_hashpath::hex_text;
 use sw_listing::{Entries, to_text};
 use sw_listing_json::to_json;
 use sw_message::{Field, FieldList, ReplyBody, Response};
+use sw_object_server::{field, time_text};
 use sw_outside::{Bytes, NoMemory};
 
 /// The status of a reply to a read where a step would have been made. No read is answered so.

@@ -1,5 +1,6 @@
 ghost use Rattle.std.specs.Prelude.{◌≡◌};
-ghost use Rattle.sw_container_server.specs.Targets.{container_verb as container_verb_of, names_row as names_row_of, row_verb as row_verb_of, verb_of as verb_of_method};
+ghost use Rattle.sw_container_server.specs.Targets.{container_verb as container_verb_of, names_row as names_row_of, row_verb as row_verb_of};
+ghost use Rattle.sw_container_server.specs.Targets.{verb_of as verb_of_method};
 
 use http::Method;
 

@@ -101,7 +101,8 @@ fn a_container_is_told_without_a_body(rt: HostRuntime) -> Result<(), Fail> {
     let table: [(Result<Info, ContAnswer>, &[u8]); 4] = [
         (
             Ok(info()?),
-            b"HTTP/1.1 204 No Content\r\nX-Container-Object-Count: 3\r\nX-Container-Bytes-Used: 7\r\nX-Timestamp: 0000000005.00000\r\nX-Backend-Sharding-State: unsharded\r\nX-Swc-Hash: 000000000000000000000000000000ab\r\n\r\n",
+            b"HTTP/1.1 204 No Content\r\nX-Container-Object-Count: 3\r\nX-Container-Bytes-Used: 7\r\nX-Timestamp: 0000000005.00000\r\n\
+              X-Backend-Sharding-State: unsharded\r\nX-Swc-Hash: 000000000000000000000000000000ab\r\n\r\n",
         ),
         (
             Err(ContAnswer::Absent),
@@ -191,22 +192,27 @@ fn a_listing_has_its_text(rt: HostRuntime) -> Result<(), Fail> {
         (
             false,
             true,
-            b"HTTP/1.1 200 OK\r\nContent-Type: text/plain; charset=utf-8\r\nX-Container-Object-Count: 3\r\nX-Container-Bytes-Used: 7\r\nX-Timestamp: 0000000005.00000\r\nX-Backend-Sharding-State: unsharded\r\nContent-Length: 2\r\n\r\no\n",
+            b"HTTP/1.1 200 OK\r\nContent-Type: text/plain; charset=utf-8\r\nX-Container-Object-Count: 3\r\nX-Container-Bytes-Used: 7\r\n\
+              X-Timestamp: 0000000005.00000\r\nX-Backend-Sharding-State: unsharded\r\nContent-Length: 2\r\n\r\no\n",
         ),
         (
             false,
             false,
-            b"HTTP/1.1 204 No Content\r\nX-Container-Object-Count: 3\r\nX-Container-Bytes-Used: 7\r\nX-Timestamp: 0000000005.00000\r\nX-Backend-Sharding-State: unsharded\r\n\r\n",
+            b"HTTP/1.1 204 No Content\r\nX-Container-Object-Count: 3\r\nX-Container-Bytes-Used: 7\r\nX-Timestamp: 0000000005.00000\r\n\
+              X-Backend-Sharding-State: unsharded\r\n\r\n",
         ),
         (
             true,
             false,
-            b"HTTP/1.1 200 OK\r\nContent-Type: application/json; charset=utf-8\r\nX-Container-Object-Count: 3\r\nX-Container-Bytes-Used: 7\r\nX-Timestamp: 0000000005.00000\r\nX-Backend-Sharding-State: unsharded\r\nContent-Length: 2\r\n\r\n[]",
+            b"HTTP/1.1 200 OK\r\nContent-Type: application/json; charset=utf-8\r\nX-Container-Object-Count: 3\r\nX-Container-Bytes-Used: 7\r\n\
+              X-Timestamp: 0000000005.00000\r\nX-Backend-Sharding-State: unsharded\r\nContent-Length: 2\r\n\r\n[]",
         ),
         (
             true,
             true,
-            b"HTTP/1.1 200 OK\r\nContent-Type: application/json; charset=utf-8\r\nX-Container-Object-Count: 3\r\nX-Container-Bytes-Used: 7\r\nX-Timestamp: 0000000005.00000\r\nX-Backend-Sharding-State: unsharded\r\nContent-Length: 132\r\n\r\n[{\"bytes\":3,\"content_type\":\"a/b\",\"hash\":\"900150983cd24fb0d6963f7d28e17f72\",\"last_modified\":\"1970-01-01T00:00:05.000000\",\"name\":\"o\"}]",
+            b"HTTP/1.1 200 OK\r\nContent-Type: application/json; charset=utf-8\r\nX-Container-Object-Count: 3\r\nX-Container-Bytes-Used: 7\r\n\
+              X-Timestamp: 0000000005.00000\r\nX-Backend-Sharding-State: unsharded\r\nContent-Length: 132\r\n\r\n[{\"bytes\":3,\"content_type\":\"a/b\",\
+              \"hash\":\"900150983cd24fb0d6963f7d28e17f72\",\"last_modified\":\"1970-01-01T00:00:05.000000\",\"name\":\"o\"}]",
         ),
     ];
     for (json, with_row, text) in table {

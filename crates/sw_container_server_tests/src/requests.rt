@@ -9,7 +9,8 @@ use sw_ring::{Ring, read};
 
 /// A ring of three devices and four partitions. The first device keeps objects alone, and the last one containers alone.
 const RING: &[u8] =
-    br#"{"devices":["sda","sdb","sdc"],"part_power":2,"lock_bits":2,"replicas":2,"hash_prefix":"","hash_suffix":"endcap","object":[[0,1],[1,0],[0,1],[1,0]],"container":[[1,2],[2,1],[1,2],[2,1]]}"#;
+    br#"{"devices":["sda","sdb","sdc"],"part_power":2,"lock_bits":2,"replicas":2,"hash_prefix":"","hash_suffix":"endcap","object":[[0,1],[1,0],[0,1],[1,0]],
+        "container":[[1,2],[2,1],[1,2],[2,1]]}"#;
 
 pub(crate) fn ring(alloc: Global) -> Result<Ring, Fail> {
     Ok(read(alloc, RING)?)

@@ -1,5 +1,6 @@
 -- What the functions that read a request tell of it, one test after the other, is what it asks for.
-use Rattle.std.proofs.Common.{◌≡◌, ℕ, zero, suc, Bool, true, false, not, ◌||◌, ◌==◌, MatchBool, codes, List, [], ◌∷◌, Option, Some, None, is_some, refl, sym, ap, ◌∙◌, subst, inl, inr, true≢false, if◌then◌else◌}
+use Rattle.std.proofs.Common.{◌≡◌, ℕ, zero, suc, Bool, true, false, not, ◌||◌, ◌==◌, MatchBool, codes, List, [], ◌∷◌, Option, Some, None, is_some, refl, sym}
+use Rattle.std.proofs.Common.{ap, ◌∙◌, subst, inl, inr, true≢false, if◌then◌else◌}
 use Rattle.std.proofs.lemmas.Option.{same_Some}
 use Rattle.md5.specs.Md5.{md5}
 use Rattle.sw_fields.specs.Fields.{IsTime, IsTimeOf, agrees_with, is_replicated, type_of}
@@ -15,7 +16,8 @@ use Rattle.sw_state.specs.declared.heads.Heads.{Heads}
 use Rattle.sw_object_server.proofs.OneOutcome.{listed, one-heads, one-time, same_Whole}
 use Rattle.sw_object_server.specs.Asking.{IsAsked, tests}
 use Rattle.sw_object_server.specs.Places.{IsDevice, is_partition_of, name_fault}
-use Rattle.sw_object_server.specs.Reading.{AsksDevice, AsksName, AsksPartition, AsksVerb, Deletes, Gives, IsContent, IsTimed, IsVerdict, Lacks, Posts, Puts, PutsBody, PutsHeads, PutsType, asked_at}
+use Rattle.sw_object_server.specs.Reading.{AsksDevice, AsksName, AsksPartition, AsksVerb, Deletes, Gives, IsContent, IsTimed, IsVerdict, Lacks, Posts, Puts}
+use Rattle.sw_object_server.specs.Reading.{PutsBody, PutsHeads, PutsType, asked_at}
 use Rattle.sw_object_server.specs.Requirements.{HasMetadata, IsChange, IsForObjects, IsVerb, TakesMetadata, name_of}
 use Rattle.sw_object_server.specs.Steps.{AsksBy, AsksFor, delete_change, post_change, put_change}
 use Rattle.sw_object_server.specs.Targets.{parts_of, verb_of}

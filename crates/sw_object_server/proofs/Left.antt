@@ -42,7 +42,8 @@ change-keeps device name change old a mid p shows alone d hash told = by (d == d
     l = old.nodes.lock device name.hash
 
     not_made : p.step.made ≡ false
-    not_made = unmade p.step.before.told (stands p.step.before name.hash) p.step.before.journal name change a p.step.made (mid.objects.seen l).journal shows p.step.answered
+    not_made = unmade p.step.before.told (stands p.step.before name.hash) p.step.before.journal name change a p.step.made (mid.objects.seen l).journal shows
+        p.step.answered
 
     here : (mid.objects.seen (mid.nodes.lock device name.hash)).told ≡ true → mid.objects.holds device name.hash ≡ old.objects.holds device name.hash
     here is =

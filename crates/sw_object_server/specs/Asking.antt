@@ -5,7 +5,8 @@
 use Rattle.std.specs.Prelude.{ℕ, List, [], ◌∷◌}
 use Rattle.sw_message.specs.declared.request.Request.{Request}
 use Rattle.sw_ring.specs.declared.ring.Ring.{Ring}
-use Rattle.sw_object_server.specs.Requirements.{AsksNoExpiry, HasDevice, HasDigest, HasGoodNames, HasLength, HasMetadata, HasTime, HasType, HasVerb, IsChange, IsDelete, IsForObjects, IsInPartition, IsPut, IsSmall, TakesMetadata}
+use Rattle.sw_object_server.specs.Requirements.{AsksNoExpiry, HasDevice, HasDigest, HasGoodNames, HasLength, HasMetadata, HasTime, HasType, HasVerb, IsChange}
+use Rattle.sw_object_server.specs.Requirements.{IsDelete, IsForObjects, IsInPartition, IsPut, IsSmall, TakesMetadata}
 use Rattle.sw_object_server.specs.Steps.{AsksFor}
 use Rattle.sw_object_server.specs.Tests.{IsDecided}
 use Rattle.sw_object_server.specs.declared.asked.Asked.{Asked}

@@ -7,7 +7,8 @@
 //! The body of a PUT is moved into the content that is written, and the body of what a GET finds into its reply: neither is copied.
 //!
 //! What single fields say, and the metadata that they give an object, are read by `sw_fields`. Paths of other servers are read by the same
-//! functions as those of objects: [`at_slash`], [`decoded`], [`partition_named`].
+//! functions as those of objects: [`parts_of`], [`at_slash`], [`decoded`], [`partition_named`], [`has_number`]. Their replies are made by [`bare`],
+//! [`at_time`] and [`field`].
 //!
 //! The next layers up are `sw_cluster`, which routes requests to this server, and the jobs that serve connections.
 #![tactic(auto)]
@@ -27,9 +28,9 @@ mod verb;
 mod verdict;
 
 pub use asked::Asked;
-pub use partitions::partition_named;
+pub use partitions::{has_number, partition_named};
 pub use reading::read_request;
-pub use replies::{bare, damaged, made_reply, reply_to};
+pub use replies::{at_time, bare, damaged, field, made_reply, reply_to, time_text};
 pub use serving::answer;
 pub use showing::shown;
-pub use target::{at_slash, decoded, slash_count};
+pub use target::{Parts, at_slash, decoded, parts_of, slash_count};

@@ -32,7 +32,7 @@ fn number_of(text: &[u8]) -> Option<u32>
 }
 
 /// Whether the text is the decimal form of the number.
-pub(crate) fn has_number(text: &[u8], number: u32) -> bool
+pub fn has_number(text: &[u8], number: u32) -> bool
     ensures { result ≡ bytes_eq text.now (decimal number) }
 {
     let mut buffer = Buffer::new();

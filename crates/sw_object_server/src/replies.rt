@@ -2,7 +2,9 @@ ghost use Rattle.std.specs.Prelude.{◌≡◌, [], ◌∷◌, true, decimal, is_
 ghost use Rattle.sw_hashpath.specs.BadFiles.{bad_file_number as bad_file_number_of};
 ghost use Rattle.sw_peer.specs.Steps.{write_of};
 ghost use Rattle.sw_timestamp.specs.TimeText.{normal_text};
-ghost use Rattle.sw_object_server.specs.Replies.{at_time as at_time_reply, bare as bare_reply, created as created_reply, damaged as damaged_reply, made_reply as made_reply_to, not_found as not_found_reply, reply_to as reply_to_answer, shows_field, with_field as with_field_reply};
+ghost use Rattle.sw_object_server.specs.Replies.{at_time as at_time_reply, bare as bare_reply, created as created_reply, damaged as damaged_reply};
+ghost use Rattle.sw_object_server.specs.Replies.{made_reply as made_reply_to, not_found as not_found_reply, reply_to as reply_to_answer, shows_field};
+ghost use Rattle.sw_object_server.specs.Replies.{with_field as with_field_reply};
 
 use itoa::Buffer;
 use std::alloc::Global;
@@ -84,7 +86,7 @@ pub(crate) fn not_found(alloc: Global, time: Option<Timestamp>) -> Result<Respon
 }
 
 /// A reply with this status that shows the time of what stands.
-fn at_time(alloc: Global, status: u16, time: Timestamp) -> Result<Response, NoMemory>
+pub fn at_time(alloc: Global, status: u16, time: Timestamp) -> Result<Response, NoMemory>
     ensures { IfOk result (λ response. response ≡ at_time_reply status time) }
 {
     with_field(alloc, status, b"X-Backend-Timestamp", &time_text(time))
@@ -122,7 +124,8 @@ fn with_field(alloc: Global, status: u16, name: &[u8], value: &[u8]) -> Result<R
     })
 }
 
-pub(crate) fn field(alloc: Global, name: &[u8], value: &[u8]) -> Result<Field, NoMemory>
+/// A field, as other servers show it too.
+pub fn field(alloc: Global, name: &[u8], value: &[u8]) -> Result<Field, NoMemory>
     ensures { IfOk result (λ field. field ≡ record { name = name.now; value = value.now }) }
 {
     Ok(Field {
@@ -132,7 +135,7 @@ pub(crate) fn field(alloc: Global, name: &[u8], value: &[u8]) -> Result<Field, N
 }
 
 /// The normal form of a time.
-pub(crate) fn time_text(time: Timestamp) -> [u8; 16]
+pub fn time_text(time: Timestamp) -> [u8; 16]
     ensures { result ≡ normal_text time }
 {
     let mut text = [0u8; 16];

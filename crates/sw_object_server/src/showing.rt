@@ -1,5 +1,7 @@
 ghost use Rattle.std.specs.Prelude.{◌≡◌, ◌++◌, ◌≤◌, map, true, IfOk, OnOk, OnErr};
-ghost use Rattle.sw_object_server.specs.Showing.{IsDate, IsFound, IsShown, body_found, expiry_fields, field_of as field_of_item, fixed_fields as fixed_fields_of, found as found_reply, found_fields, second_text as second_text_of, shows_fields};
+ghost use Rattle.sw_object_server.specs.Showing.{IsDate, IsFound, IsShown, body_found, expiry_fields, field_of as field_of_item};
+ghost use Rattle.sw_object_server.specs.Showing.{fixed_fields as fixed_fields_of, found as found_reply, found_fields, second_text as second_text_of};
+ghost use Rattle.sw_object_server.specs.Showing.{shows_fields};
 
 use crate::replies::{bare, damaged, field, not_found, time_text};
 use httpdate::HttpDate;

@@ -1,7 +1,8 @@
 ghost use Rattle.std.specs.Prelude.{◌≡◌, ◌≤◌, length, count_by, IfOk};
 ghost use Rattle.std.specs.List.{position_or_len};
 ghost use Rattle.percent_encoding.specs.Percent.{percent_decode};
-ghost use Rattle.sw_object_server.specs.Targets.{behind_segment, first_segment, has_segments as has_segments_of_object, is_for_objects as is_for_objects_of, is_slash, parts_of as parts_of_path};
+ghost use Rattle.sw_object_server.specs.Targets.{behind_segment, first_segment, has_segments as has_segments_of_object, is_for_objects as is_for_objects_of};
+ghost use Rattle.sw_object_server.specs.Targets.{is_slash, parts_of as parts_of_path};
 
 use percent_encoding::percent_decode;
 use std::alloc::Global;
@@ -14,7 +15,7 @@ const LEAST_SLASHES: usize = 5;
 
 /// What the segments of a path say.
 #[derive(Debug, Drop)]
-pub(crate) struct Parts {
+pub struct Parts {
     pub device: Bytes,
     pub partition: Bytes,
     pub account: Bytes,
@@ -44,7 +45,7 @@ pub fn slash_count(path: &[u8]) -> usize
 }
 
 /// What a path names. Each segment is decoded by itself.
-pub(crate) fn parts_of(alloc: Global, path: &[u8]) -> Result<Parts, NoMemory>
+pub fn parts_of(alloc: Global, path: &[u8]) -> Result<Parts, NoMemory>
     ensures { IfOk result (λ parts. parts ≡ parts_of_path path.now) }
 {
     let (device, rest) = at_slash(&path[path.len().min(1)..]);

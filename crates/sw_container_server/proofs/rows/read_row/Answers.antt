@@ -14,7 +14,8 @@ pub invariant_of-row : goal.invariant_of-row
 invariant_of-row c = record {
   is_text = ∣ IsUtf8-from_is_utf8 c.args.name c.requires ∣₁;
   is_type_text = ∣ IsUtf8-from_is_utf8 c.in_ok-content_type.content_type
-      (rw c.in_ok-content_type.ensures (type-text (field_value_of (codes "x-content-type") c.args.request.now.fields) c.in-Some-type_of.content_type.now (sym c.in-Some-type_of.ensures))) ∣₁;
+      (rw c.in_ok-content_type.ensures (type-text (field_value_of (codes "x-content-type") c.args.request.now.fields) c.in-Some-type_of.content_type.now
+      (sym c.in-Some-type_of.ensures))) ∣₁;
 }
 
 pub returns : goal.returns

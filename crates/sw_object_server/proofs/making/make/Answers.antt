@@ -7,7 +7,11 @@ use Rattle.sw_object_server.proofs.making.make.Goals as goal
 -- the reply is that to the answer
 pub returns-clause-ok : goal.returns-clause-ok
 returns-clause-ok g c = IfOk-weaker c.reply_to.result _ _
-    (λ response is. (c.in-Ok.answer, record { called = c.in-Ok.ensures.made; asks = c.in-Ok.ensures.asks }, is ∙ ap (λ (made : Response). reply_to made c.in-Ok.answer) c.in_ok-made.ensures))
+    (λ response is. (
+      c.in-Ok.answer,
+      record { called = c.in-Ok.ensures.made; asks = c.in-Ok.ensures.asks },
+      is ∙ ap (λ (made : Response). reply_to made c.in-Ok.answer) c.in_ok-made.ensures,
+    ))
     c.reply_to.ensures.ok
 
 -- no memory for the reply: its answer says that nothing changed

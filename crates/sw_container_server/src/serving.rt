@@ -1,0 +1,49 @@
+ghost use Rattle.std.specs.Prelude.{◌≡◌, ◌≤◌, true, length, IfOk, OnErr};
+ghost use Rattle.sw_hashpath.specs.declared.place.Place.{Place as PlaceValue};
+ghost use Rattle.sw_container_server.specs.Places.{IsHashed};
+ghost use Rattle.sw_container_server.specs.Serving.{IsAnswered, IsGivenUp};
+ghost use Rattle.sw_container_server.specs.Targets.{is_for_containers as is_for_containers_of};
+
+use crate::asked::ContAsked;
+use crate::looking::{list, tell};
+use crate::making::make;
+use crate::reading::read_container_request;
+use std::alloc::Global;
+use sw_message::{Request, Response};
+use sw_object_server::bare;
+use sw_outside::NoMemory;
+use sw_peer::ContainerDoor;
+use sw_ring::Ring;
+
+/// Answers one request for containers: calls the door for the step that it asks for, and replies to what that is answered; or refuses it, and leaves
+/// the door as it was. A GET has two steps: where it was told of its container, the listing is read behind that.
+///
+/// The door reaches a node for each device of the ring, and places hashed with the ring's secrets fit it. After [`NoMemory`] the door wasn't
+/// called, or was called for exactly what is asked for, which changed nothing: a step that was made is always replied to.
+pub fn answer<D: ContainerDoor>(
+    alloc: Global,
+    door: &mut D,
+    ring: &Ring,
+    request: &Request,
+) -> Result<Response, NoMemory>
+    requires for_containers { is_for_containers_of request.now ≡ true }
+    requires devices { length ring.now.devices ≤ (D.sight door.old).nodes.devices }
+    requires fits { (place : PlaceValue) → IsHashed ring.now place → (D.sight door.old).nodes.fits_place place ≡ true }
+    ensures ok { IfOk result (IsAnswered D.sight door.old door.new ring.now request.now) }
+    ensures err { OnErr result (IsGivenUp D.sight door.old door.new ring.now request.now) }
+{
+    match read_container_request(alloc, ring, request)? {
+        ContAsked::Refused(status) => Ok(bare(alloc, status)),
+        ContAsked::Change {
+            device,
+            place,
+            change,
+        } => make(alloc, door, device, &place, &change),
+        ContAsked::Info { device, place } => tell(alloc, door, device, &place),
+        ContAsked::List {
+            device,
+            place,
+            query,
+        } => list(alloc, door, device, &place, &query),
+    }
+}
