@@ -1,10 +1,13 @@
--- The text of a trail: a text line for each entry that a step added to its journal, and for each restart. (This project's own.)
+-- The text of a trail: a text line for each entry that a step added to a journal, and for each restart. (This project's own.)
 use Rattle.std.specs.Prelude.{ℕ, ◌+◌, List, [], ◌∷◌, ◌++◌, codes, decimal, map, slice_index_or, if◌then◌else◌}
 use Rattle.std.specs.List.{flat_map}
+use Rattle.sw_container_steps.specs.declared.cont_entry.ContEntry.{ContEntry}
+use Rattle.sw_container_steps.specs.declared.cont_entry.ContEntry.TheVariants.{Created, Merged, Removed}
 use Rattle.sw_hashpath.specs.declared.name.Name.{Name}
+use Rattle.sw_hashpath.specs.declared.place.Place.{Place}
 use Rattle.sw_metafile.specs.Escapes.{escape}
 use Rattle.sw_peer.specs.Briefs.{brief_of}
-use Rattle.sw_peer.specs.Lines.{settled_in}
+use Rattle.sw_peer.specs.Lines.{entered_in, settled_in}
 use Rattle.sw_peer.specs.Steps.{is_entered, step_kind, time_in}
 use Rattle.sw_peer.specs.declared.change.StepKind.{StepKind}
 use Rattle.sw_peer.specs.declared.change.StepKind.TheVariants as step_kinds
@@ -45,18 +48,47 @@ write_word tags.Del = codes "delete"
 abbrev pub settled_told : List ℕ → Brief → List ℕ
 settled_told device brief = write_told (write_word brief.tag) device brief.name brief.time
 
--- what is said of the write that a step entered, and of a restart. Nothing is said of what was refused, read or listed
+-- what is said of the write that a step entered for an object, and of a restart. Nothing is said of what was refused, read or listed
 abbrev pub own_told : List ℕ → Event → List (List ℕ)
 own_told device (events.Changed name change answer) =
     if is_entered answer then write_told (step_word (step_kind change)) device name (time_in change) ∷ [] else []
 own_told device (events.Read name got) = []
 own_told device (events.ReadPart read) = []
 own_told device (events.Listed failed) = []
+own_told device (events.AtContainer event entries) = []
 own_told device events.Restarted = told (codes "restart") device (codes "/") (codes "-") ∷ []
 
--- what is said of a step at this device: of each doubt that it settled, and then of its own write
+-- the word of an entry of a container lock's journal
+abbrev pub entry_word : ContEntry → List ℕ
+entry_word (Created place time) = codes "create"
+entry_word (Removed place time) = codes "remove"
+entry_word (Merged place row) = codes "row"
+
+-- the path of a container
+abbrev pub place_path : Place → List ℕ
+place_path place = codes "/" ++ (place.account ++ (codes "/" ++ place.container))
+
+-- the path of what an entry is about: that of its container, or of the row in it
+abbrev pub entry_path : ContEntry → List ℕ
+entry_path (Created place time) = place_path place
+entry_path (Removed place time) = place_path place
+entry_path (Merged place row) = place_path place ++ (codes "/" ++ row.name)
+
+-- the time that it gives the container, or that of the row
+abbrev pub entry_time : ContEntry → ℕ
+entry_time (Created place time) = time
+entry_time (Removed place time) = time
+entry_time (Merged place row) = row.created_at
+
+-- what is said of an entry of a container lock's journal
+abbrev pub entry_told : List ℕ → ContEntry → List ℕ
+entry_told device entry = told (entry_word entry) device (entry_path entry) (normal_text (entry_time entry))
+
+-- what is said of a step at this device: of each doubt of an object that it settled, then of its own write, and of all entries that it added at a
+-- container, those of settled doubts first
 abbrev pub step_told : List ℕ → Line → List (List ℕ)
-step_told device line = map (settled_told device) (map brief_of (settled_in line)) ++ own_told device line.event
+step_told device line =
+    map (settled_told device) (map brief_of (settled_in line)) ++ (own_told device line.event ++ map (entry_told device) (entered_in line.event))
 
 -- what is said of a step where these are the devices
 abbrev pub line_told : List (List ℕ) → Line → List (List ℕ)

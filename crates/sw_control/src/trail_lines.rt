@@ -1,18 +1,20 @@
 ghost use Rattle.std.specs.Prelude.{◌≡◌, ◌≤◌, ◌∷◌, ◌++◌, [], codes, length, map, IfOk, OnOk, slice_index_or};
 ghost use Rattle.sw_peer.specs.Steps.{is_entered as is_entered_by};
 ghost use Rattle.sw_control.specs.Growth.{Adds};
-ghost use Rattle.sw_control.specs.TrailText.{line_told, own_told, path_of, settled_told, step_word, told, trail_text as trail_text_of, write_told, write_word};
+ghost use Rattle.sw_control.specs.TrailText.{entry_told, line_told, own_told, path_of, settled_told, step_word, told, trail_text as trail_text_of, write_told};
+ghost use Rattle.sw_control.specs.TrailText.{write_word};
 
 use itoa::Buffer;
 use std::alloc::Global;
-use sw_hashpath::Name;
+use sw_container_steps::ContEntry;
+use sw_hashpath::{Name, Place};
 use sw_metafile::push_escaped;
 use sw_outside::{Bytes, BytesList, NoMemory};
 use sw_peer::{Answer, Brief, Event, KeptLine, StepKind};
 use sw_timestamp::{Tag, Timestamp};
 
-/// The text of a trail, for these devices: a text line for each doubt that was settled as made, each write that was entered and each
-/// restart. It has its number from 1, its kind, the device, the path in escaped form, and the time of the write, or `-`.
+/// The text of a trail, for these devices: a text line for each doubt that was settled as made, each write that was entered, each entry of a
+/// container and each restart. It has its number from 1, its kind, the device, the path in escaped form, and the time of the write, or `-`.
 pub fn trail_text(alloc: Global, devices: &BytesList, lines: &[KeptLine]) -> Result<Bytes, NoMemory>
     ensures { IfOk result (λ text. text ≡ trail_text_of devices.now lines.now) }
 {
@@ -49,7 +51,8 @@ impl TextLines {
         let device = device_name(devices, line.device);
         let settled = kept.settled();
         self.add_settled(alloc, device, settled)?;
-        self.add_own(alloc, device, &line.event)
+        self.add_own(alloc, device, &line.event)?;
+        self.add_entered(alloc, device, kept.entered())
     }
 
     /// Adds those of settled doubts.
@@ -88,8 +91,37 @@ impl TextLines {
                 }
             }
             Event::Restarted => self.add(b"restart", device, b"/", b"-"),
-            Event::Read(..) | Event::ReadPart(_) | Event::Listed(_) => Ok(()),
+            Event::Read(..) | Event::ReadPart(_) | Event::Listed(_) | Event::AtContainer(..) => {
+                Ok(())
+            }
         }
+    }
+
+    /// Adds those of entries at a container.
+    fn add_entered(
+        &mut self,
+        alloc: Global,
+        device: &[u8],
+        entered: &[ContEntry],
+    ) -> Result<(), NoMemory>
+        requires { self.old.count ≤ length self.old.text.items }
+        ensures { OnOk result (Adds self.old (map (entry_told device.now) entered.now) self.new) }
+    {
+        for entry in entered {
+            self.add_entry(alloc, device, entry)?;
+        }
+        Ok(())
+    }
+
+    /// Adds that of an entry at a container.
+    fn add_entry(&mut self, alloc: Global, device: &[u8], entry: &ContEntry) -> Result<(), NoMemory>
+        requires { self.old.count ≤ length self.old.text.items }
+        ensures { OnOk result (Adds self.old (entry_told device.now entry.now ∷ []) self.new) }
+    {
+        let path = entry_path(alloc, entry)?;
+        let mut digits = [0u8; 16];
+        entry_time(entry).write_normal(&mut digits);
+        self.add(entry_word(entry), device, &path, &digits)
     }
 
     /// Adds that of a write.
@@ -191,5 +223,54 @@ fn path_text(alloc: Global, name: &Name) -> Result<Vec<u8>, NoMemory>
     path.extend_from_slice(name.container.as_slice())?;
     path.extend_from_slice(b"/")?;
     path.extend_from_slice(name.object.as_slice())?;
+    Ok(path)
+}
+
+/// The word of an entry at a container.
+fn entry_word(entry: &ContEntry) -> &'static [u8]
+    ensures { result.now ≡ Rattle.sw_control.specs.TrailText.entry_word entry.now }
+{
+    match entry {
+        ContEntry::Created(_, _) => b"create",
+        ContEntry::Removed(_, _) => b"remove",
+        ContEntry::Merged(_, _) => b"row",
+    }
+}
+
+/// The time that an entry gives its container, or that of its row.
+fn entry_time(entry: &ContEntry) -> Timestamp
+    ensures { result ≡ Rattle.sw_control.specs.TrailText.entry_time entry.now }
+{
+    match entry {
+        ContEntry::Created(_, time) => *time,
+        ContEntry::Removed(_, time) => *time,
+        ContEntry::Merged(_, row) => row.created_at,
+    }
+}
+
+/// The path of an entry's container, or of its row.
+fn entry_path(alloc: Global, entry: &ContEntry) -> Result<Vec<u8>, NoMemory>
+    ensures { IfOk result (λ path. path.items ≡ Rattle.sw_control.specs.TrailText.entry_path entry.now) }
+{
+    match entry {
+        ContEntry::Created(place, _) | ContEntry::Removed(place, _) => place_path(alloc, place),
+        ContEntry::Merged(place, row) => {
+            let mut path = place_path(alloc, place)?;
+            path.extend_from_slice(b"/")?;
+            path.extend_from_slice(row.name.as_slice())?;
+            Ok(path)
+        }
+    }
+}
+
+/// The path of a container, as it stands.
+fn place_path(alloc: Global, place: &Place) -> Result<Vec<u8>, NoMemory>
+    ensures { IfOk result (λ path. path.items ≡ Rattle.sw_control.specs.TrailText.place_path place.now) }
+{
+    let mut path = Vec::new(alloc);
+    path.extend_from_slice(b"/")?;
+    path.extend_from_slice(place.account.as_slice())?;
+    path.extend_from_slice(b"/")?;
+    path.extend_from_slice(place.container.as_slice())?;
     Ok(path)
 }
