@@ -185,8 +185,7 @@ closed last may halts start mid after source sink left rest then moments moments
     moment = turn.0;
     moments_are = turn.1;
     behind = rest;
-    reply = turn.2.0;
-    is_last = turn.2.1;
+    end = turn.2;
   }),
   counted.0 ∙ r,
   counted.1 ∙ w,
@@ -224,7 +223,7 @@ broken last may start mid after source sink left rest then moments moments_now c
       mid = then;
       done = still.done;
       few = fewer last may start after source.before left sink.before then moments_now count still few;
-      between = idles.1;
+      end = idles.1;
     })
 broken last may start mid after source sink left rest then moments moments_now count p few (inr cuts) = inr (record {
   rest = left;
@@ -236,7 +235,7 @@ broken last may start mid after source sink left rest then moments moments_now c
   moment = cuts.0;
   moments_are = cuts.1;
   behind = rest;
-  cut = cuts.2;
+  end = cuts.2;
 })
 
 -- the server halted
@@ -256,7 +255,7 @@ halted last may halts start mid after source sink left rest then moments moments
   moment = turn.0;
   moments_are = turn.1;
   behind = rest;
-  halt = turn.2;
+  end = turn.2;
 }
 
 -- memory ran out, of a reply or of the server
@@ -289,7 +288,7 @@ ended_by last may halts start mid after source sink left rest then moments momen
         mid = then;
         done = still.done;
         few = fewer last may start after source.before left sink.before then moments_now count still few;
-        told = turn.1;
+        end = turn.1;
       },
       counted.0 ∙ ap raised r,
       counted.1 ∙ w,
@@ -304,7 +303,7 @@ ended_by last may halts start mid after source sink left rest then moments momen
         mid = then;
         done = still.done;
         few = fewer last may start after source.before left sink.before then moments_now count still few;
-        refuses = turn.1;
+        end = turn.1;
       },
       counted.0 ∙ r,
       counted.1 ∙ w,
@@ -322,4 +321,4 @@ whole may halts start source sink moments after s = by s.0
         ⊎ Closed (λ request. false) may start source.before sink.before sink.now moments after
         → Complete (λ request. false) may start source.before sink.before sink.now moments after × IsAtEnd source.now × IsSound source × IsSound sink
     by (inl complete) = (complete.0, complete.1, s.1, s.2)
-    by (inr closed) = let no : false ≡ true = closed.is_last in cc
+    by (inr closed) = let no : false ≡ true = closed.end.1 in cc

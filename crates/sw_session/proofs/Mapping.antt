@@ -9,7 +9,8 @@ use Rattle.sw_message.specs.declared.response.Response.{Response}
 use Rattle.sw_session.proofs.Ends.{begun}
 use Rattle.sw_session.specs.Passages.{Passage}
 use Rattle.sw_session.specs.Replies.{Halts, Replies, Serves}
-use Rattle.sw_session.specs.Session.{Broken, Closed, Complete, EndsAs, HaltedAt, IsSession, SoFar}
+use Rattle.sw_session.specs.Session.{AtOneMore, Between, Broken, Closed, Complete, EndsAs, HaltedAt, IsSession, SoFar}
+use Rattle.sw_session.specs.Turn.{RefusesRest, RepliedPart, StopsBetween, TellsWhole, Turns}
 use Rattle.sw_session.specs.declared.server.ServerFault.{ServerFault}
 use Rattle.sw_session.specs.declared.server.ServerFault.TheVariants as servers
 use Rattle.sw_session.specs.declared.session.SessionFault.{SessionFault}
@@ -23,7 +24,7 @@ unbegun last may start input taken = inl (record {
   mid = taken;
   done = (begun last may start input taken).done;
   few = lit< tt;
-  between = inl (inl (Appends-nil taken));
+  end = inl (inl (Appends-nil taken));
 })
 
 module _ {S : Type 0} (last : Request → Bool) (may : Serves S) (halts : Halts S) (P : S → Type 0)
@@ -42,7 +43,7 @@ module _ {S : Type 0} (last : Request → Bool) (may : Serves S) (halts : Halts 
       → P start → Broken last may start input taken now moments after → P after
   broken-keeps start input taken now moments after p (inl b) = so_far-keeps start input b.rest taken b.mid moments after p b.done
   broken-keeps start input taken now moments after p (inr b) =
-      keeps b.then _ b.moment b.cut.response after (so_far-keeps start input b.rest taken b.mid b.earlier b.then p b.done) b.cut.turn.answer
+      keeps b.then _ b.moment b.end.response after (so_far-keeps start input b.rest taken b.mid b.earlier b.then p b.done) b.end.turn.answer
 
   module _ (Q : ServerFault → S → Type 0)
       (ends : (before : S) (request : Request) (moment : ℕ) (fault : ServerFault) (after : S)
@@ -50,7 +51,7 @@ module _ {S : Type 0} (last : Request → Bool) (may : Serves S) (halts : Halts 
     halted-ends : (start : S) (input taken now : Option (List ℕ)) (moments : List ℕ) (after : S) (fault : ServerFault)
         → P start → HaltedAt last may halts start input taken now moments after fault → Q fault after
     halted-ends start input taken now moments after fault p h =
-        ends h.then _ h.moment fault after (so_far-keeps start input h.rest taken h.mid h.earlier h.then p h.done) h.halt.halted
+        ends h.then _ h.moment fault after (so_far-keeps start input h.rest taken h.mid h.earlier h.then p h.done) h.end.halted
 
     out_of_memory-ends : (start : S) (input taken now : Option (List ℕ)) (moments : List ℕ) (after : S)
         → P start → Broken last may start input taken now moments after ⊎ HaltedAt last may halts start input taken now moments after servers.NoMemory
@@ -62,8 +63,8 @@ module _ {S : Type 0} (last : Request → Bool) (may : Serves S) (halts : Halts 
         → (Complete last may start source.before sink.before sink.now moments after × IsAtEnd source.now)
         ⊎ Closed last may start source.before sink.before sink.now moments after → P after
     well-ends start source sink moments after p (inl c) = so_far-keeps start source.before c.0.rest sink.before sink.now moments after p c.0.done
-    well-ends start source sink moments after p (inr c) = keeps c.then _ c.moment c.reply.response after
-        (so_far-keeps start source.before c.rest sink.before c.mid c.earlier c.then p c.done) c.reply.turn.answer
+    well-ends start source sink moments after p (inr c) = keeps c.then _ c.moment c.end.0.response after
+        (so_far-keeps start source.before c.rest sink.before c.mid c.earlier c.then p c.done) c.end.0.turn.answer
 
     pub session-ends : (start : S) (source sink : Passage) (moments : List ℕ) (after : S) (result : Result ⊤ SessionFault)
         → P start → IsSession last may halts start source sink moments after result → EndsAs P Q after result
@@ -128,16 +129,26 @@ module _ {S : Type 0} (last : Request → Bool) (may : Serves S) (halts : Halts 
       written = s.written;
     }
 
-    broken-mapped : (start : S) (input taken now : Option (List ℕ)) (moments : List ℕ) (after : S)
-        → P start → Broken last may start input taken now moments after → Broken last says (part start) input taken now moments (part after)
-    broken-mapped start input taken now moments after p (inl b) = inl (record {
+    abbrev between-mapped : (start : S) (input taken now : Option (List ℕ)) (moments : List ℕ) (after : S)
+        (ends : Option (List ℕ) → Option (List ℕ) → Option (List ℕ) → Type 0) → P start → Between last may start input taken now moments after ends
+        → Between last says (part start) input taken now moments (part after) ends
+    between-mapped start input taken now moments after ends p b = record {
       rest = b.rest;
       mid = b.mid;
       done = so_far-mapped start input b.rest taken b.mid moments after p b.done;
       few = b.few;
-      between = b.between;
-    })
-    broken-mapped start input taken now moments after p (inr b) = inr (record {
+      end = b.end;
+    }
+
+    -- what the end says of the server, the other one says of its part
+    abbrev one_more-mapped : (start : S) (input taken now : Option (List ℕ)) (moments : List ℕ) (after : S)
+        (ends : S → S → Option (List ℕ) → Option (List ℕ) → Option (List ℕ) → Option (List ℕ) → ℕ → Type 0)
+        (says_ends : T → T → Option (List ℕ) → Option (List ℕ) → Option (List ℕ) → Option (List ℕ) → ℕ → Type 0)
+        → ((then : S) (rest behind mid : Option (List ℕ)) (moment : ℕ) → P then → ends then after rest behind mid now moment
+        → says_ends (part then) (part after) rest behind mid now moment)
+        → P start → AtOneMore last may start input taken now moments after ends
+        → AtOneMore last says (part start) input taken now moments (part after) says_ends
+    one_more-mapped start input taken now moments after ends says_ends end p b = record {
       rest = b.rest;
       mid = b.mid;
       earlier = b.earlier;
@@ -147,39 +158,39 @@ module _ {S : Type 0} (last : Request → Bool) (may : Serves S) (halts : Halts 
       moment = b.moment;
       moments_are = b.moments_are;
       behind = b.behind;
-      cut = record {
-        response = b.cut.response;
-        turn = record {
-          parts = b.cut.turn.parts;
-          are_parts = b.cut.turn.are_parts;
-          consumed = b.cut.turn.consumed;
-          answer = less b.then _ b.moment b.cut.response after (so_far-keeps start input b.rest taken b.mid b.earlier b.then p b.done) b.cut.turn.answer;
-        };
-        written = b.cut.written;
-      };
-    })
+      end = end b.then b.rest b.behind b.mid b.moment (so_far-keeps start input b.rest taken b.mid b.earlier b.then p b.done) b.end;
+    }
+
+    abbrev turns-mapped : (before after : S) (input rest : Option (List ℕ)) (moment : ℕ) (response : Response)
+        → P before → Turns may before after input rest moment response → Turns says (part before) (part after) input rest moment response
+    turns-mapped before after input rest moment response p t = record {
+      parts = t.parts;
+      are_parts = t.are_parts;
+      consumed = t.consumed;
+      answer = less before _ moment response after p t.answer;
+    }
+
+    broken-mapped : (start : S) (input taken now : Option (List ℕ)) (moments : List ℕ) (after : S)
+        → P start → Broken last may start input taken now moments after → Broken last says (part start) input taken now moments (part after)
+    broken-mapped start input taken now moments after p (inl b) = inl (between-mapped start input taken now moments after StopsBetween p b)
+    broken-mapped start input taken now moments after p (inr b) =
+        inr (one_more-mapped start input taken now moments after (RepliedPart may) (RepliedPart says) (λ then rest behind mid moment q cut. record {
+          response = cut.response;
+          turn = turns-mapped then after rest behind moment cut.response q cut.turn;
+          written = cut.written;
+        }) p b)
 
     halted-mapped : (start : S) (input taken now : Option (List ℕ)) (moments : List ℕ) (after : S) (fault : ServerFault)
         → P start → HaltedAt last may halts start input taken now moments after fault
         → HaltedAt last says says_halts (part start) input taken now moments (part after) fault
-    halted-mapped start input taken now moments after fault p h = record {
-      rest = h.rest;
-      mid = h.mid;
-      earlier = h.earlier;
-      then = part h.then;
-      done = so_far-mapped start input h.rest taken h.mid h.earlier h.then p h.done;
-      few = h.few;
-      moment = h.moment;
-      moments_are = h.moments_are;
-      behind = h.behind;
-      halt = record {
-        parts = h.halt.parts;
-        are_parts = h.halt.are_parts;
-        consumed = h.halt.consumed;
-        halted = less_halted h.then _ h.moment fault after (so_far-keeps start input h.rest taken h.mid h.earlier h.then p h.done) h.halt.halted;
-        written = h.halt.written;
-      };
-    }
+    halted-mapped start input taken now moments after fault p h =
+        one_more-mapped start input taken now moments after _ _ (λ then rest behind mid moment q halt. record {
+          parts = halt.parts;
+          are_parts = halt.are_parts;
+          consumed = halt.consumed;
+          halted = less_halted then _ moment fault after q halt.halted;
+          written = halt.written;
+        }) p h
 
     out_of_memory-mapped : (start : S) (input taken now : Option (List ℕ)) (moments : List ℕ) (after : S)
         → P start → Broken last may start input taken now moments after ⊎ HaltedAt last may halts start input taken now moments after servers.NoMemory
@@ -202,45 +213,22 @@ module _ {S : Type 0} (last : Request → Bool) (may : Serves S) (halts : Halts 
       },
       c.1,
     )
-    well-mapped start source sink moments after p (inr c) = inr (record {
-      rest = c.rest;
-      mid = c.mid;
-      earlier = c.earlier;
-      then = part c.then;
-      done = so_far-mapped start source.before c.rest sink.before c.mid c.earlier c.then p c.done;
-      few = c.few;
-      moment = c.moment;
-      moments_are = c.moments_are;
-      behind = c.behind;
-      reply = record {
-        response = c.reply.response;
-        turn = record {
-          parts = c.reply.turn.parts;
-          are_parts = c.reply.turn.are_parts;
-          consumed = c.reply.turn.consumed;
-          answer = less c.then _ c.moment c.reply.response after
-              (so_far-keeps start source.before c.rest sink.before c.mid c.earlier c.then p c.done) c.reply.turn.answer;
-        };
-        written = c.reply.written;
-      };
-      is_last = c.is_last;
-    })
+    well-mapped start source sink moments after p (inr c) =
+        inr (one_more-mapped start source.before sink.before sink.now moments after _ _ (λ then rest behind mid moment q closed. (
+          record {
+            response = closed.0.response;
+            turn = turns-mapped then after rest behind moment closed.0.response q closed.0.turn;
+            written = closed.0.written;
+          },
+          closed.1,
+        )) p c)
 
     pub session-mapped : (start : S) (source sink : Passage) (moments : List ℕ) (after : S) (result : Result ⊤ SessionFault)
         → P start → IsSession last may halts start source sink moments after result → IsSession last says says_halts (part start) source sink moments
         (part after) result
     session-mapped start source sink moments after (Ok done) p s = (well-mapped start source sink moments after p s.0, s.1, s.2)
-    session-mapped start source sink moments after (Err faults.ReadFault) p s = (
-      record {
-        rest = s.0.rest;
-        mid = s.0.mid;
-        done = so_far-mapped start source.before s.0.rest sink.before s.0.mid moments after p s.0.done;
-        few = s.0.few;
-        told = s.0.told;
-      },
-      s.1,
-      s.2,
-    )
+    session-mapped start source sink moments after (Err faults.ReadFault) p s =
+        (between-mapped start source.before sink.before sink.now moments after TellsWhole p s.0, s.1, s.2)
     session-mapped start source sink moments after (Err faults.WriteFault) p s =
         (broken-mapped start source.before sink.before sink.now moments after p s.0, s.1, s.2)
     session-mapped start source sink moments after (Err faults.TooLong) p s = (
@@ -252,17 +240,8 @@ module _ {S : Type 0} (last : Request → Bool) (may : Serves S) (halts : Halts 
       s.1,
       s.2,
     )
-    session-mapped start source sink moments after (Err faults.BadInput) p s = (
-      record {
-        rest = s.0.rest;
-        mid = s.0.mid;
-        done = so_far-mapped start source.before s.0.rest sink.before s.0.mid moments after p s.0.done;
-        few = s.0.few;
-        refuses = s.0.refuses;
-      },
-      s.1,
-      s.2,
-    )
+    session-mapped start source sink moments after (Err faults.BadInput) p s =
+        (between-mapped start source.before sink.before sink.now moments after RefusesRest p s.0, s.1, s.2)
     session-mapped start source sink moments after (Err faults.ServerFault) p s =
         (halted-mapped start source.before sink.before sink.now moments after servers.Failed p s.0, s.1, s.2)
     session-mapped start source sink moments after (Err faults.NoMemory) p s =

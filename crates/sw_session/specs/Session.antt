@@ -39,31 +39,6 @@ pub record Complete {S : Type 0} (last : Request → Bool) (may : Serves S) (sta
   pub few : length done.requests < most_requests
   pub nothing_else : IfSome rest IsSkipped
 
--- some first requests were answered, and one request more, the last one, whose reply was written whole; what the input has behind it was
--- not looked at
-pub record Closed {S : Type 0} (last : Request → Bool) (may : Serves S) (start : S) (input taken now : Option (List ℕ)) (moments : List ℕ)
-    (after : S) : Type 0 where
-  pub rest : Option (List ℕ)
-  pub mid : Option (List ℕ)
-  pub earlier : List ℕ
-  pub then : S
-  pub done : SoFar last may start input rest taken mid earlier then
-  pub few : length done.requests < most_requests
-  pub moment : ℕ
-  pub moments_are : moments ≡ earlier ++ moment ∷ []
-  pub behind : Option (List ℕ)
-  pub reply : Replied may then after rest behind mid now moment
-  pub is_last : last (request_of reply.turn.parts) ≡ true
-
--- every request before a rest that is none was answered, and then the rest was refused
-pub record Refused {S : Type 0} (last : Request → Bool) (may : Serves S) (start : S) (input taken now : Option (List ℕ)) (moments : List ℕ)
-    (after : S) : Type 0 where
-  pub rest : Option (List ℕ)
-  pub mid : Option (List ℕ)
-  pub done : SoFar last may start input rest taken mid moments after
-  pub few : length done.requests < most_requests
-  pub refuses : RefusesRest rest mid now
-
 -- as many requests were answered as a session has at most
 pub record Full {S : Type 0} (last : Request → Bool) (may : Serves S) (start : S) (input taken now : Option (List ℕ)) (moments : List ℕ)
     (after : S) : Type 0 where
@@ -71,27 +46,20 @@ pub record Full {S : Type 0} (last : Request → Bool) (may : Serves S) (start :
   pub done : SoFar last may start input rest taken now moments after
   pub most : length done.requests ≡ most_requests
 
--- some first requests were answered, and the next one may have been told to go on
-pub record Stopped {S : Type 0} (last : Request → Bool) (may : Serves S) (start : S) (input taken now : Option (List ℕ)) (moments : List ℕ)
-    (after : S) : Type 0 where
+-- The session ended between two requests: some first ones were answered, and `ends` tells of the rest of the input and of what was written
+-- behind their replies.
+pub record Between {S : Type 0} (last : Request → Bool) (may : Serves S) (start : S) (input taken now : Option (List ℕ)) (moments : List ℕ)
+    (after : S) (ends : Option (List ℕ) → Option (List ℕ) → Option (List ℕ) → Type 0) : Type 0 where
   pub rest : Option (List ℕ)
   pub mid : Option (List ℕ)
   pub done : SoFar last may start input rest taken mid moments after
   pub few : length done.requests < most_requests
-  pub told : TellsWhole rest mid now
+  pub end : ends rest mid now
 
--- some first requests were answered, and a front was written of what the next one asks to be told, or of the refusal of the rest; or nothing
-pub record BrokenBetween {S : Type 0} (last : Request → Bool) (may : Serves S) (start : S) (input taken now : Option (List ℕ)) (moments : List ℕ)
-    (after : S) : Type 0 where
-  pub rest : Option (List ℕ)
-  pub mid : Option (List ℕ)
-  pub done : SoFar last may start input rest taken mid moments after
-  pub few : length done.requests < most_requests
-  pub between : StopsBetween rest mid now
-
--- some first requests were answered, and one request more, of whose reply a front was written
-pub record BrokenAtReply {S : Type 0} (last : Request → Bool) (may : Serves S) (start : S) (input taken now : Option (List ℕ)) (moments : List ℕ)
-    (after : S) : Type 0 where
+-- The session ended at one request more: some first ones were answered, that one has a moment of its own, and `ends` tells what the server was
+-- before and after it, what the input has in front of it and behind it, and what was written behind the replies of those before.
+pub record AtOneMore {S : Type 0} (last : Request → Bool) (may : Serves S) (start : S) (input taken now : Option (List ℕ)) (moments : List ℕ)
+    (after : S) (ends : S → S → Option (List ℕ) → Option (List ℕ) → Option (List ℕ) → Option (List ℕ) → ℕ → Type 0) : Type 0 where
   pub rest : Option (List ℕ)
   pub mid : Option (List ℕ)
   pub earlier : List ℕ
@@ -101,26 +69,32 @@ pub record BrokenAtReply {S : Type 0} (last : Request → Bool) (may : Serves S)
   pub moment : ℕ
   pub moments_are : moments ≡ earlier ++ moment ∷ []
   pub behind : Option (List ℕ)
-  pub cut : RepliedPart may then after rest behind mid now moment
+  pub end : ends then after rest behind mid now moment
 
--- some first requests were answered, and at one request more the server halted: none of its reply was written
-pub record HaltedAt {S : Type 0} (last : Request → Bool) (may : Serves S) (halts : Halts S) (start : S) (input taken now : Option (List ℕ))
-    (moments : List ℕ) (after : S) (fault : ServerFault) : Type 0 where
-  pub rest : Option (List ℕ)
-  pub mid : Option (List ℕ)
-  pub earlier : List ℕ
-  pub then : S
-  pub done : SoFar last may start input rest taken mid earlier then
-  pub few : length done.requests < most_requests
-  pub moment : ℕ
-  pub moments_are : moments ≡ earlier ++ moment ∷ []
-  pub behind : Option (List ℕ)
-  pub halt : Halted halts then after rest behind mid now moment fault
+-- the rest, which is no request, was refused
+abbrev pub Refused : {S : Type 0} → (Request → Bool) → Serves S → S → Option (List ℕ) → Option (List ℕ) → Option (List ℕ) → List ℕ → S → Type 0
+Refused last may start input taken now moments after = Between last may start input taken now moments after RefusesRest
 
--- all replies but the last are whole
+-- the next request may have been told to go on
+abbrev pub Stopped : {S : Type 0} → (Request → Bool) → Serves S → S → Option (List ℕ) → Option (List ℕ) → Option (List ℕ) → List ℕ → S → Type 0
+Stopped last may start input taken now moments after = Between last may start input taken now moments after TellsWhole
+
+-- it is a last one, its reply was written whole, and what the input has behind it was not looked at
+abbrev pub Closed : {S : Type 0} → (Request → Bool) → Serves S → S → Option (List ℕ) → Option (List ℕ) → Option (List ℕ) → List ℕ → S → Type 0
+Closed last may start input taken now moments after = AtOneMore last may start input taken now moments after
+    (λ then after rest behind mid now moment. (reply : Replied may then after rest behind mid now moment) × (last (request_of reply.turn.parts) ≡ true))
+
+-- the server halted at it, and none of its reply was written
+abbrev pub HaltedAt : {S : Type 0} → (Request → Bool) → Serves S → Halts S → S → Option (List ℕ) → Option (List ℕ) → Option (List ℕ) → List ℕ → S
+    → ServerFault → Type 0
+HaltedAt last may halts start input taken now moments after fault = AtOneMore last may start input taken now moments after
+    (λ then after rest behind mid now moment. Halted halts then after rest behind mid now moment fault)
+
+-- All replies but the last are whole: a front was written of what the next request asks to be told, or of the refusal of the rest, or nothing;
+-- or a front of the reply to one request more.
 abbrev pub Broken : {S : Type 0} → (Request → Bool) → Serves S → S → Option (List ℕ) → Option (List ℕ) → Option (List ℕ) → List ℕ → S → Type 0
 Broken last may start input taken now moments after =
-    BrokenBetween last may start input taken now moments after ⊎ BrokenAtReply last may start input taken now moments after
+    Between last may start input taken now moments after StopsBetween ⊎ AtOneMore last may start input taken now moments after (RepliedPart may)
 
 -- no call failed on this end
 abbrev pub IsSound : Passage → Type 0
