@@ -24,7 +24,8 @@ use Rattle.sw_replica_server.specs.declared.asked.ReplicaAsked.TheVariants as as
 use Rattle.sw_ring.specs.declared.ring.Ring.{Ring}
 use Rattle.sw_suffix.specs.declared.dir_line.DirLine.{DirLine}
 use Rattle.sw_suffix.specs.declared.told.SuffixHash.{SuffixHash}
-use Rattle.sw_cluster.proofs.Calming.{IsCalm, calm-same, files-calm, hashes-calm}
+use Rattle.sw_container_machine.proofs.Sessions.{IsCalm, calm-join, calm-same}
+use Rattle.sw_cluster.proofs.Calming.{files-calm, hashes-calm}
 use Rattle.sw_cluster.proofs.Going.{Goes, GoesFrom, files-go, from-join, from-same, goes-same, hashes-go}
 
 -- ---- the partition that is asked for is one of the ring's
@@ -68,7 +69,7 @@ steady-join : (part : ℕ) (a b c : Sight) → Steady part a b → Steady part b
 steady-join part a b c p q = record {
   nodes = q.nodes ∙ p.nodes;
   alone = λ alone. p.alone (q.alone alone);
-  calm = q.calm ∙ p.calm;
+  calm = calm-join a b c p.calm q.calm;
   runs = λ start hash alone is has.
       q.runs start hash alone (subst (λ (n : Nodes). IsOfPart n.power part hash) (sym p.nodes) is) (p.runs start hash (q.alone alone) is has);
   goes = λ m hash alone is stands.
@@ -77,7 +78,8 @@ steady-join part a b c p q = record {
       (q.goes first.1.after hash alone (subst (λ (n : Nodes). IsOfPart n.power part hash) (sym p.nodes) is) first.1.stands);
 }
 
-hashes-steady : (device part : ℕ) (s : Sight) (got : Result (Vec SuffixHash Global) DirFault) (t : Sight) → Calls (IsHashesRead Local device part) s Local (Ok got) t
+hashes-steady : (device part : ℕ) (s : Sight) (got : Result (Vec SuffixHash Global) DirFault) (t : Sight) →
+    Calls (IsHashesRead Local device part) s Local (Ok got) t
     → Steady part s t
 hashes-steady device part s got t p =
     let moves = calls-moves (PartMoves device part (λ hash. ⊤)) (IsHashesRead Local device part) (hashes-step Local device part) s Local (Ok got) t p in
@@ -103,14 +105,17 @@ files-steady device part suffix s got t p =
       goes = λ m hash alone is stands. files-go device part suffix s got t m hash is stands alone p;
     }
 
-several-steady : (device part : ℕ) (suffixes : List ℕ) (s : Sight) (found : List DirLine) (t : Sight) → AreFilesRead device part suffixes s found t → Steady part s t
+several-steady : (device part : ℕ) (suffixes : List ℕ) (s : Sight) (found : List DirLine) (t : Sight) → AreFilesRead device part suffixes s found t →
+    Steady part s t
 several-steady device part [] s found t read = steady-same part s t read.0
 several-steady device part (suffix ∷ suffixes) s found t read =
-    steady-join part s read.2 t (files-steady device part suffix s (Ok read.0) read.2 read.3.called) (several-steady device part suffixes read.2 read.1 t read.4)
+    steady-join part s read.2 t (files-steady device part suffix s (Ok read.0) read.2 read.3.called)
+    (several-steady device part suffixes read.2 read.1 t read.4)
 
 stopped-steady : (device part : ℕ) (suffixes : List ℕ) (s : Sight) (fault : DirFault) (t : Sight) → IsStopped device part suffixes s fault t → Steady part s t
 stopped-steady device part suffixes s fault t x =
-    steady-join part s x.mid t (several-steady device part x.front s x.found x.mid x.before) (files-steady device part x.suffix x.mid (Err fault) t x.stops.called)
+    steady-join part s x.mid t (several-steady device part x.front s x.found x.mid x.before)
+    (files-steady device part x.suffix x.mid (Err fault) t x.stops.called)
 
 read-steady : (device part : ℕ) (suffixes : List ℕ) (s : Sight) (got : Result (Vec DirLine Global) DirFault) (t : Sight) → AreRead device part suffixes s got t
     → Steady part s t

@@ -1,6 +1,7 @@
 -- What a control request makes of the nodes: a device whose files were listed, and one that went back to the stores and came again, or
 -- didn't.
-use Rattle.std.proofs.Common.{◌≡◌, ℕ, ◌+◌, ◌*◌, ◌%◌, ◌^◌, ◌≤◌, ◌<◌, Bool, true, false, MatchBool, Option, Some, Result, Ok, Err, IfOk, IfErr, OnOk, refl, sym, ◌∙◌}
+use Rattle.std.proofs.Common.{◌≡◌, ℕ, ◌+◌, ◌*◌, ◌%◌, ◌^◌, ◌≤◌, ◌<◌, Bool, true, false, MatchBool, Option, Some, Result, Ok, Err, IfOk, IfErr, OnOk, refl, sym}
+use Rattle.std.proofs.Common.{◌∙◌}
 use Rattle.std.proofs.Common.{ap, subst, inl, inr, ◌⊎◌, arith, MutBor}
 use Rattle.std.proofs.lemmas.Nat.{one_shl}
 use Rattle.std.proofs.Math.Nat.{pow-le-pow_right}
@@ -21,7 +22,9 @@ use Rattle.sw_session.specs.declared.server.ServerFault.{ServerFault}
 use Rattle.sw_steps.proofs.Running.{over-nodes, pushing_runs}
 use Rattle.sw_volume.specs.Tree.{Folders}
 use Rattle.sw_volume.specs.Volume.{raised_by}
-use Rattle.sw_cluster.proofs.Calming.{push-calm}
+use Rattle.sw_container_machine.proofs.Sessions.{calm-line, cont-run-calm, cont-run-restarted}
+use Rattle.sw_container_machine.specs.Standing.{HasContRun}
+use Rattle.sw_cluster.proofs.Calming.{calm-restarts, push-calm}
 use Rattle.sw_cluster.proofs.Readying.{part_hash, ready-of}
 use Rattle.sw_cluster.proofs.Serving.{goes_on}
 use Rattle.sw_cluster.proofs.Restarting.{listed-lines, no-line, none-called, once-called, restart-lines, some_is}
@@ -55,6 +58,7 @@ module _ {V : Type 0} (tells : V → Bool) (files : V → Folders) (faults : V �
     answers = on_true _ _ (is_control request.path) is (inr (same, reply));
     nodes = ap (λ (x : AllNodes V). (see x).nodes) same;
     runs = λ start r. subst (λ (x : AllNodes V). HasRun start (see x)) (sym same) r;
+    cont_runs = λ start r. subst (λ (x : AllNodes V). HasContRun start (see x)) (sym same) r;
   }
 
   -- the files of a device were listed
@@ -65,6 +69,8 @@ module _ {V : Type 0} (tells : V → Bool) (files : V → Folders) (faults : V �
     answers = on_true _ _ (is_control request.path) is (inl (controls.Files device, asked, filed));
     nodes = filed.moves.nodes;
     runs = λ start r. run-listed start device (is_failed filed.listed) (see w) (see after) filed.moves r;
+    cont_runs = λ start r. cont-run-calm start (see w) (see after) filed.moves.nodes
+        (calm-line (see w) (see after) _ refl filed.moves.containers filed.moves.trail) r;
   }
   may_list ring w after request moment response device is asked (inr same) = wanted ring w after request moment response is same.0 same.1
 
@@ -81,11 +87,13 @@ module _ {V : Type 0} (tells : V → Bool) (files : V → Folders) (faults : V �
         answers = on_true _ _ (is_control request.path) is (inl (controls.Restart device, asked, done));
         nodes = begun.nodes;
         runs = λ start r. run-restarted start device (see w) (see after) refl begun r;
+        cont_runs = λ start r. cont-run-restarted start device (see w) (see after) refl begun r;
       }
   may_restart ring w after request moment response device is asked (inr same) = wanted ring w after request moment response is same.0 same.1
 
   -- listing files leaves the nodes as ready as they were
-  ready_still : {S : Type 0} (out : S → ℕ → ℕ → Bool) (ring : Ring) (w after : AllNodes V) (stores : S) (device : ℕ) (response : Response) → IsReady out ring w stores
+  ready_still : {S : Type 0} (out : S → ℕ → ℕ → Bool) (ring : Ring) (w after : AllNodes V) (stores : S) (device : ℕ) (response : Response) →
+      IsReady out ring w stores
       → IsFiled tells files faults device w response after ⊎ ((after ≡ w) × (response ≡ bare 500)) → IsReady out ring after stores
   ready_still out ring w after stores device response ready (inl filed) =
       ready-of out ring after stores (filed.same.lifted ∙ ready.whole) (filed.moves.nodes ∙ ready.nodes) ready.are_out
@@ -108,14 +116,20 @@ module _ {V : Type 0} (tells : V → Bool) (files : V → Folders) (faults : V �
       record {
         answers = on_true _ _ (is_control request.path) is (inl (controls.Replicate asked, asks, done));
         nodes = over-nodes asked.from asked.to asked.part asked.acts (see w) done.outcome (see after) done.pushed;
-        runs = λ start r. pushing_runs start asked.from asked.to asked.part asked.acts (see w) done.outcome (see after) there.0 done.pushed placed.2 refl there.1 r;
+        runs = λ start r. pushing_runs start asked.from asked.to asked.part asked.acts (see w) done.outcome (see after) there.0 done.pushed placed.2 refl
+            there.1 r;
+        cont_runs = λ start r.
+            let calm = push-calm asked.from asked.to asked.part _ done.outcome _ done.pushed.pushes in
+            cont-run-calm start (see w) (see after) (over-nodes asked.from asked.to asked.part asked.acts (see w) done.outcome (see after) done.pushed)
+            (record { containers = calm.containers; lines = calm.lines; all = calm.all; trail = calm.trail }) r;
       }
 
   -- and leaves no line of a restart
   push_lines : (w after : AllNodes V) (asked : Replication) (response : Response) → IsReplicated tells files faults asked w response after
       → restarts_in after.lines ≡ restarts_in w.lines + 0
   push_lines w after asked response done =
-      let calm : Some (restarts_in after.lines) ≡ Some (restarts_in w.lines) = push-calm asked.from asked.to asked.part _ done.outcome _ done.pushed.pushes in
+      let calm : Some (restarts_in after.lines) ≡ Some (restarts_in w.lines) =
+      calm-restarts _ _ (push-calm asked.from asked.to asked.part _ done.outcome _ done.pushed.pushes) in
       let e : restarts_in after.lines ≡ restarts_in w.lines = some_is calm in
       omega (arith, e)
 
@@ -137,7 +151,8 @@ module _ {V : Type 0} (tells : V → Bool) (files : V → Folders) (faults : V �
               (ap (λ (s : MutBor S). store_calls s.now) stores_are);
           same_stores = ap (λ (s : MutBor S). s.ghost_name) stores_are;
           ready = subst (λ (r : Ring). IsReady out r after stores_now.now) (sym ring_is)
-              (subst (λ (s : MutBor S). IsReady out ring after s.now) (sym stores_are) (goes_on tells files faults out ring w after stores.now ready may.nodes));
+              (subst (λ (s : MutBor S). IsReady out ring after s.now) (sym stores_are)
+              (goes_on tells files faults out ring w after stores.now ready may.nodes));
         }
 
     pub push_ready : (asked : Replication) (response : Response) → IsControl ring request (controls.Replicate asked) → ring_now ≡ ring → stores_now ≡ stores

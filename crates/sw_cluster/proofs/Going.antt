@@ -81,7 +81,8 @@ files-go device part suffix s got t m hash of stands alone call =
 -- ---- a restart
 
 module _ {V : Type 0} (tells : V → Bool) (files : V → Folders) (faults : V → ℕ) where
-  pub restart-goes : (w mid after : AllNodes V) (device : ℕ) (given : List V) → Lifts tells files faults w device given mid → SetsDownQuietly mid device given after
+  pub restart-goes : (w mid after : AllNodes V) (device : ℕ) (given : List V) → Lifts tells files faults w device given mid →
+      SetsDownQuietly mid device given after
       → Goes (quiet_sight_of tells files faults w) (quiet_sight_of tells files faults after)
   restart-goes w mid after device given up down = record {
     nodes = (lifting-restarts tells files faults w mid after device given up down).nodes;

@@ -1,6 +1,7 @@
 mod Calming
 mod Comparing
 mod Connecting
+mod Contained
 mod Controlling
 mod Exchanging
 mod Going

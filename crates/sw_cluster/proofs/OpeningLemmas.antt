@@ -26,7 +26,8 @@ not_opened told before now kept says goes_on status (faults.Bad bad) opening ref
 not_opened told before now kept says goes_on status faults.NoMemory opening refused same = inr (inl (refused, opening, same))
 
 -- a text that was written is that of the name
-pub located : (ring : Ring) (account : List ℕ) (container object : Option (List ℕ)) (before now : Option (List ℕ)) (writes writes_now : ℕ) (text : List ℕ) (status : ℕ)
+pub located : (ring : Ring) (account : List ℕ) (container object : Option (List ℕ)) (before now : Option (List ℕ)) (writes writes_now : ℕ) (text : List ℕ)
+    (status : ℕ)
     → text ≡ where_text ring account container object → bad_name account container object ≡ None → IsWritten before now writes writes_now text status
     → Locates ring account container object before now writes writes_now status
 located ring account container object before now writes writes_now text status text_is good written = record {

@@ -10,6 +10,9 @@ use Rattle.sw_replica_server.specs.Serving.{IsAnswered, IsGivenUp}
 use Rattle.sw_replica_server.specs.Targets.{is_replication_of}
 use Rattle.sw_ring.specs.declared.ring.Ring.{Ring}
 use Rattle.sw_volume.specs.Tree.{Folders}
+use Rattle.sw_container_machine.proofs.Sessions.{cont-run-calm}
+use Rattle.sw_container_server.specs.Targets.{is_for_containers}
+use Rattle.sw_cluster.proofs.Calming.{calm-restarts}
 use Rattle.sw_cluster.proofs.Comparing.{Stays, answered-stays, given_up-stays}
 use Rattle.sw_cluster.proofs.Controlling.{on_true}
 use Rattle.sw_cluster.proofs.Readying.{part_hash}
@@ -17,7 +20,7 @@ use Rattle.sw_cluster.proofs.Restarting.{no-line, none-called, some_is}
 use Rattle.sw_cluster.proofs.Serving.{goes_on, on_false}
 use Rattle.sw_cluster.specs.Nodes.{IsReady, NodesAnswer}
 use Rattle.sw_cluster.specs.Restarts.{restarts_in}
-use Rattle.sw_cluster.specs.Server.{IsCompared, IsControlled, IsRight, IsWanting}
+use Rattle.sw_cluster.specs.Server.{IsCompared, IsContained, IsControlled, IsRight, IsWanting}
 
 module _ {V S : Type 0} (tells : V → Bool) (files : V → Folders) (faults : V → ℕ) (store_faults store_calls : S → ℕ) (out : S → ℕ → ℕ → Bool)
     (ring : Ring) (w after : AllNodes V) (stores : MutBor S) (request : Request) (moment : ℕ) (response : Response)
@@ -35,10 +38,11 @@ module _ {V S : Type 0} (tells : V → Bool) (files : V → Folders) (faults : V
       answers = on_false _ _ (is_control request.path) nodes (on_true _ _ (is_replication_of request) replicas compared);
       nodes = stays.nodes;
       runs = λ start r. stays.runs start refl (part_hash ring w.power ready.power) r;
+      cont_runs = λ start r. cont-run-calm start (see w) (see after) stays.nodes stays.calm r;
     };
     faults_are = refl;
     gained = 0;
-    gains = let calm : restarts_in after.lines ≡ restarts_in w.lines = some_is stays.calm in omega (arith, calm);
+    gains = let calm : restarts_in after.lines ≡ restarts_in w.lines = some_is (calm-restarts _ _ stays.calm) in omega (arith, calm);
     calls_are = none-called (2 ^ ring.lock_bits) (store_calls stores.now) (store_calls stores.now) refl;
     same_stores = refl;
     ready = goes_on tells files faults out ring w after stores.now ready stays.nodes;
@@ -59,21 +63,28 @@ module _ {V S : Type 0} (tells : V → Bool) (files : V → Folders) (faults : V
 module _ {V S : Type 0} (tells : V → Bool) (files : V → Folders) (faults : V → ℕ) (store_faults store_calls : S → ℕ) (out : S → ℕ → ℕ → Bool)
     (ring : Ring) (w : AllNodes V) (stores : MutBor S) (request : Request) (moment : ℕ) (response : Response) (ready : IsReady out ring w stores.now)
     (reply : response ≡ bare 500) where
-  abbrev MayBe : Bool → Bool → Type 0
-  MayBe control replicas =
+  abbrev MayBe : Bool → Bool → Bool → Type 0
+  MayBe control replicas containers =
       MatchBool control (IsControlled tells files faults ring w request response w)
       (MatchBool replicas (IsCompared tells files faults ring w request response w)
-      (IsRight ring w.lines request moment response w.lines ⊎ IsWanting ring w.lines request response w.lines))
+      (MatchBool containers (IsContained tells files faults ring w request response w)
+      (IsRight ring w.lines request moment response w.lines ⊎ IsWanting ring w.lines request response w.lines)))
 
-  whatever : (control replicas : Bool) → MayBe control replicas
-  whatever true replicas = inr (refl, reply)
-  whatever false true = inr (reply, inl refl)
-  whatever false false = inr (reply, inl refl)
+  whatever : (control replicas containers : Bool) → MayBe control replicas containers
+  whatever true replicas containers = inr (refl, reply)
+  whatever false true containers = inr (reply, inl refl)
+  whatever false false true = inr (reply, inl refl)
+  whatever false false false = inr (reply, inl refl)
 
   pub unanswered : NodesAnswer tells files faults store_faults store_calls out ring ring w w stores stores request moment response
   unanswered = record {
     ring_is = refl;
-    may = record { answers = whatever (is_control request.path) (is_replication_of request); nodes = refl; runs = λ start r. r };
+    may = record {
+      answers = whatever (is_control request.path) (is_replication_of request) (is_for_containers request);
+      nodes = refl;
+      runs = λ start r. r;
+      cont_runs = λ start r. r;
+    };
     faults_are = refl;
     gained = 0;
     gains = no-line w.lines w.lines refl;

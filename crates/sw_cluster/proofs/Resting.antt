@@ -1,9 +1,10 @@
 -- Where the volumes of nodes rest once they were given back around the device that is out.
-use Rattle.std.proofs.Common.{◌≡◌, ◌∙◌, ℕ, ◌+◌, ◌-◌, ◌*◌, ◌/◌, ◌%◌, ◌^◌, ◌<◌, ◌≤◌, Bool, true, false, not, List, ◌++◌}
+use Rattle.std.proofs.Common.{◌≡◌, ◌∙◌, ℕ, suc, ◌+◌, ◌-◌, ◌*◌, ◌/◌, ◌%◌, ◌^◌, ◌<◌, ◌≤◌, Bool, true, false, not, List, ◌++◌}
 use Rattle.std.proofs.Common.{length, refl, sym, ap, subst, arith, Option, None, Some, ◌⊎◌, inl, inr}
 use Rattle.std.specs.Prelude.{◌&&◌, nat_lt, nat_le}
 use Rattle.std.specs.List.{slice_get}
 use Rattle.std.proofs.lemmas.Bool.{and_from, and_parts, cases_lt, false_from_ne_true, leb-true, le-leb, lt-ltb, ltb-true, or_cases, or_left, or_right}
+use Rattle.std.proofs.Math.Nat.{mul-le-mul_right, suc-mul}
 use Rattle.std.proofs.lemmas.Nat.{div-add-mod', mod_below}
 use Rattle.std.proofs.lemmas.Option.{slice_get_within}
 use Rattle.sw_core.specs.Stopping.{Gives, gap_first, gap_past}
@@ -77,6 +78,42 @@ module _ (ring : Ring) where
           let here : places_at ring device d s ≡ true = among-from S (first_of ring.lock_bits device) S d s low from before in
           let never : false ≡ true = sym (ap not here) ∙ apart in
           cc
+
+  -- and what is around it is out, where it is one of the ring's
+  pub around-out : (lifted : Option ℕ) → ((device : ℕ) → lifted ≡ Some device → device < length ring.devices) → (d s : ℕ)
+      → is_around (2 ^ ring.lock_bits) (gap_first ring.lock_bits lifted) (gap_past ring.lock_bits lifted) (length ring.devices * 2 ^ ring.lock_bits) d s ≡ true
+      → out_but ring lifted d s ≡ true
+  around-out None known d s is = by (or_cases (is_among S 0 0 d s) (is_among S 0 (all - 0) d s) is)
+    where
+      by : (is_among S 0 0 d s ≡ true) ⊎ (is_among S 0 (all - 0) d s ≡ true) → places_of ring d s ≡ true
+      by (inl none) = let parts = among-parts S 0 0 d s none in absurd (omega (arith, parts.2))
+      by (inr some) = let parts = among-parts S 0 (all - 0) d s some in among-from S 0 all d s parts.0 parts.1 (omega (arith, parts.2))
+  around-out (Some device) known d s is =
+      by (or_cases (is_among S 0 (first_of ring.lock_bits device) d s) (is_among S (past_of ring.lock_bits device) (all - past_of ring.lock_bits device) d s)
+      is)
+    where
+      within : past_of ring.lock_bits device ≤ all
+      within = let below : device < length ring.devices = known device refl in
+          let further : (suc device) * S ≤ all = mul-le-mul_right {m = suc device} {n = length ring.devices} S (omega (arith, below)) in
+          let past : (suc device) * S ≡ device * S + S = suc-mul device S in
+          omega (arith, further, past)
+
+      away : (places_at ring device d s ≡ true → ⊥) → not (places_at ring device d s) ≡ true
+      away apart = ap not (false_from_ne_true (places_at ring device d s) apart)
+
+      by : (is_among S 0 (first_of ring.lock_bits device) d s ≡ true) ⊎
+          (is_among S (past_of ring.lock_bits device) (all - past_of ring.lock_bits device) d s ≡ true)
+          → (places_of ring d s && not (places_at ring device d s)) ≡ true
+      by (inl before) =
+          let parts = among-parts S 0 (first_of ring.lock_bits device) d s before in
+          and_from (places_of ring d s) (not (places_at ring device d s))
+          (among-from S 0 all d s parts.0 (omega arith) (omega (arith, parts.2, within)))
+          (away (λ here. let own = among-parts S (first_of ring.lock_bits device) S d s here in absurd (omega (arith, own.1, parts.2))))
+      by (inr behind) =
+          let parts = among-parts S (past_of ring.lock_bits device) (all - past_of ring.lock_bits device) d s behind in
+          and_from (places_of ring d s) (not (places_at ring device d s))
+          (among-from S 0 all d s parts.0 (omega arith) (omega (arith, parts.2, within)))
+          (away (λ here. let own = among-parts S (first_of ring.lock_bits device) S d s here in absurd (omega (arith, own.2, parts.1))))
 
   -- so nothing is out any longer once those came home
   pub all-home : (lifted : Option ℕ) (old new : ℕ → ℕ → Bool)

@@ -12,7 +12,8 @@ use Rattle.sw_volume.proofs.Counting.{raised_by-plus}
 use Rattle.sw_volume.specs.Tree.{Folders}
 use Rattle.sw_volume.specs.Volume.{raised_by}
 use Rattle.sw_cluster.specs.Leaving.{StopsAmong}
-use Rattle.sw_cluster.specs.Rounds.{AllServed, AreHeard, Counts, DoorsTold, IsServed, RestartsFirst, Round, ServesAll, ServesOne, StopsRestarting, StopsWaiting}
+use Rattle.sw_cluster.specs.Rounds.{AllServed, AreHeard, EndsConnections, RestartsFirst, Round, ServesAll, ServesOne, StopsRestarting, StopsWaiting}
+use Rattle.sw_cluster.specs.Told.{Counts, DoorsTold}
 use Rattle.sw_cluster.specs.declared.rounds.ServeFault.{ServeFault}
 use Rattle.sw_cluster.specs.declared.rounds.ServeFault.TheVariants as serve_faults
 
@@ -58,7 +59,8 @@ one-row d b = ap (λ (x : ℕ). x * b) (let e : d ≡ 1 * d = omega arith in e)
 only-rest : (tried d device b : ℕ) → tried + device * b ≡ tried + (0 * d + device) * b
 only-rest tried d device b = ap (λ (x : ℕ). tried + x * b) (let e : device ≡ 0 * d + device = omega arith in e)
 
-pub heard-join : (first next : List Round) (a b c : DoorsTold) (t u v : Option (List ℕ)) → AreHeard first a b t u → AreHeard next b c u v → AreHeard (first ++ next) a c t v
+pub heard-join : (first next : List Round) (a b c : DoorsTold) (t u v : Option (List ℕ)) → AreHeard first a b t u → AreHeard next b c u v →
+    AreHeard (first ++ next) a c t v
 heard-join first next a b c t u v p q = record {
   accepted = added-join (λ (r : Round). r.accepted) first next a.accepted b.accepted c.accepted p.accepted q.accepted;
   finished = added-join (λ (r : Round). r.finished) first next a.finished b.finished c.finished p.finished q.finished;
@@ -99,7 +101,8 @@ module _ {V : Type 0} (tells : V → Bool) (files : V → Folders) (faults : V �
           serves = serves-join began mid after first.rounds next.rounds first.serves next.serves;
           heard = heard-join first.rounds next.rounds a b c t u v first.heard next.heard;
           few = let p = first.count in let q = next.few in omega (arith, count, p, q);
-          door_calls = calls-join a.calls b.calls c.calls (length next.rounds + 1) (length first.rounds) _ first.door_calls next.door_calls (omega (arith, count));
+          door_calls = calls-join a.calls b.calls c.calls (length next.rounds + 1) (length first.rounds) _ first.door_calls next.door_calls
+              (omega (arith, count));
           store_calls = calls-join s.calls x.calls y.calls _ _ _ first.store_calls next.store_calls
               (sum-of-rows (length next.rounds) (length first.rounds) _ (length ring.devices) (2 ^ ring.lock_bits) count);
         }
@@ -121,15 +124,16 @@ module _ {V : Type 0} (tells : V → Bool) (files : V → Folders) (faults : V �
           heard = subst (λ (rounds : List Round). AreHeard rounds a c t v) (sym (append_assoc first.rounds next.rounds (next.last ∷ [])))
               (heard-join first.rounds (next.rounds ++ next.last ∷ []) a b c t u v first.heard next.heard);
           few = let p = first.count in let q = next.few in omega (arith, count, p, q);
-          door_calls = calls-join a.calls b.calls c.calls (length next.rounds + 1) (length first.rounds) _ first.door_calls next.door_calls (omega (arith, count));
+          door_calls = calls-join a.calls b.calls c.calls (length next.rounds + 1) (length first.rounds) _ first.door_calls next.door_calls
+              (omega (arith, count));
           tried = next.tried;
           most = next.most;
           store_calls = calls-join s.calls x.calls y.calls _ _ _ first.store_calls next.store_calls
               (sum-with-rest next.tried (length next.rounds) (length first.rounds) _ (length ring.devices) next.device (2 ^ ring.lock_bits) count);
         }
 
-    pub stopped-join : (m : ℕ) (fault : ServeFault) → IsServed tells files faults ring m mid after b c u v x y (Err fault)
-        → IsServed tells files faults ring (n + m) began after a c t v s y (Err fault)
+    pub stopped-join : (m : ℕ) (fault : ServeFault) → EndsConnections tells files faults ring m mid after b c u v x y (Err fault)
+        → EndsConnections tells files faults ring (n + m) began after a c t v s y (Err fault)
     stopped-join m serve_faults.Door next = (waiting-join m next.0, next.1 ∙ ap raised first.door_faults, next.2 ∙ first.store_faults)
     stopped-join m serve_faults.Store next = (restarting-join m next.0, next.1 ∙ first.door_faults, next.2 ∙ ap raised first.store_faults)
     stopped-join m serve_faults.NoMemory (inl waits, d, e) = (inl (waiting-join m waits), d ∙ first.door_faults, e ∙ first.store_faults)
@@ -180,8 +184,8 @@ module _ {V : Type 0} (tells : V → Bool) (files : V → Folders) (faults : V �
       store_calls = w.store_calls;
     }
 
-    pub served-of : (fault : ServeFault) → IsServed tells files faults ring n began after a b t u s x (Err fault)
-        → IsServed tells files faults ring m began after a b t u s x (Err fault)
+    pub served-of : (fault : ServeFault) → EndsConnections tells files faults ring n began after a b t u s x (Err fault)
+        → EndsConnections tells files faults ring m began after a b t u s x (Err fault)
     served-of serve_faults.Door w = (waiting-of w.0, w.1, w.2)
     served-of serve_faults.Store w = (restarting-of w.0, w.1, w.2)
     served-of serve_faults.NoMemory (inl waits, d, e) = (inl (waiting-of waits), d, e)
@@ -192,7 +196,8 @@ module _ {V : Type 0} (tells : V → Bool) (files : V → Folders) (faults : V �
 
   module _ (old new : AllNodes V) (a b : DoorsTold) (t u : Option (List ℕ)) (s x : Counts) where
     -- it couldn't be accepted
-    pub none-accepted : new ≡ old → AreHeard [] a b t u → b.calls ≡ raised a.calls → x.calls ≡ s.calls → StopsWaiting tells files faults ring 1 old new a b t u s x
+    pub none-accepted : new ≡ old → AreHeard [] a b t u → b.calls ≡ raised a.calls → x.calls ≡ s.calls →
+        StopsWaiting tells files faults ring 1 old new a b t u s x
     none-accepted same heard doors stores = record {
       rounds = [];
       serves = same;
@@ -221,7 +226,8 @@ module _ {V : Type 0} (tells : V → Bool) (files : V → Folders) (faults : V �
     }
 
     -- or some first ones of them
-    pub one-stopped : {S : Type 0} (store_calls : S → ℕ) (rests : S → ℕ → ℕ → Option V) (out : S → ℕ → ℕ → Bool) (whole now : AllNodes V) (stores stores_now : S)
+    pub one-stopped : {S : Type 0} (store_calls : S → ℕ) (rests : S → ℕ → ℕ → Option V) (out : S → ℕ → ℕ → Bool) (whole now : AllNodes V)
+        (stores stores_now : S)
         (s x : Counts) → s.calls ≡ store_calls stores → x.calls ≡ store_calls stores_now
         → StopsAmong tells files faults store_calls rests out ring served whole now stores stores_now
         → StopsRestarting tells files faults ring 1 old whole a b t u s x
@@ -249,9 +255,11 @@ pub lengths-on : (rounds : List Round) (a b : DoorsTold) (t u : Option (List ℕ
     → length b.finished ≤ length b.accepted
 lengths-on rounds a b t u heard least =
     let finished : length b.finished ≡ length a.finished + length rounds =
-    ap length heard.finished ∙ (length-append a.finished (map (λ (r : Round). r.finished) rounds) ∙ ap (λ (k : ℕ). length a.finished + k) (length-map rounds (λ (r : Round). r.finished))) in
+    ap length heard.finished ∙ (length-append a.finished (map (λ (r : Round). r.finished) rounds) ∙ ap (λ (k : ℕ). length a.finished + k)
+    (length-map rounds (λ (r : Round). r.finished))) in
     let accepted : length b.accepted ≡ length a.accepted + length rounds =
-    ap length heard.accepted ∙ (length-append a.accepted (map (λ (r : Round). r.accepted) rounds) ∙ ap (λ (k : ℕ). length a.accepted + k) (length-map rounds (λ (r : Round). r.accepted))) in
+    ap length heard.accepted ∙ (length-append a.accepted (map (λ (r : Round). r.accepted) rounds) ∙ ap (λ (k : ℕ). length a.accepted + k)
+    (length-map rounds (λ (r : Round). r.accepted))) in
     omega (arith, finished, accepted, least)
 
 pub counts-same : (a b : Counts) → a.calls ≡ b.calls → a.faults ≡ b.faults → a ≡ b

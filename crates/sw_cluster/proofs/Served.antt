@@ -1,5 +1,6 @@
 -- What connections that were served leave: a run of the machine, and files that stand for what reached in it.
-use Rattle.std.proofs.Common.{◌≡◌, ℕ, zero, suc, ◌*◌, ◌^◌, ◌<◌, Bool, true, false, not, ◌&&◌, List, [], ◌∷◌, length, Option, None, Some, Result, Ok, Err, inl, inr}
+use Rattle.std.proofs.Common.{◌≡◌, ℕ, zero, suc, ◌*◌, ◌^◌, ◌<◌, Bool, true, false, not, ◌&&◌, List, [], ◌∷◌, length, Option, None, Some, Result, Ok, Err, inl}
+use Rattle.std.proofs.Common.{inr}
 use Rattle.std.proofs.Common.{refl, sym, ◌∙◌, ap, subst}
 use Rattle.std.specs.Bool.{⊤}
 use Rattle.std.specs.List.{slice_get}
@@ -23,7 +24,9 @@ use Rattle.sw_cluster.proofs.Storing.{rests-before, stands-begun, stored}
 use Rattle.sw_cluster.specs.Ending.{AllTold, IsStored}
 use Rattle.sw_cluster.specs.Leaving.{AreLeft, IsOut}
 use Rattle.sw_cluster.specs.Nodes.{IsReady, out_but, places_at, places_of}
-use Rattle.sw_cluster.specs.Rounds.{Counts, DoorsTold, EndsServing, HasServed, IsServed, RestartsDevice, RestartsFirst, Round, ServesAll, ServesOne, StopsRestarting, StopsWaiting, read_in, written_in}
+use Rattle.sw_cluster.specs.Rounds.{EndsServing, HasServed, EndsConnections, RestartsDevice, RestartsFirst, Round, ServesAll, ServesOne}
+use Rattle.sw_cluster.specs.Told.{Counts, DoorsTold}
+use Rattle.sw_cluster.specs.Rounds.{StopsRestarting, StopsWaiting, read_in, written_in}
 use Rattle.sw_cluster.specs.declared.rounds.ServeFault.{ServeFault}
 use Rattle.sw_cluster.specs.declared.rounds.ServeFault.TheVariants as serve_faults
 
@@ -61,7 +64,8 @@ module _ {V : Type 0} (tells : V → Bool) (files : V → Folders) (faults : V �
         goes-join (see began) (see w.then) (see after) first
         (goes-join (see w.then) (see w.served) (see after) one (first-go w.device w.served after w.restarted))
 
-    served-goes : (result : Result ⊤ ServeFault) → IsServed tells files faults ring connections began after a b t u s x result → Goes (see began) (see after)
+    served-goes : (result : Result ⊤ ServeFault) → EndsConnections tells files faults ring connections began after a b t u s x result →
+        Goes (see began) (see after)
     served-goes (Ok done) served = all-go began after served.rounds power served.serves
     served-goes (Err serve_faults.Door) served = waiting-goes served.0
     served-goes (Err serve_faults.Store) served = restarting-goes served.0
@@ -81,7 +85,8 @@ module _ {V : Type 0} (tells : V → Bool) (files : V → Folders) (faults : V �
   pub ready-after : {S : Type 0} (out : S → ℕ → ℕ → Bool) (w after : AllNodes V) (stores : S) (round : Round) → IsReady out ring w stores
       → ServesOne tells files faults ring w round after → IsReady out ring after stores
   ready-after out w after stores round ready one =
-      goes_on tells files faults out ring w after stores ready (connection-nodes see ring round.moment w (read_in round) (written_in round) after round.finished.status one)
+      goes_on tells files faults out ring w after stores ready (connection-nodes see ring round.moment w (read_in round) (written_in round) after
+      round.finished.status one)
 
   -- ---- how the nodes are left
 

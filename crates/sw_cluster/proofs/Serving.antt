@@ -8,6 +8,8 @@ use Rattle.sw_message.specs.declared.response.Response.{Response}
 use Rattle.sw_object_server.specs.Replies.{bare}
 use Rattle.sw_object_server.specs.Serving.{IsAnswered, IsGivenUp}
 use Rattle.sw_control.specs.Asking.{is_control}
+use Rattle.sw_container_machine.proofs.Sessions.{cont-run-calm}
+use Rattle.sw_container_server.specs.Targets.{is_for_containers}
 use Rattle.sw_replica_server.specs.Targets.{is_replication_of}
 use Rattle.sw_core.specs.Worlds.{AllNodes, shown, sight_of}
 use Rattle.sw_peer.specs.Sights.{Nodes, Sight}
@@ -17,7 +19,7 @@ use Rattle.sw_ring.specs.declared.ring.Ring.{Ring}
 use Rattle.sw_volume.specs.Tree.{Folders}
 use Rattle.sw_cluster.proofs.Readying.{ready-of}
 use Rattle.sw_cluster.proofs.Restarting.{asked-lines, none-called}
-use Rattle.sw_cluster.proofs.RunningLemmas.{answered_nodes, answered_runs, left_nodes, left_runs}
+use Rattle.sw_cluster.proofs.RunningLemmas.{answered_calm, answered_nodes, answered_runs, left_calm, left_nodes, left_runs}
 use Rattle.sw_cluster.proofs.ServingLemmas.{request_left, request_served}
 use Rattle.sw_cluster.specs.Nodes.{IsReady, NodesAnswer}
 
@@ -65,7 +67,8 @@ module _ {V : Type 0} (tells : V → Bool) (files : V → Folders) (faults : V �
 
   module _ {S : Type 0} (out : S → ℕ → ℕ → Bool) where
     -- the nodes are those of a ring, which has a device: so none of theirs is lifted
-    pub goes_on : (ring : Ring) (w after : AllNodes V) (stores : S) → IsReady out ring w stores → (see after).nodes ≡ (see w).nodes → IsReady out ring after stores
+    pub goes_on : (ring : Ring) (w after : AllNodes V) (stores : S) → IsReady out ring w stores → (see after).nodes ≡ (see w).nodes →
+        IsReady out ring after stores
     goes_on ring w after stores ready same =
         let nodes = same ∙ ready.nodes in
         ready-of out ring after stores (whole_of after.lifted after.devices (length ring.devices) (has_device ring) (ap (λ (n : Nodes). n.devices) nodes)) nodes
@@ -86,15 +89,18 @@ module _ {V : Type 0} (tells : V → Bool) (files : V → Folders) (faults : V �
   module _ {S : Type 0} (store_faults store_calls : S → ℕ) (out : S → ℕ → ℕ → Bool) where
     -- it was answered
     pub served : (ring : Ring) (w after : AllNodes V) (stores : MutBor S) (request : Request) (moment : ℕ) (response : Response)
-        → is_control request.path ≡ false → is_replication_of request ≡ false → IsReady out ring w stores.now
-        → IsAnswered see w after ring request moment response → NodesAnswer tells files faults store_faults store_calls out ring ring w after stores stores request moment response
-    served ring w after stores request moment response is object ready answered = record {
+        → is_control request.path ≡ false → is_replication_of request ≡ false → is_for_containers request ≡ false → IsReady out ring w stores.now
+        → IsAnswered see w after ring request moment response → NodesAnswer tells files faults store_faults store_calls out ring ring w after stores stores
+        request moment response
+    served ring w after stores request moment response is other object ready answered = record {
       ring_is = refl;
       may = record {
-        answers = on_false _ _ (is_control request.path) is (on_false _ _ (is_replication_of request) object
-            (request_served see (λ w. w.lines) (λ w. refl) ring w after request moment response answered));
+        answers = on_false _ _ (is_control request.path) is (on_false _ _ (is_replication_of request) other (on_false _ _ (is_for_containers request) object
+            (request_served see (λ w. w.lines) (λ w. refl) ring w after request moment response answered)));
         nodes = answered_nodes see ring w after request moment response answered;
         runs = answered_runs see (λ w. refl) ring w after request moment response answered;
+        cont_runs = λ start r. cont-run-calm start (see w) (see after) (answered_nodes see ring w after request moment response answered)
+            (answered_calm see ring w after request moment response answered) r;
       };
       faults_are = refl;
       gained = 0;
@@ -107,16 +113,19 @@ module _ {V : Type 0} (tells : V → Bool) (files : V → Folders) (faults : V �
 
     -- its reply found no memory
     pub gave_up : (ring : Ring) (w after : AllNodes V) (stores : MutBor S) (request : Request) (moment : ℕ) (response : Response)
-        → is_control request.path ≡ false → is_replication_of request ≡ false → IsReady out ring w stores.now → response ≡ bare 500
+        → is_control request.path ≡ false → is_replication_of request ≡ false → is_for_containers request ≡ false → IsReady out ring w stores.now
+        → response ≡ bare 500
         → IsGivenUp see w after ring request moment
         → NodesAnswer tells files faults store_faults store_calls out ring ring w after stores stores request moment response
-    gave_up ring w after stores request moment response is object ready reply left = record {
+    gave_up ring w after stores request moment response is other object ready reply left = record {
       ring_is = refl;
       may = record {
-        answers = on_false _ _ (is_control request.path) is (on_false _ _ (is_replication_of request) object
-            (inr (reply, request_left see (λ w. w.lines) (λ w. refl) ring w after request moment left)));
+        answers = on_false _ _ (is_control request.path) is (on_false _ _ (is_replication_of request) other (on_false _ _ (is_for_containers request) object
+            (inr (reply, request_left see (λ w. w.lines) (λ w. refl) ring w after request moment left))));
         nodes = left_nodes see ring w after request moment left;
         runs = left_runs see (λ w. refl) ring w after request moment left;
+        cont_runs = λ start r. cont-run-calm start (see w) (see after) (left_nodes see ring w after request moment left)
+            (left_calm see ring w after request moment left) r;
       };
       faults_are = refl;
       gained = 0;

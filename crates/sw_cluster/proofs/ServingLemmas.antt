@@ -98,7 +98,8 @@ read_line s t lines lines_now device name got before after stepped =
 
 module _ {D : Type 0} (sight : D → Sight) (lines : D → List Line) (keeps : (d : D) → (sight d).trail ≡ Some (lines d)) where
   -- a request that was answered
-  pub request_served : (ring : Ring) (old new : D) (request : Request) (moment : ℕ) (response : Response) → IsAnswered sight old new ring request moment response
+  pub request_served : (ring : Ring) (old new : D) (request : Request) (moment : ℕ) (response : Response) →
+      IsAnswered sight old new ring request moment response
       → IsRight ring (lines old) request moment response (lines new) ⊎ IsWanting ring (lines old) request response (lines new)
   request_served ring old new request moment response answered = by_asked answered.0 answered.1 answered.2
     where

@@ -21,7 +21,8 @@ use Rattle.sw_core.proofs.Placed.{stripe-below}
 use Rattle.sw_core.proofs.Wholes.{open-at}
 use Rattle.sw_core.specs.Doors.{StandsFor}
 use Rattle.sw_core.specs.Machine.{Machine, machine_of, state}
-use Rattle.sw_core.specs.Worlds.{AllNodes, AreLifted, HasLimits, IsWorld, Lifts, first_of, held_of, lock_of, nodes_of, past_of, seen_of, shown, sight_of, stripe_at}
+use Rattle.sw_core.specs.Worlds.{AllNodes, AreLifted, HasLimits, IsWorld, Lifts, first_of, held_of, lock_of, nodes_of, past_of, seen_of, shown, sight_of}
+use Rattle.sw_core.specs.Worlds.{stripe_at}
 use Rattle.sw_core.specs.declared.slot.Slot.{Slot}
 use Rattle.sw_core.specs.declared.slot.Slot.TheVariants as slots
 use Rattle.sw_cluster.proofs.Resting.{among-place}
@@ -90,13 +91,15 @@ module _ {V : Type 0} (tells : V → Bool) (files : V → Folders) (faults : V �
             under : (d n s b : ℕ) → d < n → s < b → d * b + s < n * b
             under d n s b h g = grind (arith, rows)
 
-        by : (k : Kept V) × (slice_get w.slots (lock_of ring.lock_bits ring.power device hash) ≡ Some (slots.Open k)) × (k.secrets ≡ w.secrets) × (k.power ≡ w.power)
+        by : (k : Kept V) × (slice_get w.slots (lock_of ring.lock_bits ring.power device hash) ≡ Some (slots.Open k)) × (k.secrets ≡ w.secrets) ×
+            (k.power ≡ w.power)
             × HasLimits k
             → IsStored tells files faults ring machine rests device hash
         by there =
             let told : (seen_of tells files faults (Some (slots.Open there.0))).told ≡ true =
             subst (λ (o : Option (Slot V)). (seen_of tells files faults o).told ≡ true) there.1
-            (subst (λ (l : ℕ). (seen_of tells files faults (slice_get w.slots l)).told ≡ true) (lock-same w bits-are power-are device hash) (stands.told device hash)) in
+            (subst (λ (l : ℕ). (seen_of tells files faults (slice_get w.slots l)).told ≡ true) (lock-same w bits-are power-are device hash)
+            (stands.told device hash)) in
             let held : held_of tells files faults (Some (slots.Open there.0)) hash ≡ state machine device hash =
             subst (λ (o : Option (Slot V)). held_of tells files faults o hash ≡ state machine device hash) there.1
             (subst (λ (l : ℕ). held_of tells files faults (slice_get w.slots l) hash ≡ state machine device hash) (lock-same w bits-are power-are device hash)

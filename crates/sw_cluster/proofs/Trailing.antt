@@ -9,7 +9,8 @@ use Rattle.sw_message.specs.declared.request.Request.{Request}
 use Rattle.sw_message.specs.declared.response.Response.{Response}
 use Rattle.sw_outside.specs.Counts.{raised}
 use Rattle.sw_outside.specs.Readings.{TicksEach}
-use Rattle.sw_peer.specs.Sights.{Nodes as SightNodes, Sight}
+use Rattle.sw_hashpath.specs.declared.place.Place.{Place}
+use Rattle.sw_peer.specs.Sights.{Nodes as SightNodes, Sight, cont_lock}
 use Rattle.sw_peer.specs.declared.line.Line.{Line}
 use Rattle.sw_ring.specs.declared.ring.Ring.{Ring}
 use Rattle.sw_session.proofs.Mapping.{session-ends, session-mapped}
@@ -28,12 +29,17 @@ use Rattle.sw_cluster.proofs.Exchanging.{exchange_meets}
 use Rattle.sw_cluster.proofs.Readying.{ready-of}
 use Rattle.sw_cluster.proofs.Restarting.{called-on, none-called, out-called, whole-called}
 use Rattle.sw_core.proofs.Sessions.{run-begins}
+use Rattle.sw_container_machine.proofs.Sessions.{cont-run-begins}
+use Rattle.sw_container_machine.specs.Machine.{ContRuns, cont_machine_of}
+use Rattle.sw_container_machine.specs.Standing.{HasContRun}
+use Rattle.sw_core.proofs.Containing.{empty-holds, empty-told}
 use Rattle.sw_core.specs.Doors.{HasRun}
 use Rattle.sw_core.specs.Machine.{Runs, came_in, machine_of}
 use Rattle.sw_core.specs.Worlds.{AllNodes, IsWorld, Lifts, first_of, nodes_of}
-use Rattle.sw_core.specs.Worlds.{opened, shown, sight_of, without_lines}
+use Rattle.sw_core.specs.Worlds.{opened, place_lock, shown, sight_of, without_lines}
 use Rattle.sw_core.specs.declared.slot.Slot.TheVariants as slots
-use Rattle.sw_cluster.specs.Ending.{AllTold, IsRunOver, IsTrail, status_by}
+use Rattle.sw_cluster.specs.Ending.{AllTold, IsContTrail, IsRunOver, IsTrail, status_by}
+use Rattle.sw_cluster.specs.Told.{Counts, counts}
 use Rattle.sw_cluster.specs.Nodes.{IsReady, NodesAnswer, NodesHalt, faults_by, out_but, places_at, places_of}
 use Rattle.sw_cluster.specs.Server.{MayAnswer, MayHalt}
 use Rattle.sw_cluster.specs.Statuses as statuses
@@ -118,6 +124,8 @@ module _ {V : Type 0} (tells : V → Bool) (files : V → Folders) (faults : V �
       pub calls_are : store_calls stores_now.now ≡ raised_by (restarts_in w.lines * 2 ^ ring.lock_bits) (store_calls stores.now)
       pub same_stores : stores_now.ghost_name ≡ stores.ghost_name
       pub runs : AllTold tells files faults ring began → HasRun (machine_of (sight_of tells files faults began)) (sight_of tells files faults w)
+      pub none : (device : ℕ) (place : Place) → (sight_of tells files faults began).containers.holds device place ≡ None
+      pub cont_runs : HasContRun (cont_machine_of (sight_of tells files faults began)) (sight_of tells files faults w)
 
     -- then a device couldn't be restarted
     pub record IsHalted (fault : ServerFault) (after : AllNodes V) (stores_now : MutBor S) : Type 0 where
@@ -149,6 +157,7 @@ module _ {V : Type 0} (tells : V → Bool) (files : V → Folders) (faults : V �
           → ((l : ℕ) (k : Kept V) → slice_get w.slots l ≡ Some (slots.Open k) → at_place now (2 ^ ring.lock_bits) l ≡ Some k.volume)
           → ((device : ℕ) → w.lifted ≡ Some device → (d s : ℕ) → places_at ring device d s ≡ true → now d s ≡ rests stores_now.now d s)
           → AllTold tells files faults ring began → IsTrail tells files faults ring began now w.lines
+      pub tells_containers : IsContTrail tells files faults ring began w w.lines
 
     pub way-begun : (volumes : List V) → length volumes ≡ length ring.devices * 2 ^ ring.lock_bits → began ≡ opened ring volumes
         → ((d s : ℕ) → out stores.now d s ≡ places_of ring d s) → IsUnderWay ring began stores
@@ -163,6 +172,16 @@ module _ {V : Type 0} (tells : V → Bool) (files : V → Folders) (faults : V �
       runs = λ told. run-begins (machine_of (sight_of tells files faults began)) (sight_of tells files faults began)
           (stands-begun tells files faults ring began (ap (λ (w : AllNodes V). w.lock_bits) is) (ap (λ (w : AllNodes V). w.power) is)
           (ap (λ (w : AllNodes V). length w.slots) is ∙ (simp length-map count)) told)
+          (ap (λ (w : AllNodes V). Some w.lines) is);
+      none = λ device place. subst (λ (w : AllNodes V). (see w).containers.holds device place ≡ None) (sym is)
+          (empty-holds volumes (place_lock ring.lock_bits ring.power device place) place);
+      cont_runs = cont-run-begins (cont_machine_of (see began)) (see began)
+          (record {
+            tables = λ device place. refl;
+            seen = λ l. refl;
+            told = λ device place. subst (λ (w : AllNodes V). ((see w).containers.seen (cont_lock (see w).nodes device place)).told ≡ true) (sym is)
+                (empty-told volumes (place_lock ring.lock_bits ring.power device place));
+          })
           (ap (λ (w : AllNodes V). Some w.lines) is);
     }
 
@@ -181,6 +200,8 @@ module _ {V : Type 0} (tells : V → Bool) (files : V → Folders) (faults : V �
             way.ring_is answer.calls_are);
         same_stores = answer.same_stores ∙ way.same_stores;
         runs = λ told. answer.may.runs (machine_of (sight_of tells files faults began)) (way.runs told);
+        none = way.none;
+        cont_runs = answer.may.cont_runs (cont_machine_of (sight_of tells files faults began)) way.cont_runs;
       }
 
       halts : (fault : ServerFault)
@@ -216,6 +237,21 @@ module _ {V : Type 0} (tells : V → Bool) (files : V → Folders) (faults : V �
 
     -- ---- the end
 
+    -- the containers of a world under way, as another one has them that has its lines
+    cont-trail-of : (ring_now : Ring) (w after : AllNodes V) (stores_now : MutBor S) → IsUnderWay ring_now w stores_now → after.lines ≡ w.lines
+        → ((device : ℕ) (place : Place) → (see after).containers.holds device place ≡ (see w).containers.holds device place)
+        → IsContTrail tells files faults ring began after after.lines
+    cont-trail-of ring_now w after stores_now way lines same =
+        let r = way.cont_runs in
+        let lines_are : after.lines ≡ r.lines = lines ∙ some-is r.kept in
+        record {
+          none = way.none;
+          machine = r.after;
+          run = subst (λ (n : SightNodes). ContRuns n (cont_machine_of (see began)) after.lines r.after) way.ready.nodes
+              (subst (λ (ls : List Line). ContRuns (see w).nodes (cont_machine_of (see began)) ls r.after) (sym lines_are) r.run);
+          holds = λ device place. same device place ∙ r.stands.tables device place;
+        }
+
     none-lifted : (device : ℕ) → None ≡ Some device → ⊥
     none-lifted device is = cc
 
@@ -229,6 +265,7 @@ module _ {V : Type 0} (tells : V → Bool) (files : V → Folders) (faults : V �
       calls_are = whole-called ring w.lifted w.lines (store_calls stores.now) (store_calls stores_now.now) way.calls_are;
       same_stores = way.same_stores;
       tells_trail = λ now is resting same told. trail-of began w (relined w is) way.ready.whole way.ready.nodes (way.runs told) now resting w.lines refl;
+      tells_containers = cont-trail-of ring_now w w stores_now way refl (λ device place. refl);
     }
 
     module _ (fault : ServerFault) (after : AllNodes V) (stores_now : MutBor S) (h : IsHalted fault after stores_now) where
@@ -246,7 +283,8 @@ module _ {V : Type 0} (tells : V → Bool) (files : V → Folders) (faults : V �
           → ((l : ℕ) (k : Kept V) → slice_get after.slots l ≡ Some (slots.Open k) → at_place now (2 ^ ring.lock_bits) l ≡ Some k.volume)
           → ((device : ℕ) → after.lifted ≡ Some device → (d s : ℕ) → places_at ring device d s ≡ true → now d s ≡ rests stores_now.now d s)
           → (l : ℕ) (k : Kept V) → slice_get h.w.slots l ≡ Some (slots.Open k) → at_place now (2 ^ ring.lock_bits) l ≡ Some k.volume
-      rests-old now resting same = rests-before tells files faults ring h.w after old-bits h.device h.given h.up (rests stores_now.now) now h.resting resting same
+      rests-old now resting same = rests-before tells files faults ring h.w after old-bits h.device h.given h.up (rests stores_now.now) now h.resting resting
+          same
 
       halt-ended : IsEnded (faults_by (store_faults stores.now) fault) after stores_now
       halt-ended = record {
@@ -262,6 +300,8 @@ module _ {V : Type 0} (tells : V → Bool) (files : V → Folders) (faults : V �
         same_stores = h.same_stores;
         tells_trail = λ now is resting same told. trail-of began h.w h.up.world h.up.whole h.way.ready.nodes (h.way.runs told) now (rests-old now resting same)
             after.lines (ap (λ (x : AllNodes V). x.lines) h.up.rest);
+        tells_containers = cont-trail-of h.ring_then h.w after h.stores_then h.way (ap (λ (x : AllNodes V). x.lines) h.up.rest)
+            (λ device place. ap (λ (x : AllNodes V). (see x).containers.holds device place) h.up.rest);
       }
 
     -- the count of faults of the stores at the end
@@ -325,15 +365,16 @@ module _ {V : Type 0} (tells : V → Bool) (files : V → Folders) (faults : V �
         result way session
 
     -- what was run, once the volumes were given back
-    pub nodes-run : (world : AllNodes V) (rests_now : ℕ → ℕ → Option V) (faults_now calls_now : ℕ) (clock clock_now : Option (List ℕ)) (steps : List Line)
+    pub nodes-run : (world : AllNodes V) (rests_now : ℕ → ℕ → Option V) (stores_now : Counts) (clock clock_now : Option (List ℕ)) (steps : List Line)
         (read : List ℕ) (status : ℕ)
-        → status ≡ status_by result → steps ≡ after.network.door.lines → world ≡ without_lines after.network.door → read ≡ moments → TicksEach clock clock_now moments
+        → status ≡ status_by result → steps ≡ after.network.door.lines → world ≡ without_lines after.network.door → read ≡ moments →
+        TicksEach clock clock_now moments
         → IsWorld world → ((l : ℕ) (k : Kept V) → slice_get world.slots l ≡ Some (slots.Open k) → at_place rests_now (2 ^ ring.lock_bits) l ≡ Some k.volume)
         → ((device : ℕ) → world.lifted ≡ Some device → (d s : ℕ) → places_at ring device d s ≡ true → rests_now d s ≡ rests after.stores.now d s)
-        → faults_now ≡ store_faults after.stores.now → calls_now ≡ store_calls after.stores.now
-        → IsRunOver tells files faults ring start.network.door rests_now (store_faults start.stores.now) faults_now
-        (store_calls start.stores.now) calls_now source sink clock clock_now (record { steps = steps; moments = read }) status
-    nodes-run world rests_now faults_now calls_now clock clock_now steps read status status_is steps_are taken read_is ticks is resting same_out faults_are
+        → stores_now.faults ≡ store_faults after.stores.now → stores_now.calls ≡ store_calls after.stores.now
+        → IsRunOver tells files faults ring start.network.door rests_now (counts store_calls store_faults start.stores.now) stores_now source sink clock
+        clock_now (record { steps = steps; moments = read }) status
+    nodes-run world rests_now stores_now clock clock_now steps read status status_is steps_are taken read_is ticks is resting same_out faults_are
         calls_are = record {
           after = after.network.door;
           ends = record {
@@ -351,10 +392,14 @@ module _ {V : Type 0} (tells : V → Bool) (files : V → Folders) (faults : V �
               (λ l k at. resting l k (ap (λ (w : AllNodes V). slice_get w.slots l) taken ∙ at))
               (λ device lifted. same_out device (ap (λ (w : AllNodes V). w.lifted) taken ∙ lifted))
               told);
+          containers = subst (λ (ls : List Line). IsContTrail tells files faults ring start.network.door after.network.door ls) (sym steps_are)
+              nodes-ended.tells_containers;
           meets = exchange_meets tells files faults;
           moments = subst (TicksEach clock clock_now) (sym read_is) ticks;
-          store_faults_are = faults_are ∙ (nodes-ended.faults_are ∙ ap (faults_at store_faults store_calls rests out start.network.door start.stores) (sym status_is));
+          store_faults_are = faults_are ∙ (nodes-ended.faults_are ∙ ap (faults_at store_faults store_calls rests out start.network.door start.stores)
+              (sym status_is));
           store_calls_are = subst (AreCalled ring after.network.door.lifted steps (store_calls start.stores.now)) (sym calls_are)
-              (subst (λ (ls : List Line). AreCalled ring after.network.door.lifted ls (store_calls start.stores.now) (store_calls after.stores.now)) (sym steps_are)
+              (subst (λ (ls : List Line). AreCalled ring after.network.door.lifted ls (store_calls start.stores.now) (store_calls after.stores.now))
+              (sym steps_are)
               nodes-ended.calls_are);
         }

@@ -1,5 +1,5 @@
 -- How a session ends, by its status, and what its trail tells. (This project's own.)
-use Rattle.std.specs.Prelude.{◌≡◌, ⊤, ℕ, ◌*◌, ◌^◌, ◌<◌, ◌≤◌, ◌==◌, Bool, true, false, List, [], length, Option, Some, Result, Ok, Err, ◌⊎◌, if◌then◌else◌}
+use Rattle.std.specs.Prelude.{◌≡◌, ⊤, ℕ, ◌*◌, ◌^◌, ◌<◌, ◌≤◌, ◌==◌, Bool, true, false, List, [], length, Option, None, Some, Result, Ok, Err, ◌⊎◌, if◌then◌else◌}
 use Rattle.sw_outside.specs.Readings.{TicksEach}
 use Rattle.sw_message.specs.declared.request.Request.{Request}
 use Rattle.sw_session.specs.Passages.{Passage}
@@ -7,6 +7,8 @@ use Rattle.sw_session.specs.Replies.{Halts, Serves}
 use Rattle.sw_session.specs.Session.{IsSession}
 use Rattle.sw_session.specs.declared.session.SessionFault.{SessionFault}
 use Rattle.sw_session.specs.declared.session.SessionFault.TheVariants as faults
+use Rattle.sw_container_machine.specs.Machine.{ContMachine, ContRuns, cont_machine_of}
+use Rattle.sw_hashpath.specs.declared.place.Place.{Place}
 use Rattle.sw_peer.specs.Journals.{Hash}
 use Rattle.sw_ring.specs.declared.ring.Ring.{Ring}
 use Rattle.sw_core.specs.Machine.{Machine, RunLine, came_in, machine_of, state}
@@ -27,6 +29,7 @@ use Rattle.sw_cluster.specs.Restarts.{AreCalled}
 use Rattle.sw_cluster.specs.Server.{MayAnswer, MayHalt}
 use Rattle.sw_core.specs.declared.trail.Trail.{Trail}
 use Rattle.sw_cluster.specs.Statuses as statuses
+use Rattle.sw_cluster.specs.Told.{Counts}
 
 -- the status of an outcome
 abbrev pub status_by : Result ⊤ SessionFault → ℕ
@@ -69,28 +72,38 @@ module _ {V : Type 0} (tells : V → Bool) (files : V → Folders) (faults : V �
         (machine_of (sight_of tells files faults began)) lines machine
     pub stored : (device : ℕ) (hash : Hash) → device < length ring.devices → IsStored ring machine rests device hash
 
+  -- The trail tells what happened at the containers too: none was there when the nodes began, its steps are those of a run of the machine of containers
+  -- from that, each answered by what stood at its device, and in the end the devices hold what stands there.
+  pub record IsContTrail (ring : Ring) (began after : AllNodes V) (steps : List Line) : Type 0 where
+    pub none : (device : ℕ) (place : Place) → (sight_of tells files faults began).containers.holds device place ≡ None
+    pub machine : ContMachine
+    pub run : ContRuns (nodes_of (length ring.devices) ring.lock_bits ring.power ring.secrets) (cont_machine_of (sight_of tells files faults began)) steps
+        machine
+    pub holds : (device : ℕ) (place : Place) → (sight_of tells files faults after).containers.holds device place ≡ machine.tables device place
+
   -- A session was run over these nodes of a ring, in which no request is a last one, and then their volumes were given back. Of its requests
   -- two that pushed a partition, there and back, and were told that it is done, meet
-  pub record IsRunOver (ring : Ring) (began : AllNodes V) (rests_now : ℕ → ℕ → Option V) (store_faults store_faults_now : ℕ)
-      (store_calls store_calls_now : ℕ) (source sink : Passage) (clock clock_now : Option (List ℕ)) (trail : Trail) (status : ℕ) : Type 0 where
+  pub record IsRunOver (ring : Ring) (began : AllNodes V) (rests_now : ℕ → ℕ → Option V) (stores stores_now : Counts)
+      (source sink : Passage) (clock clock_now : Option (List ℕ)) (trail : Trail) (status : ℕ) : Type 0 where
     pub after : AllNodes V
     pub ends : Ends (λ request. false) (MayAnswer tells files faults ring) (λ w r moment fault. MayHalt tells files faults ring w r) began source sink
         trail.moments after status
     pub steps : trail.steps ≡ after.lines
     pub told : AllTold ring began → IsTrail ring began rests_now trail.steps
+    pub containers : IsContTrail ring began after trail.steps
     pub meets : ExchangeMeets tells files faults
     pub moments : TicksEach clock clock_now trail.moments
-    pub store_faults_are : store_faults_now ≡ (if status == statuses.store_fault then raised store_faults else store_faults)
-    pub store_calls_are : AreCalled ring after.lifted trail.steps store_calls store_calls_now
+    pub store_faults_are : stores_now.faults ≡ (if status == statuses.store_fault then raised stores.faults else stores.faults)
+    pub store_calls_are : AreCalled ring after.lifted trail.steps stores.calls stores_now.calls
 
   -- the volumes of a ring's nodes were started, by one call of the stores for each, and a session run over them
-  pub record IsRun (first : V → Type 0) (ring : Ring) (rests rests_now : ℕ → ℕ → Option V) (store_faults store_faults_now : ℕ)
-      (store_calls store_calls_now : ℕ) (source sink : Passage) (clock clock_now : Option (List ℕ)) (trail : Trail) (status : ℕ) : Type 0 where
+  pub record IsRun (first : V → Type 0) (ring : Ring) (rests rests_now : ℕ → ℕ → Option V) (stores stores_now : Counts)
+      (source sink : Passage) (clock clock_now : Option (List ℕ)) (trail : Trail) (status : ℕ) : Type 0 where
     pub volumes : List V
     pub started : AreStarted first rests (2 ^ ring.lock_bits) 0 volumes
     pub count : length volumes ≡ length ring.devices * 2 ^ ring.lock_bits
-    pub over : IsRunOver ring (opened ring volumes) rests_now store_faults store_faults_now
-        (raised_by (length ring.devices * 2 ^ ring.lock_bits) store_calls) store_calls_now source sink clock clock_now trail status
+    pub over : IsRunOver ring (opened ring volumes) rests_now
+        (record stores { calls = raised_by (length ring.devices * 2 ^ ring.lock_bits) stores.calls }) stores_now source sink clock clock_now trail status
 
 -- the status of a command whose volumes couldn't be started
 abbrev pub start_status : StoreError → ℕ
@@ -98,18 +111,19 @@ start_status store_errors.Failed = statuses.store_fault
 start_status store_errors.NoMemory = statuses.no_memory
 
 -- the volumes of a ring's nodes couldn't be started, or there was no memory for the nodes. Those that were started rest again
-pub record AreUnstarted {V : Type 0} (first : V → Type 0) (ring : Ring) (rests rests_now : ℕ → ℕ → Option V) (store_faults store_faults_now : ℕ)
-    (store_calls store_calls_now : ℕ) (status : ℕ) : Type 0 where
-  pub why : ((status ≡ statuses.store_fault) × (store_faults_now ≡ raised store_faults)) ⊎ ((status ≡ statuses.no_memory) × (store_faults_now ≡ store_faults))
+pub record AreUnstarted {V : Type 0} (first : V → Type 0) (ring : Ring) (rests rests_now : ℕ → ℕ → Option V) (stores stores_now : Counts)
+    (status : ℕ) : Type 0 where
+  pub why : ((status ≡ statuses.store_fault) × (stores_now.faults ≡ raised stores.faults)) ⊎
+      ((status ≡ statuses.no_memory) × (stores_now.faults ≡ stores.faults))
   pub tried : ℕ
   pub most : tried ≤ length ring.devices * 2 ^ ring.lock_bits
-  pub store_calls_are : store_calls_now ≡ raised_by tried store_calls
+  pub store_calls_are : stores_now.calls ≡ raised_by tried stores.calls
   pub resting : (device stripe : ℕ) → RestsAgain first (rests device stripe) (rests_now device stripe)
 
 -- so no session was run
-pub record IsUnbegun {V : Type 0} (first : V → Type 0) (ring : Ring) (rests rests_now : ℕ → ℕ → Option V) (store_faults store_faults_now : ℕ)
-    (store_calls store_calls_now : ℕ) (source sink : Passage) (clock clock_now : Option (List ℕ)) (trail : Trail) (status : ℕ) : Type 0 where
-  pub unstarted : AreUnstarted first ring rests rests_now store_faults store_faults_now store_calls store_calls_now status
+pub record IsUnbegun {V : Type 0} (first : V → Type 0) (ring : Ring) (rests rests_now : ℕ → ℕ → Option V) (stores stores_now : Counts)
+    (source sink : Passage) (clock clock_now : Option (List ℕ)) (trail : Trail) (status : ℕ) : Type 0 where
+  pub unstarted : AreUnstarted first ring rests rests_now stores stores_now status
   pub nothing_read : (source.now ≡ source.before) × (source.faults_now ≡ source.faults)
   pub nothing_written : (sink.now ≡ sink.before) × (sink.faults_now ≡ sink.faults)
   pub no_tick : clock_now ≡ clock
@@ -117,11 +131,11 @@ pub record IsUnbegun {V : Type 0} (first : V → Type 0) (ring : Ring) (rests re
   pub no_moments : trail.moments ≡ []
 
 -- how `run` goes on with a ring, which it read by one call of the stores: from what rests in them then, which is what rested before
-pub record Runs {V : Type 0} (tells : V → Bool) (files : V → Folders) (faults : V → ℕ) (first : V → Type 0) (ring : Ring)
-    (rests rests_now : ℕ → ℕ → Option V) (store_faults store_faults_now store_calls store_calls_now : ℕ)
+pub record RunsRing {V : Type 0} (tells : V → Bool) (files : V → Folders) (faults : V → ℕ) (first : V → Type 0) (ring : Ring)
+    (rests rests_now : ℕ → ℕ → Option V) (stores stores_now : Counts)
     (source sink : Passage) (clock clock_now : Option (List ℕ)) (trail : Trail) (status : ℕ) : Type 0 where
   pub began : ℕ → ℕ → Option V
   pub same : IsAsItWas rests began
-  pub ends : IsRun tells files faults first ring began rests_now store_faults store_faults_now (raised store_calls) store_calls_now source sink
+  pub ends : IsRun tells files faults first ring began rests_now (record stores { calls = raised stores.calls }) stores_now source sink
       clock clock_now trail status
-      ⊎ IsUnbegun first ring began rests_now store_faults store_faults_now (raised store_calls) store_calls_now source sink clock clock_now trail status
+      ⊎ IsUnbegun first ring began rests_now (record stores { calls = raised stores.calls }) stores_now source sink clock clock_now trail status

@@ -10,5 +10,6 @@ pub mod Restarts
 pub mod Rounds
 pub mod Server
 pub mod Statuses
+pub mod Told
 pub mod Whereabouts
 pub mod Words

@@ -1,7 +1,7 @@
 -- The restarts that a trail tells, and how often the stores were called for them. (This project's own.)
 use Rattle.std.specs.Prelude.{◌≡◌, ℕ, ◌+◌, ◌*◌, ◌^◌, ◌≤◌, List, [], ◌∷◌, Option, None}
 use Rattle.sw_peer.specs.declared.line.Event.{Event}
-use Rattle.sw_peer.specs.declared.line.Event.TheVariants.{Changed, Listed, Read, ReadPart, Restarted}
+use Rattle.sw_peer.specs.declared.line.Event.TheVariants.{AtContainer, Changed, Listed, Read, ReadPart, Restarted}
 use Rattle.sw_peer.specs.declared.line.Line.{Line}
 use Rattle.sw_ring.specs.declared.ring.Ring.{Ring}
 use Rattle.sw_volume.specs.Volume.{raised_by}
@@ -12,6 +12,7 @@ restarts_of (Changed name change answer) = 0
 restarts_of (Read name got) = 0
 restarts_of (ReadPart read) = 0
 restarts_of (Listed failed) = 0
+restarts_of (AtContainer event entries) = 0
 restarts_of Restarted = 1
 
 -- how many lines tell of a restart

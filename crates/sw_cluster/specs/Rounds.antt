@@ -1,5 +1,6 @@
 -- Connections that are served one after the other, over the nodes of a ring. (This project's own.)
-use Rattle.std.specs.Prelude.{◌≡◌, ⊤, ℕ, zero, suc, ◌+◌, ◌*◌, ◌^◌, ◌<◌, ◌≤◌, Bool, List, [], ◌∷◌, ◌++◌, length, map, codes, decimal, Option, Result, Ok, Err, ◌⊎◌}
+use Rattle.std.specs.Prelude.{◌≡◌, ⊤, ℕ, zero, suc, ◌+◌, ◌*◌, ◌^◌, ◌<◌, ◌≤◌, Bool, List, [], ◌∷◌, ◌++◌, length, map, codes, decimal, Option, Result, Ok, Err}
+use Rattle.std.specs.Prelude.{◌⊎◌}
 use Rattle.std.specs.Io.KnownBytes.{Appends}
 use Rattle.sw_core.specs.Doors.{StandsFor}
 use Rattle.sw_core.specs.Machine.{Machine, RunLine, machine_of}
@@ -20,29 +21,11 @@ use Rattle.sw_volume.specs.Volume.{raised_by}
 use Rattle.sw_cluster.specs.Connections.{IsConnection}
 use Rattle.sw_cluster.specs.Ending.{AllTold, AreUnstarted, IsStored}
 use Rattle.sw_cluster.specs.Statuses as statuses
+use Rattle.sw_cluster.specs.Told.{Counts, DoorsTold}
 use Rattle.sw_cluster.specs.declared.rounds.ServeFault.{ServeFault}
 use Rattle.sw_cluster.specs.declared.rounds.ServeFault.TheVariants as serve_faults
 
--- ---- what is told
-
--- what doors tell
-pub record DoorsTold : Type 0 where
-  pub accepted : List Accepted
-  pub finished : List Finished
-  pub calls : ℕ
-  pub faults : ℕ
-
-abbrev pub doors_told : {N : Type 0} → (N → List Accepted) → (N → List Finished) → (N → ℕ) → (N → ℕ) → N → DoorsTold
-doors_told accepted finished calls faults doors =
-    record { accepted = accepted doors; finished = finished doors; calls = calls doors; faults = faults doors }
-
--- what stores count
-pub record Counts : Type 0 where
-  pub calls : ℕ
-  pub faults : ℕ
-
-abbrev pub counts : {S : Type 0} → (S → ℕ) → (S → ℕ) → S → Counts
-counts calls faults stores = record { calls = calls stores; faults = faults stores }
+-- ---- lines and statuses
 
 -- the line that says that it is listened, and the one that says how many connections were served
 abbrev pub listening_line : ℕ → List ℕ
@@ -165,20 +148,21 @@ module _ {V : Type 0} (tells : V → Bool) (files : V → Folders) (faults : V �
     pub store_calls : stores_now.calls ≡ raised_by (tried + (length rounds * length ring.devices + device) * 2 ^ ring.lock_bits) stores.calls
 
   -- what became of the connections that were to be served. One call failed where that ended it, and else none
-  abbrev pub IsServed : ℕ → AllNodes V → AllNodes V → DoorsTold → DoorsTold → Option (List ℕ) → Option (List ℕ) → Counts → Counts → Result ⊤ ServeFault → Type 0
-  IsServed connections began after doors doors_now clock clock_now stores stores_now (Ok _) =
+  abbrev pub EndsConnections : ℕ → AllNodes V → AllNodes V → DoorsTold → DoorsTold → Option (List ℕ) → Option (List ℕ) → Counts → Counts → Result ⊤ ServeFault →
+      Type 0
+  EndsConnections connections began after doors doors_now clock clock_now stores stores_now (Ok _) =
       AllServed connections began after doors doors_now clock clock_now stores stores_now
-  IsServed connections began after doors doors_now clock clock_now stores stores_now (Err serve_faults.Door) =
+  EndsConnections connections began after doors doors_now clock clock_now stores stores_now (Err serve_faults.Door) =
       StopsWaiting connections began after doors doors_now clock clock_now stores stores_now
       × (doors_now.faults ≡ raised doors.faults) × (stores_now.faults ≡ stores.faults)
-  IsServed connections began after doors doors_now clock clock_now stores stores_now (Err serve_faults.Store) =
+  EndsConnections connections began after doors doors_now clock clock_now stores stores_now (Err serve_faults.Store) =
       StopsRestarting connections began after doors doors_now clock clock_now stores stores_now
       × (doors_now.faults ≡ doors.faults) × (stores_now.faults ≡ raised stores.faults)
-  IsServed connections began after doors doors_now clock clock_now stores stores_now (Err serve_faults.NoMemory) =
+  EndsConnections connections began after doors doors_now clock clock_now stores stores_now (Err serve_faults.NoMemory) =
       (StopsWaiting connections began after doors doors_now clock clock_now stores stores_now
       ⊎ StopsRestarting connections began after doors doors_now clock clock_now stores stores_now)
       × (doors_now.faults ≡ doors.faults) × (stores_now.faults ≡ stores.faults)
-  IsServed connections began after doors doors_now clock clock_now stores stores_now (Err serve_faults.Write) = ⊥
+  EndsConnections connections began after doors doors_now clock clock_now stores stores_now (Err serve_faults.Write) = ⊥
 
   -- ---- from the first call of the doors to the last line
 
@@ -214,7 +198,7 @@ module _ {V : Type 0} (tells : V → Bool) (files : V → Folders) (faults : V �
     pub said : Option (List ℕ)  -- what the output had taken then, where it tells that
     pub says : Appends out.before said (listening_line port)
     pub came : Result ⊤ ServeFault
-    pub served : IsServed connections began after (record doors { calls = raised doors.calls }) doors_now clock clock_now stores stores_now came
+    pub served : EndsConnections connections began after (record doors { calls = raised doors.calls }) doors_now clock clock_now stores stores_now came
     pub concludes : Concludes connections (record out { before = said }) came ended
 
   -- how serving ended. One call failed where that ended it, and else none
@@ -257,13 +241,13 @@ module _ {V : Type 0} (tells : V → Bool) (files : V → Folders) (faults : V �
 -- none was served: the volumes couldn't be started, or there was no memory for the nodes. Those that were started rest again
 pub record IsUnserved {V : Type 0} (first : V → Type 0) (ring : Ring) (rests rests_now : ℕ → ℕ → Option V) (doors doors_now : DoorsTold) (out : Passage)
     (clock clock_now : Option (List ℕ)) (stores stores_now : Counts) (status : ℕ) : Type 0 where
-  pub unstarted : AreUnstarted first ring rests rests_now stores.faults stores_now.faults stores.calls stores_now.calls status
+  pub unstarted : AreUnstarted first ring rests rests_now stores stores_now status
   pub doors_are : doors_now ≡ doors
   pub nothing_written : (out.now ≡ out.before) × (out.faults_now ≡ out.faults)
   pub no_tick : clock_now ≡ clock
 
 -- how `serve` goes on with a ring, which it read by one call of the stores: from what rests in them then, which is what rested before
-pub record Serves {V : Type 0} (tells : V → Bool) (files : V → Folders) (faults : V → ℕ) (first : V → Type 0) (ring : Ring) (port connections : ℕ)
+pub record ServesRing {V : Type 0} (tells : V → Bool) (files : V → Folders) (faults : V → ℕ) (first : V → Type 0) (ring : Ring) (port connections : ℕ)
     (rests rests_now : ℕ → ℕ → Option V) (doors doors_now : DoorsTold) (out : Passage) (clock clock_now : Option (List ℕ))
     (stores stores_now : Counts) (status : ℕ) : Type 0 where
   pub began : ℕ → ℕ → Option V

@@ -1,4 +1,4 @@
--- What a request is answered, and which lines it leaves in the trail. (OpenStack Swift's object server, in the profile of this product.)
+-- What a request is answered, and which lines it leaves in the trail. (OpenStack Swift's servers, in the profile of this product.)
 --
 -- A reply is a relation, since want of memory may be answered in place of any reply. Then no step came, or the one that the request asks
 -- for, which changed nothing.
@@ -19,6 +19,10 @@ use Rattle.sw_object_server.specs.Replies.{bare, made_reply, reply_to}
 use Rattle.sw_object_server.specs.Showing.{IsShown}
 use Rattle.sw_object_server.specs.declared.asked.Asked.{Asked}
 use Rattle.sw_object_server.specs.declared.asked.Asked.TheVariants as asks
+use Rattle.sw_container_machine.specs.Machine.{ContMachine}
+use Rattle.sw_container_machine.specs.Standing.{HasContRun}
+use Rattle.sw_container_server.specs.Serving as containers
+use Rattle.sw_container_server.specs.Targets.{is_for_containers}
 use Rattle.sw_replica_server.specs.Serving as replicas
 use Rattle.sw_replica_server.specs.Targets.{is_replication_of}
 use Rattle.sw_control.specs.Asking.{IsControl, is_control}
@@ -127,16 +131,27 @@ module _ {V : Type 0} (tells : V → Bool) (files : V → Folders) (faults : V �
       replicas.IsAnswered (sight_of tells files faults) w after ring r response
       ⊎ ((response ≡ bare 500) × replicas.IsGivenUp (sight_of tells files faults) w after ring r)
 
+  -- ---- requests for containers
+
+  -- The steps that a request for containers asks for came, and what they were answered is replied. Or memory ran out: then no step came, or those
+  -- that the request asks for, which changed nothing
+  abbrev pub IsContained : Ring → AllNodes V → Request → Response → AllNodes V → Type 0
+  IsContained ring w r response after =
+      containers.IsAnswered (sight_of tells files faults) w after ring r response
+      ⊎ ((response ≡ bare 500) × containers.IsGivenUp (sight_of tells files faults) w after ring r)
+
   -- ---- any request
 
-  -- A reply that may be given: the right one, or want of memory; and what the world is then. Whatever run of the machine it stood for goes on
+  -- A reply that may be given: the right one, or want of memory; and what the world is then. Whatever runs of the machines it stood for go on
   -- by the lines that it kept of this request.
   pub record MayAnswer (ring : Ring) (w : AllNodes V) (r : Request) (moment : ℕ) (response : Response) (after : AllNodes V) : Type 0 where
     pub answers : MatchBool (is_control r.path) (IsControlled ring w r response after)
         (MatchBool (is_replication_of r) (IsCompared ring w r response after)
-        (IsRight ring w.lines r moment response after.lines ⊎ IsWanting ring w.lines r response after.lines))
+        (MatchBool (is_for_containers r) (IsContained ring w r response after)
+        (IsRight ring w.lines r moment response after.lines ⊎ IsWanting ring w.lines r response after.lines)))
     pub nodes : (sight_of tells files faults after).nodes ≡ (sight_of tells files faults w).nodes
     pub runs : (start : Machine) → HasRun start (sight_of tells files faults w) → HasRun start (sight_of tells files faults after)
+    pub cont_runs : (start : ContMachine) → HasContRun start (sight_of tells files faults w) → HasContRun start (sight_of tells files faults after)
 
   -- A restart was asked for, and the device lifted, but its volumes couldn't be started again: it stays out, and no request comes after it
   pub record MayHalt (ring : Ring) (w : AllNodes V) (r : Request) (after : AllNodes V) : Type 0 where

@@ -4,12 +4,13 @@ ghost use Rattle.sw_ring.specs.declared.bad_ring.BadRing.{BadRing};
 ghost use Rattle.sw_ring.specs.declared.ring.Ring.{Ring};
 ghost use Rattle.sw_outside.specs.Counts.{raised};
 ghost use Rattle.sw_session.specs.Passages.{passage};
-ghost use Rattle.sw_cluster.specs.Ending.{Runs};
+ghost use Rattle.sw_cluster.specs.Ending.{RunsRing};
 ghost use Rattle.sw_cluster.specs.Locating.{Locates};
 ghost use Rattle.sw_cluster.specs.Opening.{EndsWith, IsRingRefused};
 ghost use Rattle.sw_cluster.specs.Report.{Reports, line_of as line_of_status, ring_line as line_of_ring};
-ghost use Rattle.sw_cluster.specs.Rounds.{Serves, counts, doors_told};
+ghost use Rattle.sw_cluster.specs.Rounds.{ServesRing};
 ghost use Rattle.sw_cluster.specs.Statuses as statuses;
+ghost use Rattle.sw_cluster.specs.Told.{counts, doors_told};
 ghost use Rattle.sw_cluster.specs.Words.{account_word, are_run_words, are_where_words, container_word, object_word, ring_word};
 ghost use Rattle.sw_words.specs.Serve.{IsServe};
 ghost use Rattle.sw_words.specs.declared.serve.ServeOptions.{ServeOptions as ServeOptionsSeen};
@@ -52,24 +53,32 @@ pub fn cluster<R: Source, W: Sink, E: Sink, S: Stores, N: Doors, C: Clock>(
 
     // The words are those of no command, and then nothing is read or written.
     ensures usage { are_run_words (map string_bytes words.now) ≡ false → are_where_words (map string_bytes words.now) ≡ false
-        → ((options : ServeOptionsSeen) → ¬ IsServe (map string_bytes words.now) options) → (result ≡ statuses.usage) × (source.new ≡ source.old) × (out.new ≡ out.old) × (stores.new ≡ stores.old) × (clock.new ≡ clock.old) × (trail.new ≡ trail.old) }
+        → ((options : ServeOptionsSeen) → ¬ IsServe (map string_bytes words.now) options) →
+        (result ≡ statuses.usage) × (source.new ≡ source.old) × (out.new ≡ out.old) × (stores.new ≡ stores.old) × (clock.new ≡ clock.old) ×
+        (trail.new ≡ trail.old) }
 
     // The replies to the requests of the input, for the ring that the stores have under the name, by the status. The stores are
     // asked for the ring once, then once for each volume, and once more for each whenever its device is restarted.
-    ensures run { are_run_words (map string_bytes words.now) ≡ true → EndsWith (S.text stores.old (ring_word (map string_bytes words.now))) (S.faults stores.old) (S.faults stores.new)
+    ensures run { are_run_words (map string_bytes words.now) ≡ true → EndsWith (S.text stores.old (ring_word (map string_bytes words.now)))
+        (S.faults stores.old) (S.faults stores.new)
         ((source.new ≡ source.old) × (out.new ≡ out.old) × (clock.new ≡ clock.old) × (trail.new ≡ trail.old)
         × (S.calls stores.new ≡ raised (S.calls stores.old)))
         (λ bad. Reports (E.taken errors.old) (E.taken errors.new) (E.faults errors.old) (E.faults errors.new) (line_of_ring bad))
-        (λ ring. Runs S.V.tells S.V.holds S.V.faults S.first ring (S.rests stores.old) (S.rests stores.new) (S.faults stores.old) (S.faults stores.new)
-        (S.calls stores.old) (S.calls stores.new) (passage R.left R.faults source.old source.new) (passage W.taken W.faults out.old out.new)
+        (λ ring. RunsRing S.V.tells S.V.holds S.V.faults S.first ring (S.rests stores.old) (S.rests stores.new)
+        (counts S.calls S.faults stores.old) (counts S.calls S.faults stores.new) (passage R.left R.faults source.old source.new)
+        (passage W.taken W.faults out.old out.new)
         (C.readings clock.old) (C.readings clock.new) trail.new result)
         result }
 
     // Where the name is in that ring.
-    ensures located { are_where_words (map string_bytes words.now) ≡ true → (source.new ≡ source.old) × (clock.new ≡ clock.old) × (trail.new ≡ trail.old) × EndsWith (S.text stores.old (ring_word (map string_bytes words.now))) (S.faults stores.old) (S.faults stores.new)
+    ensures located { are_where_words (map string_bytes words.now) ≡ true →
+        (source.new ≡ source.old) × (clock.new ≡ clock.old) × (trail.new ≡ trail.old) × EndsWith (S.text stores.old (ring_word (map string_bytes words.now)))
+        (S.faults stores.old) (S.faults stores.new)
         (out.new ≡ out.old)
         (λ bad. Reports (E.taken errors.old) (E.taken errors.new) (E.faults errors.old) (E.faults errors.new) (line_of_ring bad))
-        (λ ring. (S.faults stores.new ≡ S.faults stores.old) × Locates ring (account_word (map string_bytes words.now)) (container_word (map string_bytes words.now)) (object_word (map string_bytes words.now)) (W.taken out.old) (W.taken out.new) (W.faults out.old) (W.faults out.new) result)
+        (λ ring. (S.faults stores.new ≡ S.faults stores.old) × Locates ring (account_word (map string_bytes words.now))
+        (container_word (map string_bytes words.now)) (object_word (map string_bytes words.now)) (W.taken out.old) (W.taken out.new) (W.faults out.old)
+        (W.faults out.new) result)
         result }
 
     // The connections that come, for that ring: each is answered, finished with its own status, and then all devices are restarted. Where there was no
@@ -79,12 +88,13 @@ pub fn cluster<R: Source, W: Sink, E: Sink, S: Stores, N: Doors, C: Clock>(
         ⊎ EndsWith (S.text stores.old (ring_word (map string_bytes words.now))) (S.faults stores.old) (S.faults stores.new)
         ((out.new ≡ out.old) × (doors.new ≡ doors.old) × (clock.new ≡ clock.old) × (S.calls stores.new ≡ raised (S.calls stores.old)))
         (λ bad. Reports (E.taken errors.old) (E.taken errors.new) (E.faults errors.old) (E.faults errors.new) (line_of_ring bad))
-        (λ ring. Serves S.V.tells S.V.holds S.V.faults S.first ring options.port options.connections (S.rests stores.old) (S.rests stores.new)
+        (λ ring. ServesRing S.V.tells S.V.holds S.V.faults S.first ring options.port options.connections (S.rests stores.old) (S.rests stores.new)
         (doors_told N.accepts N.finished N.calls N.faults doors.old) (doors_told N.accepts N.finished N.calls N.faults doors.new)
         (passage W.taken W.faults out.old out.new) (C.readings clock.old) (C.readings clock.new)
         (counts S.calls S.faults stores.old) (counts S.calls S.faults stores.new) result)
         result) }
-    ensures line { result ≢ statuses.bad_ring → Reports (E.taken errors.old) (E.taken errors.new) (E.faults errors.old) (E.faults errors.new) (line_of_status result) }
+    ensures line { result ≢ statuses.bad_ring → Reports (E.taken errors.old) (E.taken errors.new) (E.faults errors.old) (E.faults errors.new)
+        (line_of_status result) }
 
     // Only `serve` has to do with doors.
     ensures doors { ((options : ServeOptionsSeen) → ¬ IsServe (map string_bytes words.now) options) → doors.new ≡ doors.old }
@@ -147,12 +157,13 @@ fn serve<W: Sink, E: Sink, S: Stores, N: Doors, C: Clock>(
     ensures ends { EndsWith (S.text stores.old name.now) (S.faults stores.old) (S.faults stores.new)
         ((out.new ≡ out.old) × (doors.new ≡ doors.old) × (clock.new ≡ clock.old) × (S.calls stores.new ≡ raised (S.calls stores.old)))
         (λ bad. Reports (E.taken errors.old) (E.taken errors.new) (E.faults errors.old) (E.faults errors.new) (line_of_ring bad))
-        (λ ring. Serves S.V.tells S.V.holds S.V.faults S.first ring options.port options.connections (S.rests stores.old) (S.rests stores.new)
+        (λ ring. ServesRing S.V.tells S.V.holds S.V.faults S.first ring options.port options.connections (S.rests stores.old) (S.rests stores.new)
         (doors_told N.accepts N.finished N.calls N.faults doors.old) (doors_told N.accepts N.finished N.calls N.faults doors.new)
         (passage W.taken W.faults out.old out.new) (C.readings clock.old) (C.readings clock.new)
         (counts S.calls S.faults stores.old) (counts S.calls S.faults stores.new) result)
         result }
-    ensures line { result ≢ statuses.bad_ring → Reports (E.taken errors.old) (E.taken errors.new) (E.faults errors.old) (E.faults errors.new) (line_of_status result) }
+    ensures line { result ≢ statuses.bad_ring → Reports (E.taken errors.old) (E.taken errors.new) (E.faults errors.old) (E.faults errors.new)
+        (line_of_status result) }
 {
     match open_ring(alloc, stores, name) {
         Ok(ring) => {
@@ -192,11 +203,13 @@ fn run<R: Source, W: Sink, E: Sink, S: Stores, C: Clock>(
         ((source.new ≡ source.old) × (out.new ≡ out.old) × (clock.new ≡ clock.old) × (trail.new ≡ trail.old)
         × (S.calls stores.new ≡ raised (S.calls stores.old)))
         (λ bad. Reports (E.taken errors.old) (E.taken errors.new) (E.faults errors.old) (E.faults errors.new) (line_of_ring bad))
-        (λ ring. Runs S.V.tells S.V.holds S.V.faults S.first ring (S.rests stores.old) (S.rests stores.new) (S.faults stores.old) (S.faults stores.new)
-        (S.calls stores.old) (S.calls stores.new) (passage R.left R.faults source.old source.new) (passage W.taken W.faults out.old out.new)
+        (λ ring. RunsRing S.V.tells S.V.holds S.V.faults S.first ring (S.rests stores.old) (S.rests stores.new)
+        (counts S.calls S.faults stores.old) (counts S.calls S.faults stores.new) (passage R.left R.faults source.old source.new)
+        (passage W.taken W.faults out.old out.new)
         (C.readings clock.old) (C.readings clock.new) trail.new result)
         result }
-    ensures line { result ≢ statuses.bad_ring → Reports (E.taken errors.old) (E.taken errors.new) (E.faults errors.old) (E.faults errors.new) (line_of_status result) }
+    ensures line { result ≢ statuses.bad_ring → Reports (E.taken errors.old) (E.taken errors.new) (E.faults errors.old) (E.faults errors.new)
+        (line_of_status result) }
 {
     match open_ring(alloc, stores, name) {
         Ok(ring) => {
@@ -210,8 +223,10 @@ fn run<R: Source, W: Sink, E: Sink, S: Stores, C: Clock>(
 
 /// Says why a ring wasn't opened, and answers the status.
 pub fn refuse_ring<E: Sink>(errors: &mut E, fault: OpenFault) -> u8
-    ensures refused { IsRingRefused fault result (λ bad. Reports (E.taken errors.old) (E.taken errors.new) (E.faults errors.old) (E.faults errors.new) (line_of_ring bad)) }
-    ensures line { result ≢ statuses.bad_ring → Reports (E.taken errors.old) (E.taken errors.new) (E.faults errors.old) (E.faults errors.new) (line_of_status result) }
+    ensures refused { IsRingRefused fault result (λ bad. Reports (E.taken errors.old) (E.taken errors.new) (E.faults errors.old) (E.faults errors.new)
+        (line_of_ring bad)) }
+    ensures line { result ≢ statuses.bad_ring → Reports (E.taken errors.old) (E.taken errors.new) (E.faults errors.old) (E.faults errors.new)
+        (line_of_status result) }
 {
     match fault {
         OpenFault::Failed => {

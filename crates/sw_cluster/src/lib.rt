@@ -2,8 +2,8 @@
 //!
 //! [`cluster`] is the top call: it carries the theorem of the whole program. Below it, from the top: `words` and `opening` tell the command
 //! and open its ring; `running` is the session of `run` (`sw_session`) over the nodes of a ring, whose volumes come from the stores
-//! (`sw_stores`) and go back to them; `server` answers one request, by these nodes or, where it is a control request (`sw_control`), by what the
-//! world tells; `locate` and `whereabouts` say where a name is.
+//! (`sw_stores`) and go back to them; `server` answers one request, for objects, replicas or containers, by these nodes or, where it is a control
+//! request (`sw_control`), by what the world tells; `locate` and `whereabouts` say where a name is.
 //!
 //! The program `sw` makes the host's ends and calls it; `sw_cases` calls it on worked runs.
 #![tactic(auto)]

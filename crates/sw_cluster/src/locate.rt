@@ -30,9 +30,12 @@ pub fn locate<W: Sink, E: Sink, S: Stores>(
     ensures ends { EndsWith (S.text stores.old (ring_word (map string_bytes words.now))) (S.faults stores.old) (S.faults stores.new)
         (out.new ≡ out.old)
         (λ bad. Reports (E.taken errors.old) (E.taken errors.new) (E.faults errors.old) (E.faults errors.new) (line_of_ring bad))
-        (λ ring. (S.faults stores.new ≡ S.faults stores.old) × Locates ring (account_word (map string_bytes words.now)) (container_word (map string_bytes words.now)) (object_word (map string_bytes words.now)) (W.taken out.old) (W.taken out.new) (W.faults out.old) (W.faults out.new) result)
+        (λ ring. (S.faults stores.new ≡ S.faults stores.old) × Locates ring (account_word (map string_bytes words.now))
+        (container_word (map string_bytes words.now)) (object_word (map string_bytes words.now)) (W.taken out.old) (W.taken out.new) (W.faults out.old)
+        (W.faults out.new) result)
         result }
-    ensures line { result ≢ statuses.bad_ring → Reports (E.taken errors.old) (E.taken errors.new) (E.faults errors.old) (E.faults errors.new) (line_of_status result) }
+    ensures line { result ≢ statuses.bad_ring → Reports (E.taken errors.old) (E.taken errors.new) (E.faults errors.old) (E.faults errors.new)
+        (line_of_status result) }
     ensures asked { S.calls stores.new ≡ raised (S.calls stores.old) }
     ensures out { IsAsItWas (S.out stores.old) (S.out stores.new) }
     ensures rests { IsAsItWas (S.rests stores.old) (S.rests stores.new) }
@@ -49,7 +52,8 @@ pub fn locate<W: Sink, E: Sink, S: Stores>(
 
 /// Writes where the name of the words is in a ring.
 fn write_where<W: Sink>(alloc: Global, ring: &Ring, words: &[String], out: &mut W) -> u8
-    ensures { Locates ring.now (account_word (map string_bytes words.now)) (container_word (map string_bytes words.now)) (object_word (map string_bytes words.now)) (W.taken out.old) (W.taken out.new) (W.faults out.old) (W.faults out.new) result }
+    ensures { Locates ring.now (account_word (map string_bytes words.now)) (container_word (map string_bytes words.now))
+        (object_word (map string_bytes words.now)) (W.taken out.old) (W.taken out.new) (W.faults out.old) (W.faults out.new) result }
 {
     let (account, container, object) = names_of(words);
     match where_text(alloc, ring, account, container, object) {

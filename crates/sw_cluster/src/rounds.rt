@@ -7,7 +7,10 @@ ghost use Rattle.sw_volume.specs.Volume.{raised_by};
 ghost use Rattle.sw_cluster.specs.Connections.{AreNodesOf, IsConnection};
 ghost use Rattle.sw_cluster.specs.Leaving.{AreLeft, FailsToRestart, StopsAmong};
 ghost use Rattle.sw_cluster.specs.Nodes.{IsReady, places_of};
-ghost use Rattle.sw_cluster.specs.Rounds.{AllServed, AreHeard, EndsServing, IsServed, IsServedOver, IsServing, IsUnserved, RestartsDevice, RestartsFirst, Round, SaysLine, counts, doors_told, read_in, serve_status, written_in};
+ghost use Rattle.sw_cluster.specs.Rounds.{AllServed, AreHeard, EndsServing, EndsConnections, IsServedOver, IsServing, IsUnserved, RestartsDevice};
+ghost use Rattle.sw_cluster.specs.Rounds.{RestartsFirst};
+ghost use Rattle.sw_cluster.specs.Rounds.{Round, SaysLine, read_in, serve_status, written_in};
+ghost use Rattle.sw_cluster.specs.Told.{counts, doors_told};
 
 use crate::connection::serve_connection;
 use crate::server::stripes;
@@ -162,7 +165,7 @@ fn serve_all<S: Stores, N: Doors, C: Clock>(
         (C.readings clock.old) (C.readings clock.new) (counts S.calls S.faults stores.old) (counts S.calls S.faults stores.new)) }
     ensures ready { OnOk result (IsReady S.out ring.now world.new stores.new) }
     ensures stops { IfErr result (λ fault. (after : AllNodes S.V)
-        × IsServed S.V.tells S.V.holds S.V.faults ring.now connections world.old after
+        × EndsConnections S.V.tells S.V.holds S.V.faults ring.now connections world.old after
         (doors_told N.accepts N.finished N.calls N.faults doors.old) (doors_told N.accepts N.finished N.calls N.faults doors.new)
         (C.readings clock.old) (C.readings clock.new) (counts S.calls S.faults stores.old) (counts S.calls S.faults stores.new) (Err fault)
         × AreLeft S.V.tells S.V.holds S.V.faults S.calls S.rests S.out ring.now after world.new stores.new) }
@@ -189,7 +192,7 @@ fn serve_next<S: Stores, N: Doors, C: Clock>(
         (C.readings clock.old) (C.readings clock.new) (counts S.calls S.faults stores.old) (counts S.calls S.faults stores.new)) }
     ensures ready { OnOk result (IsReady S.out ring.now world.new stores.new) }
     ensures stops { IfErr result (λ fault. (after : AllNodes S.V)
-        × IsServed S.V.tells S.V.holds S.V.faults ring.now 1 world.old after
+        × EndsConnections S.V.tells S.V.holds S.V.faults ring.now 1 world.old after
         (doors_told N.accepts N.finished N.calls N.faults doors.old) (doors_told N.accepts N.finished N.calls N.faults doors.new)
         (C.readings clock.old) (C.readings clock.new) (counts S.calls S.faults stores.old) (counts S.calls S.faults stores.new) (Err fault)
         × AreLeft S.V.tells S.V.holds S.V.faults S.calls S.rests S.out ring.now after world.new stores.new) }

@@ -3,6 +3,7 @@ ghost use Rattle.sw_core.specs.Worlds.{opened};
 ghost use Rattle.sw_session.specs.Passages.{passage};
 ghost use Rattle.sw_cluster.specs.Ending.{IsRun, IsRunOver, IsUnbegun};
 ghost use Rattle.sw_cluster.specs.Nodes.{places_of};
+ghost use Rattle.sw_cluster.specs.Told.{counts};
 
 use crate::server::Nodes;
 use crate::status::status_of;
@@ -33,11 +34,13 @@ pub fn run_session<R: Source, W: Sink, S: Stores, C: Clock>(
     requires no_moments { trail.old.moments ≡ [] }
     requires home { (d s : ℕ) → S.out stores.old d s ≡ false }
     ensures home { (d s : ℕ) → S.out stores.new d s ≡ false }
-    ensures run { IsRun S.V.tells S.V.holds S.V.faults S.first ring.now (S.rests stores.old) (S.rests stores.new) (S.faults stores.old) (S.faults stores.new)
-        (S.calls stores.old) (S.calls stores.new) (passage R.left R.faults source.old source.new) (passage W.taken W.faults out.old out.new)
+    ensures run { IsRun S.V.tells S.V.holds S.V.faults S.first ring.now (S.rests stores.old) (S.rests stores.new)
+        (counts S.calls S.faults stores.old) (counts S.calls S.faults stores.new) (passage R.left R.faults source.old source.new)
+        (passage W.taken W.faults out.old out.new)
         (C.readings clock.old) (C.readings clock.new) trail.new result
-        ⊎ IsUnbegun S.first ring.now (S.rests stores.old) (S.rests stores.new) (S.faults stores.old) (S.faults stores.new)
-        (S.calls stores.old) (S.calls stores.new) (passage R.left R.faults source.old source.new) (passage W.taken W.faults out.old out.new)
+        ⊎ IsUnbegun S.first ring.now (S.rests stores.old) (S.rests stores.new)
+        (counts S.calls S.faults stores.old) (counts S.calls S.faults stores.new) (passage R.left R.faults source.old source.new)
+        (passage W.taken W.faults out.old out.new)
         (C.readings clock.old) (C.readings clock.new) trail.new result }
 {
     match open_nodes(alloc, ring, stores) {
@@ -62,8 +65,9 @@ fn session<R: Source, W: Sink, S: Stores, C: Clock>(
     requires begun { (volumes : List S.V) × (length volumes ≡ length ring.now.devices * 2 ^ ring.now.lock_bits) × (world ≡ opened ring.now volumes) }
     requires out { (d s : ℕ) → S.out stores.old d s ≡ places_of ring.now d s }
     ensures home { (d s : ℕ) → S.out stores.new d s ≡ false }
-    ensures run { IsRunOver S.V.tells S.V.holds S.V.faults ring.now world (S.rests stores.new) (S.faults stores.old) (S.faults stores.new)
-        (S.calls stores.old) (S.calls stores.new) (passage R.left R.faults source.old source.new) (passage W.taken W.faults out.old out.new)
+    ensures run { IsRunOver S.V.tells S.V.holds S.V.faults ring.now world (S.rests stores.new)
+        (counts S.calls S.faults stores.old) (counts S.calls S.faults stores.new) (passage R.left R.faults source.old source.new)
+        (passage W.taken W.faults out.old out.new)
         (C.readings clock.old) (C.readings clock.new) trail.new result }
 {
     let faithful = Acts {

@@ -4,11 +4,13 @@ ghost use Rattle.sw_object_server.specs.Replies.{bare as bare_of};
 ghost use Rattle.sw_volume.specs.Volume.{raised_by};
 ghost use Rattle.sw_cluster.specs.Nodes.{FailsToStart, IsReady, NodesAnswer, NodesHalt, faults_by};
 ghost use Rattle.sw_control.specs.Asking.{IsPlaced, is_control as is_control_path};
+ghost use Rattle.sw_container_server.specs.Targets.{is_for_containers as is_for_containers_of};
 ghost use Rattle.sw_replica_server.specs.Targets.{is_replication_of};
 ghost use Rattle.sw_control.specs.declared.asking.Control.TheVariants as controls;
 ghost use Rattle.sw_cluster.specs.Server.{IsControlDone, IsFiled, IsPushReply, IsReplicated};
 
 use std::alloc::Global;
+use sw_container_server::is_for_containers;
 use sw_control::{
     Control, Replication, files_text, is_control, outcome_text, read_control, text_reply,
     trail_text,
@@ -57,6 +59,7 @@ impl<S: Stores> Server for Nodes<'_, S> {
         match is_control(alloc, &request.path) {
             Ok(true) => self.control(alloc, &request, now),
             Ok(false) if is_replication(&request) => Ok(self.compare(alloc, &request, now)),
+            Ok(false) if is_for_containers(&request) => Ok(self.contain(alloc, &request, now)),
             Ok(false) => Ok(self.serve(alloc, request, now)),
             Err(NoMemory) => Ok(bare(alloc, 500)),
         }
@@ -84,11 +87,28 @@ impl<S: Stores> Nodes<'_, S> {
         }
     }
 
+    /// Answers a request for containers.
+    fn contain(&mut self, alloc: Global, request: &Request, _now: u64) -> Response
+        requires ready { IsReady S.out self.old.ring.now self.old.network.door self.old.stores.now }
+        requires nodes { is_control_path request.now.path ≡ false }
+        requires no_replicas { is_replication_of request.now ≡ false }
+        requires containers { is_for_containers_of request.now ≡ true }
+        ensures ready { IsReady S.out self.new.ring.now self.new.network.door self.new.stores.now }
+        ensures served { NodesAnswer S.V.tells S.V.holds S.V.faults S.faults S.calls S.out
+            self.old.ring.now self.new.ring.now self.old.network.door self.new.network.door self.old.stores self.new.stores request.now _now result }
+    {
+        match sw_container_server::answer(alloc, &mut self.network.door, self.ring, request) {
+            Ok(response) => response,
+            Err(NoMemory) => bare(alloc, 500),
+        }
+    }
+
     /// Answers a request for an object.
     fn serve(&mut self, alloc: Global, request: Request, now: u64) -> Response
         requires ready { IsReady S.out self.old.ring.now self.old.network.door self.old.stores.now }
         requires nodes { is_control_path request.path ≡ false }
-        requires objects { is_replication_of request ≡ false }
+        requires no_replicas { is_replication_of request ≡ false }
+        requires objects { is_for_containers_of request ≡ false }
         ensures ready { IsReady S.out self.new.ring.now self.new.network.door self.new.stores.now }
         ensures served { NodesAnswer S.V.tells S.V.holds S.V.faults S.faults S.calls S.out
             self.old.ring.now self.new.ring.now self.old.network.door self.new.network.door self.old.stores self.new.stores request now result }

@@ -9,6 +9,7 @@ ghost use Rattle.sw_stores.specs.Volumes.{AreStarted};
 ghost use Rattle.sw_volume.specs.Volume.{raised_by};
 ghost use Rattle.sw_cluster.specs.Ending.{AreUnstarted, start_status};
 ghost use Rattle.sw_cluster.specs.Nodes.{out_but, places_at, places_of};
+ghost use Rattle.sw_cluster.specs.Told.{counts};
 
 use crate::server::stripes;
 use crate::status::{NO_MEMORY, STORE_FAULT};
@@ -34,7 +35,7 @@ pub fn open_nodes<S: Stores>(
     ensures kept { OnOk result (S.faults stores.new ≡ S.faults stores.old) }
     ensures home { OnErr result ((d s : ℕ) → S.out stores.new d s ≡ false) }
     ensures unstarted { IfErr result (λ error. AreUnstarted S.first ring.now (S.rests stores.old) (S.rests stores.new)
-        (S.faults stores.old) (S.faults stores.new) (S.calls stores.old) (S.calls stores.new) (start_status error)) }
+        (counts S.calls S.faults stores.old) (counts S.calls S.faults stores.new) (start_status error)) }
 {
     let stripes = stripes(ring);
     let count = ring.devices.as_slice().len() * usize::from(stripes);

@@ -2,7 +2,8 @@ ghost use Rattle.std.specs.Prelude.{◌≡◌, ◌++◌, ◌<◌, ◌^◌, None,
 ghost use Rattle.std.specs.Option.{option_copied};
 ghost use Rattle.sw_hashpath.specs.BadNames.{bad_name};
 ghost use Rattle.sw_hashpath.specs.declared.bad_name.BadName.{BadName};
-ghost use Rattle.sw_cluster.specs.Whereabouts.{devices_line, devices_text, hash_line, partition_line, row_text, spaced_name, suffix_line, where_lines, where_text as text_of_place};
+ghost use Rattle.sw_cluster.specs.Whereabouts.{devices_line, devices_text, hash_line, partition_line, row_text, spaced_name, suffix_line, where_lines};
+ghost use Rattle.sw_cluster.specs.Whereabouts.{where_text as text_of_place};
 
 use itoa::Buffer;
 use std::alloc::{AllocError, Global};
@@ -24,7 +25,8 @@ pub fn where_text(
     requires { IsSome object → IsSome container }
     ensures text { IfOk result (λ text. text ≡ text_of_place ring.now account.now (option_copied container.entry) (option_copied object.entry)) }
     ensures good { OnOk result (bad_name account.now (option_copied container.entry) (option_copied object.entry) ≡ None) }
-    ensures bad { (bad : BadName) → result ≡ Err (NameError.Bad bad) → bad_name account.now (option_copied container.entry) (option_copied object.entry) ≡ Some bad }
+    ensures bad { (bad : BadName) → result ≡ Err (NameError.Bad bad) →
+        bad_name account.now (option_copied container.entry) (option_copied object.entry) ≡ Some bad }
 {
     let hash = match hash_path(&ring.secrets, account, container, object) {
         Ok(hash) => hash,
@@ -46,7 +48,8 @@ fn lines(
     object: Option<&[u8]>,
 ) -> Result<Vec<u8>, AllocError>
     requires { partition < 2 ^ ring.now.power }
-    ensures { IfOk result (λ text. text.items ≡ where_lines hash.now partition (devices_text ring.now partition (option_copied container.entry) (option_copied object.entry))) }
+    ensures { IfOk result (λ text. text.items ≡ where_lines hash.now partition
+        (devices_text ring.now partition (option_copied container.entry) (option_copied object.entry))) }
 {
     let mut text = Vec::new(alloc);
     add_hash(&mut text, hash)?;
@@ -98,7 +101,8 @@ fn add_devices(
     object: Option<&[u8]>,
 ) -> Result<(), AllocError>
     requires { partition < 2 ^ ring.now.power }
-    ensures { OnOk result (text.new.items ≡ text.old.items ++ devices_line (devices_text ring.now partition (option_copied container.entry) (option_copied object.entry))) }
+    ensures { OnOk result (text.new.items ≡ text.old.items ++ devices_line
+        (devices_text ring.now partition (option_copied container.entry) (option_copied object.entry))) }
 {
     let devices = devices_of(alloc, ring, partition, container, object)?;
     add_line(text, b"\ndevices", &devices)

@@ -1,22 +1,29 @@
-use Rattle.std.proofs.Common.{ℕ, refl, subst}
-use Rattle.sw_cluster.proofs.OpeningLemmas.{not_opened, opened}
-use Rattle.sw_cluster.specs.Ending.{Runs}
+use Rattle.std.proofs.Common.{◌⊎◌, refl, subst}
+use Rattle.sw_outside.specs.Counts.{raised}
 use Rattle.sw_session.specs.Passages.{passage}
+use Rattle.sw_cluster.proofs.OpeningLemmas.{not_opened, opened}
+use Rattle.sw_cluster.proofs.Rounding.{counts-same}
+use Rattle.sw_cluster.specs.Ending.{IsRun, IsUnbegun}
+use Rattle.sw_cluster.specs.Told.{Counts, counts}
 use Rattle.sw_cluster.proofs.command.run.Goals as goal
 
 pub returns-in-Ok-clause-ends : goal.returns-in-Ok-clause-ends
 returns-in-Ok-clause-ends g c =
     let v = g.S.V.Volume in let s = g.S.Stores in let run = c.run_session-status in
-    opened _ _ _ _ _ _ _ _ c.in-Ok.ring c.in-Ok.ensures.opening
-    (subst (λ (n : ℕ). Runs v.tells v.holds v.faults s.first c.in-Ok.ring (s.rests c.args.stores.now) (s.rests run.new.stores) n (s.faults run.new.stores)
-    (s.calls c.args.stores.now) (s.calls run.new.stores) (passage g.R.Source.left g.R.Source.faults c.args.source.now run.new.source)
-    (passage g.W.Sink.taken g.W.Sink.faults c.args.out.now run.new.out)
-    (g.C.Clock.readings c.args.clock.now) (g.C.Clock.readings run.new.clock) run.new.trail run.result)
-    c.in-Ok.ensures.opening.1 (record {
+    let now : Counts = record { calls = raised (s.calls c.args.stores.now); faults = s.faults c.args.stores.now } in
+    opened _ _ _ _ _ _ _ _ c.in-Ok.ring c.in-Ok.ensures.opening (record {
       began = s.rests c.open_ring.new.stores;
       same = c.in-Ok.ensures.rests;
-      ends = rw (← c.in-Ok.ensures.once) run.ensures.run;
-    }))
+      ends = subst (λ (k : Counts). IsRun v.tells v.holds v.faults s.first c.in-Ok.ring (s.rests c.open_ring.new.stores) (s.rests run.new.stores)
+          k (counts s.calls s.faults run.new.stores) (passage g.R.Source.left g.R.Source.faults c.args.source.now run.new.source)
+          (passage g.W.Sink.taken g.W.Sink.faults c.args.out.now run.new.out)
+          (g.C.Clock.readings c.args.clock.now) (g.C.Clock.readings run.new.clock) run.new.trail run.result
+          ⊎ IsUnbegun s.first c.in-Ok.ring (s.rests c.open_ring.new.stores) (s.rests run.new.stores)
+          k (counts s.calls s.faults run.new.stores) (passage g.R.Source.left g.R.Source.faults c.args.source.now run.new.source)
+          (passage g.W.Sink.taken g.W.Sink.faults c.args.out.now run.new.out)
+          (g.C.Clock.readings c.args.clock.now) (g.C.Clock.readings run.new.clock) run.new.trail run.result)
+          (counts-same (counts s.calls s.faults c.open_ring.new.stores) now c.in-Ok.ensures.once c.in-Ok.ensures.opening.1) run.ensures.run;
+    })
 
 pub returns-in-Err-clause-ends : goal.returns-in-Err-clause-ends
 returns-in-Err-clause-ends g c =

@@ -3,7 +3,8 @@ use Rattle.sw_outside.specs.Counts.{raised}
 use Rattle.sw_session.specs.Passages.{passage}
 use Rattle.sw_cluster.proofs.OpeningLemmas.{not_opened, opened}
 use Rattle.sw_cluster.proofs.Rounding.{counts-same}
-use Rattle.sw_cluster.specs.Rounds.{Counts, IsServing, IsUnserved, counts, doors_told}
+use Rattle.sw_cluster.specs.Rounds.{IsServing, IsUnserved}
+use Rattle.sw_cluster.specs.Told.{Counts, counts, doors_told}
 use Rattle.sw_cluster.proofs.command.serve.Goals as goal
 
 pub returns-in-Ok-clause-ends : goal.returns-in-Ok-clause-ends

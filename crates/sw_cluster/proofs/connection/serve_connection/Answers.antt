@@ -14,7 +14,8 @@ returns-clause-connection g c =
     let sink : Passage = passage g.W.Sink.taken g.W.Sink.faults c.args.out.now c.serve-ended.new.out in
     by-name (λ (x : g.row.D.Denot). IsConnection g.D.Door.sight c.args.ring.now c.args.now c.args.door.now source sink x c.status_of.result)
     {m = c.serve-ended.new.server.door.ghost_name} (search rules)
-    (sym {a = c.serve-ended.new.server.door.ghost_name} (same-door g.D.Door.sight c.args.ring.now ring_in door_in _ source sink _ _ _ refl c.serve-ended.ensures.session))
+    (sym {a = c.serve-ended.new.server.door.ghost_name} (same-door g.D.Door.sight c.args.ring.now ring_in door_in _ source sink _ _ _ refl
+    c.serve-ended.ensures.session))
     (connection-of g.D.Door.sight c.args.ring.now ring_in door_in _ source sink _ _ _ refl c.serve-ended.ensures.session c.args.now c.status_of.result
     (still-each c.args.now _ _ c.serve-ended.ensures.ticks) c.status_of.ensures)
 

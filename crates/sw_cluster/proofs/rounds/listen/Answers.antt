@@ -3,7 +3,8 @@ use Rattle.std.specs.Io.KnownBytes.{Appends}
 use Rattle.std.proofs.lemmas.Result.{err_from_is_err_and}
 use Rattle.sw_outside.specs.Counts.{raised}
 use Rattle.sw_cluster.proofs.Rounding.{told-same}
-use Rattle.sw_cluster.specs.Rounds.{DoorsTold, IsServed, counts, doors_told, listening_line}
+use Rattle.sw_cluster.specs.Rounds.{EndsConnections, listening_line}
+use Rattle.sw_cluster.specs.Told.{DoorsTold, counts, doors_told}
 use Rattle.sw_cluster.proofs.rounds.listen.Goals as goal
 
 pub returns-in_err-serve_all : goal.returns-in_err-serve_all
@@ -21,9 +22,10 @@ returns-in_err-serve_all g c =
       stops.0,
       inr (inr (record {
         said = g.W.Sink.taken c.say.new.out;
-        says = subst (λ (port : ℕ). Appends (g.W.Sink.taken c.args.out.now) (g.W.Sink.taken c.say.new.out) (listening_line port)) c.from.ensures c.in_ok-say.ensures.0;
+        says = subst (λ (port : ℕ). Appends (g.W.Sink.taken c.args.out.now) (g.W.Sink.taken c.say.new.out) (listening_line port)) c.from.ensures
+            c.in_ok-say.ensures.0;
         came = Err c.in_err-serve_all.field-0.0;
-        served = subst (λ (told : DoorsTold). IsServed v.tells v.holds v.faults c.args.ring.now c.args.connections c.args.world.now stops.0
+        served = subst (λ (told : DoorsTold). EndsConnections v.tells v.holds v.faults c.args.ring.now c.args.connections c.args.world.now stops.0
             told (doors_told n.accepts n.finished n.calls n.faults c.serve_all.new.doors)
             (g.C.Clock.readings c.args.clock.now) (g.C.Clock.readings c.serve_all.new.clock)
             (counts s.calls s.faults c.args.stores.now) (counts s.calls s.faults c.serve_all.new.stores) (Err c.in_err-serve_all.field-0.0))

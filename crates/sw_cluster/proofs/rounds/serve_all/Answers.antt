@@ -1,6 +1,7 @@
 use Rattle.std.proofs.Common.{◌≡◌, ◌+◌, ℕ, arith, subst}
 use Rattle.std.proofs.lemmas.Result.{err_from_is_err_and}
-use Rattle.sw_cluster.specs.Rounds.{AllServed, counts, doors_told}
+use Rattle.sw_cluster.specs.Rounds.{AllServed}
+use Rattle.sw_cluster.specs.Told.{counts, doors_told}
 use Rattle.sw_cluster.proofs.Rounding.{all-join, lengths-on, none-served, served-of, stopped-join}
 use Rattle.sw_cluster.proofs.rounds.serve_all.Goals as goal
 

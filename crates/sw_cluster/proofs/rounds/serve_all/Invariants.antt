@@ -1,6 +1,7 @@
 use Rattle.std.proofs.Common.{◌≤◌, length}
 use Rattle.sw_cluster.specs.Nodes.{IsReady}
-use Rattle.sw_cluster.specs.Rounds.{AllServed, counts, doors_told}
+use Rattle.sw_cluster.specs.Rounds.{AllServed}
+use Rattle.sw_cluster.specs.Told.{counts, doors_told}
 use Rattle.sw_cluster.proofs.rounds.serve_all.Given as goal
 
 -- the connections so far were served

@@ -4,7 +4,8 @@ use Rattle.sw_session.specs.Passages.{passage}
 use Rattle.sw_volume.specs.Volume.{raised_by}
 use Rattle.sw_cluster.proofs.Rounding.{counts-same}
 use Rattle.sw_cluster.specs.Ending.{AreUnstarted}
-use Rattle.sw_cluster.specs.Rounds.{Counts, IsServedOver, counts, doors_told}
+use Rattle.sw_cluster.specs.Rounds.{IsServedOver}
+use Rattle.sw_cluster.specs.Told.{Counts, counts, doors_told}
 use Rattle.sw_cluster.proofs.rounds.serve_connections.Goals as goal
 
 pub serve_over-requires-clause-begun : goal.serve_over-requires-clause-begun
@@ -41,7 +42,7 @@ returns-in-Err-clause-serving g c =
     let s = g.S.Stores in
     inr (record {
       unstarted = subst (AreUnstarted s.first c.args.ring.now (s.rests c.args.stores.now) (s.rests c.open_nodes.new.stores)
-          (s.faults c.args.stores.now) (s.faults c.open_nodes.new.stores) (s.calls c.args.stores.now) (s.calls c.open_nodes.new.stores))
+          (counts s.calls s.faults c.args.stores.now) (counts s.calls s.faults c.open_nodes.new.stores))
           (sym c.status_of_start.ensures) c.in-Err.ensures.unstarted;
       doors_are = refl;
       nothing_written = (refl, refl);

@@ -2,7 +2,7 @@ use Rattle.std.proofs.Common.{refl, inr}
 use Rattle.sw_cluster.proofs.Readying.{ready-nodes}
 use Rattle.sw_cluster.proofs.Rounding.{one-stopped}
 use Rattle.sw_cluster.proofs.Served.{ready-after}
-use Rattle.sw_cluster.specs.Rounds.{counts, doors_told}
+use Rattle.sw_cluster.specs.Told.{counts, doors_told}
 use Rattle.sw_cluster.proofs.rounds.serve_next.Goals as goal
 
 pub serve_one-requires-clause-nodes : goal.serve_one-requires-clause-nodes
@@ -12,7 +12,8 @@ pub restart_all-requires : goal.restart_all-requires
 restart_all-requires g c =
     let v = g.S.V.Volume in let one = c.in-Ok.ensures.one in
     record {
-      ready = ready-after v.tells v.holds v.faults c.args.ring.now g.S.Stores.out c.args.world.now c.serve_one.new.door c.args.stores.now one.0 c.requires.ready one.1;
+      ready = ready-after v.tells v.holds v.faults c.args.ring.now g.S.Stores.out c.args.world.now c.serve_one.new.door c.args.stores.now one.0 c.requires.ready
+          one.1;
     }
 
 pub returns-in-Err-Failed-restart_all-clause-stops : goal.returns-in-Err-Failed-restart_all-clause-stops

@@ -7,7 +7,8 @@ use Rattle.sw_cluster.proofs.Served.{ends-go, has-served, left-given, see}
 use Rattle.sw_cluster.specs.Ending.{AllTold}
 use Rattle.sw_cluster.specs.Leaving.{AreLeft}
 use Rattle.sw_cluster.specs.Nodes.{IsReady, out_but}
-use Rattle.sw_cluster.specs.Rounds.{Counts, EndsServing, HasServed, counts, doors_told}
+use Rattle.sw_cluster.specs.Rounds.{EndsServing, HasServed}
+use Rattle.sw_cluster.specs.Told.{Counts, counts, doors_told}
 use Rattle.sw_session.specs.Passages.{passage}
 use Rattle.sw_cluster.proofs.rounds.serve_over.Goals as goal
 
