@@ -4,7 +4,8 @@ use sw_ring::{BadRing, DeviceList, Ring, RingError, Which, read};
 
 /// The ring of the worked examples.
 const WORKED: &str =
-    "{\"devices\":[\"sda\",\"sdb\"],\"part_power\":2,\"lock_bits\":2,\"replicas\":2,\"hash_prefix\":\"\",\"hash_suffix\":\"endcap\",\"object\":[[0,1],[1,0],[0,1],[1,0]],\"container\":[[0,1],[1,0],[0,1],[1,0]]}";
+    "{\"devices\":[\"sda\",\"sdb\"],\"part_power\":2,\"lock_bits\":2,\"replicas\":2,\"hash_prefix\":\"\",\"hash_suffix\":\"endcap\",\"object\":[[0,1],[1,0],\
+      [0,1],[1,0]],\"container\":[[0,1],[1,0],[0,1],[1,0]]}";
 
 /// What stands at some keys in place of a good ring's values, as JSON.
 type Changes = &'static [(&'static str, &'static str)];
@@ -109,7 +110,8 @@ fn text_of(alloc: Global, changes: Changes) -> Result<String, AllocError> {
     let object = value_at(changes, "object", "[[0,1],[1,0]]");
     let container = value_at(changes, "container", "[[1,0],[0,1]]");
     format!(in alloc;
-        "{{\"devices\":{devices},\"part_power\":{power},\"lock_bits\":{lock_bits},\"replicas\":{replicas},\"hash_prefix\":\"\",\"hash_suffix\":\"x\",\"object\":{object},\"container\":{container}}}"
+        "{{\"devices\":{devices},\"part_power\":{power},\"lock_bits\":{lock_bits},\"replicas\":{replicas},\"hash_prefix\":\"\",\"hash_suffix\":\"x\",\
+          \"object\":{object},\"container\":{container}}}"
     )
 }
 

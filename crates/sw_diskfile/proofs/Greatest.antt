@@ -1,5 +1,6 @@
 -- The greatest of a list, one name more at a time, and that there is one at most.
-use Rattle.std.proofs.Common.{◌≡◌, ℕ, refl, sym, ◌∙◌, ap, subst, Bool, true, false, cond, ◌&&◌, ◌||◌, not, eqb, ltb, List, [], ◌∷◌, ◌++◌, Option, None, Some, arith, ⊎_elim}
+use Rattle.std.proofs.Common.{◌≡◌, ℕ, refl, sym, ◌∙◌, ap, subst, Bool, true, false, cond, ◌&&◌, ◌||◌, not, eqb, ltb, List, [], ◌∷◌, ◌++◌, Option, None, Some}
+use Rattle.std.proofs.Common.{arith, ⊎_elim}
 use Rattle.std.proofs.lemmas.Bool.{cases_Bool}
 use Rattle.std.proofs.lemmas.Bool.Decides.{nat_tests}
 use Rattle.std.proofs.lemmas.List.Elements.{Contains-append_left, Contains-push, Contains-push_cases}
@@ -18,7 +19,8 @@ above_itself t false = grind (arith, nat_tests)
 pub is_above-itself : (file : FileName) → is_above file file ≡ false
 is_above-itself file = above_itself file.time (is_del file.tag)
 
-above_trans : (t u v : ℕ) (d e f : Bool) → (ltb u t || (eqb u t && (d && not e))) ≡ true → (ltb v u || (eqb v u && (e && not f))) ≡ true → (ltb v t || (eqb v t && (d && not f))) ≡ true
+above_trans : (t u v : ℕ) (d e f : Bool) → (ltb u t || (eqb u t && (d && not e))) ≡ true → (ltb v u || (eqb v u && (e && not f))) ≡ true →
+    (ltb v t || (eqb v t && (d && not f))) ≡ true
 above_trans t u v true true true a b = grind (arith, nat_tests)
 above_trans t u v true true false a b = grind (arith, nat_tests)
 above_trans t u v true false true a b = grind (arith, nat_tests)
@@ -44,21 +46,26 @@ not_above true c h e = h
 not_above false c h e = absurd cc
 
 module _ (xs : List FileName) (test : FileName → Bool) (x : FileName) where
-  before : (found : Option FileName) → IsGreatestOf xs test found → option_map_or (is_above x) found true ≡ true → (other : FileName) → Contains xs other → test other ≡ true → is_above other x ≡ false
+  before : (found : Option FileName) → IsGreatestOf xs test found → option_map_or (is_above x) found true ≡ true → (other : FileName) → Contains xs other →
+      test other ≡ true → is_above other x ≡ false
   before None g above other c t = let lie = g other c in absurd cc
   before (Some f) g above other c t = below_greater other x f (g.none_above other c t) above
 
   -- a name more, that counts and is above
-  takes : (found : Option FileName) → IsGreatestOf xs test found → test x ≡ true → option_map_or (is_above x) found true ≡ true → IsGreatest (xs ++ x ∷ []) test x
+  takes : (found : Option FileName) → IsGreatestOf xs test found → test x ≡ true → option_map_or (is_above x) found true ≡ true →
+      IsGreatest (xs ++ x ∷ []) test x
   takes found g counts above = record {
     among = Contains-push xs x;
     passes = counts;
-    none_above = λ other c t. ⊎_elim (λ old. before found g above other old t) (λ e. subst (λ (y : FileName). is_above y x ≡ false) e (is_above-itself x)) (Contains-push_cases xs x other c);
+    none_above = λ other c t. ⊎_elim (λ old. before found g above other old t) (λ e. subst (λ (y : FileName). is_above y x ≡ false) e (is_above-itself x))
+        (Contains-push_cases xs x other c);
   }
 
   -- or that doesn't, or isn't
-  keeps : (found : Option FileName) → IsGreatestOf xs test found → (test x && option_map_or (is_above x) found true) ≡ false → IsGreatestOf (xs ++ x ∷ []) test found
-  keeps None g off = λ other c. ⊎_elim (λ old. g other old) (λ e. subst (λ (y : FileName). test y ≡ false) e (not_counted (test x) off)) (Contains-push_cases xs x other c)
+  keeps : (found : Option FileName) → IsGreatestOf xs test found → (test x && option_map_or (is_above x) found true) ≡ false →
+      IsGreatestOf (xs ++ x ∷ []) test found
+  keeps None g off = λ other c. ⊎_elim (λ old. g other old) (λ e. subst (λ (y : FileName). test y ≡ false) e (not_counted (test x) off))
+      (Contains-push_cases xs x other c)
   keeps (Some f) g off = record {
     among = Contains-append_left xs (x ∷ []) f g.among;
     passes = g.passes;
@@ -71,7 +78,8 @@ module _ (xs : List FileName) (test : FileName → Bool) (x : FileName) where
   both true b h = (refl, h)
   both false b h = absurd cc
 
-  pub IsGreatestOf-push : (found r : Option FileName) (counts : Bool) → counts ≡ test x → r ≡ cond (counts && option_map_or (is_above x) found true) (Some x) found → IsGreatestOf xs test found → IsGreatestOf (xs ++ x ∷ []) test r
+  pub IsGreatestOf-push : (found r : Option FileName) (counts : Bool) → counts ≡ test x →
+      r ≡ cond (counts && option_map_or (is_above x) found true) (Some x) found → IsGreatestOf xs test found → IsGreatestOf (xs ++ x ∷ []) test r
   IsGreatestOf-push found r counts c e g =
       let better = counts && option_map_or (is_above x) found true in
       ⊎_elim
@@ -79,7 +87,8 @@ module _ (xs : List FileName) (test : FileName → Bool) (x : FileName) where
       let is : r ≡ Some x = e ∙ ap (λ b. cond b (Some x) found) y in
       subst (λ (o : Option FileName). IsGreatestOf (xs ++ x ∷ []) test o) (sym is) (takes found g (sym c ∙ parts.0) parts.1))
       (λ n. let is : r ≡ found = e ∙ ap (λ b. cond b (Some x) found) n in
-      subst (λ (o : Option FileName). IsGreatestOf (xs ++ x ∷ []) test o) (sym is) (keeps found g (ap (λ b. b && option_map_or (is_above x) found true) (sym c) ∙ n)))
+      subst (λ (o : Option FileName). IsGreatestOf (xs ++ x ∷ []) test o) (sym is)
+      (keeps found g (ap (λ b. b && option_map_or (is_above x) found true) (sym c) ∙ n)))
       (cases_Bool better)
 
 -- ---- one at most
@@ -90,7 +99,8 @@ same_time t u false a b = grind (arith, nat_tests)
 tie : (t u : ℕ) → (ltb u t || (eqb u t && true)) ≡ false → (ltb t u || (eqb t u && false)) ≡ false → ⊥
 tie t u a b = grind (arith, nat_tests)
 
-at_one_time : (t u : ℕ) (a b : Tag) → is_above (record { time = t; tag = a }) (record { time = u; tag = b }) ≡ false → is_above (record { time = u; tag = b }) (record { time = t; tag = a }) ≡ false
+at_one_time : (t u : ℕ) (a b : Tag) → is_above (record { time = t; tag = a }) (record { time = u; tag = b }) ≡ false →
+    is_above (record { time = u; tag = b }) (record { time = t; tag = a }) ≡ false
     → is_meta a ≡ is_meta b → (t ≡ u) × (a ≡ b)
 at_one_time t u Put Put x y m = (same_time t u false x y, refl)
 at_one_time t u Del Del x y m = (same_time t u true x y, refl)

@@ -27,7 +27,10 @@ sixteen t le = (normal_text_reads_back t le).1
 pub names_differ : (file other : FileName) → file.time ≤ GREATEST → other.time ≤ GREATEST → name_text file ≡ name_text other → file ≡ other
 names_differ file other le le' e =
     let times : text_of file.time ≡ text_of other.time =
-    sym (take_at (text_of file.time) (ending file.tag) 16 (sixteen file.time le)) ∙ ap (λ l. take 16 l) e ∙ take_at (text_of other.time) (ending other.tag) 16 (sixteen other.time le') in
+    sym (take_at (text_of file.time) (ending file.tag) 16 (sixteen file.time le)) ∙ ap (λ l. take 16 l) e ∙ take_at (text_of other.time) (ending other.tag) 16
+    (sixteen other.time le') in
     let endings : ending file.tag ≡ ending other.tag =
-    sym (drop_at (text_of file.time) (ending file.tag) 16 (sixteen file.time le)) ∙ ap (λ l. drop 16 l) e ∙ drop_at (text_of other.time) (ending other.tag) 16 (sixteen other.time le') in
-    ap (λ t. record { time = t; tag = file.tag }) (texts_differ file.time other.time le le' times) ∙ ap (λ a. record { time = other.time; tag = a }) (one_ending file.tag other.tag endings)
+    sym (drop_at (text_of file.time) (ending file.tag) 16 (sixteen file.time le)) ∙ ap (λ l. drop 16 l) e ∙ drop_at (text_of other.time) (ending other.tag) 16
+    (sixteen other.time le') in
+    ap (λ t. record { time = t; tag = file.tag }) (texts_differ file.time other.time le le' times) ∙ ap (λ a. record { time = other.time; tag = a })
+    (one_ending file.tag other.tag endings)

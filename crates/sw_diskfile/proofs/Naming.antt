@@ -1,5 +1,6 @@
 -- The file that a name names.
-use Rattle.std.proofs.Common.{◌≡◌, ◌≢◌, ℕ, ◌/◌, ◌%◌, ◌≤◌, ◌⊎◌, inl, inr, refl, sym, ◌∙◌, ap, subst, Bool, true, false, nat_le, List, [], ◌∷◌, ◌++◌, take, drop, length, length-append, append_assoc, Option, None, Some, arith, if◌then◌else◌}
+use Rattle.std.proofs.Common.{◌≡◌, ◌≢◌, ℕ, ◌/◌, ◌%◌, ◌≤◌, ◌⊎◌, inl, inr, refl, sym, ◌∙◌, ap, subst, Bool, true, false, nat_le, List, [], ◌∷◌, ◌++◌, take, drop}
+use Rattle.std.proofs.Common.{length, length-append, append_assoc, Option, None, Some, arith, if◌then◌else◌}
 use Rattle.std.proofs.lemmas.Bool.{and_parts, and_from, cases_Bool, cond-true, cond-false, leb-true, le-leb}
 use Rattle.std.proofs.lemmas.List.{drop_at, take_at}
 use Rattle.std.proofs.lemmas.Slice.Eq.{bytes_eq-Decides}
@@ -40,13 +41,16 @@ named_test : (f : FileName) (tag : Tag) → f.time ≤ GREATEST → is_name_of (
 named_test f tag le is =
     let test = subst (λ (g : FileName). is_name_of (name_text f) g ≡ true) (tagged f tag le) is in
     let parts = and_parts (bytes_eq (name_text (record { time = f.time; tag = tag })) (name_text f)) (nat_le f.time GREATEST) test in
-    ap (λ (g : FileName). g.tag) (names_differ (record { time = f.time; tag = tag }) f le le ((bytes_eq-Decides (name_text (record { time = f.time; tag = tag })) (name_text f)).0 parts.0))
+    ap (λ (g : FileName). g.tag) (names_differ (record { time = f.time; tag = tag }) f le le
+    ((bytes_eq-Decides (name_text (record { time = f.time; tag = tag })) (name_text f)).0 parts.0))
 
 named_own : (f : FileName) → f.time ≤ GREATEST → is_name_of (name_text f) (file_with_tag (name_text f) f.tag) ≡ true
-named_own f le = subst (λ (g : FileName). is_name_of (name_text f) g ≡ true) (sym (tagged f f.tag le)) (and_from _ _ ((bytes_eq-Decides (name_text f) (name_text f)).1 refl) (le-leb f.time GREATEST le))
+named_own f le = subst (λ (g : FileName). is_name_of (name_text f) g ≡ true) (sym (tagged f f.tag le))
+    (and_from _ _ ((bytes_eq-Decides (name_text f) (name_text f)).1 refl) (le-leb f.time GREATEST le))
 
 another : (f : FileName) (tag : Tag) → f.time ≤ GREATEST → tag ≢ f.tag → is_name_of (name_text f) (file_with_tag (name_text f) tag) ≡ false
-another f tag le other = elim (cases_Bool (is_name_of (name_text f) (file_with_tag (name_text f) tag))) [ inl is ↦ absurd (other (named_test f tag le is)) | inr is ↦ is ]
+another f tag le other = elim (cases_Bool (is_name_of (name_text f) (file_with_tag (name_text f) tag)))
+    [ inl is ↦ absurd (other (named_test f tag le is)) | inr is ↦ is ]
 
 named_by : (f : FileName) (tag : Tag) → f.tag ≡ tag → f.time ≤ GREATEST → named (name_text f) ≡ Some (file_with_tag (name_text f) tag)
 unfolding named
@@ -98,7 +102,8 @@ named_is text f = (named_takes text f, λ is. ap named is.1 ∙ named_again f is
 pub read_named : (text : List ℕ) (f : FileName) → f.time ≤ GREATEST → text ≡ name_text f → named text ≡ Some f
 read_named text f le e = (named_is text f).1 (le, e)
 
-pub refused_unnamed : (text : List ℕ) → ((time : ℕ) → time ≤ GREATEST → text ≢ text_of time ++ ending Put) → ((time : ℕ) → time ≤ GREATEST → text ≢ text_of time ++ ending Del)
+pub refused_unnamed : (text : List ℕ) → ((time : ℕ) → time ≤ GREATEST → text ≢ text_of time ++ ending Put) →
+    ((time : ℕ) → time ≤ GREATEST → text ≢ text_of time ++ ending Del)
     → ((time : ℕ) → time ≤ GREATEST → text ≢ text_of time ++ ending Meta) → named text ≡ None
 refused_unnamed text put del meta = by (named text) refl
   where

@@ -17,7 +17,8 @@ stem_is text front end e = ap (λ t. take (length text - length end) t) e ∙ ta
 pub ending_is : (text front end : List ℕ) → text ≡ front ++ end → drop (length text - length end) text ≡ end
 ending_is text front end e = ap (λ t. drop (length text - length end) t) e ∙ drop_at front end (length text - length end) (front_length text front end e)
 
-pub ends_so : (text stem end : List ℕ) → bytes_eq (drop (length text - length end) text) end ≡ true → stem ≡ take (length text - length end) text → text ≡ stem ++ end
+pub ends_so : (text stem end : List ℕ) → bytes_eq (drop (length text - length end) text) end ≡ true → stem ≡ take (length text - length end) text →
+    text ≡ stem ++ end
 ends_so text stem end y s =
     let n = length text - length end in
     sym (take-append-drop n text) ∙ ap (λ l. take n text ++ l) ((bytes_eq-Decides (drop n text) end).0 y) ∙ ap (λ l. l ++ end) (sym s)
@@ -28,12 +29,14 @@ other_ending text front end off e =
     let same = (bytes_eq-Decides (drop (length text - length end) text) end).1 (ending_is text front end e) in cc
 
 -- nor is one whose stem reads as no time, or as one that is written otherwise
-pub no_time : (text stem end : List ℕ) → stem ≡ take (length text - length end) text → ((t : ℕ) → ¬ IsTimeText stem t) → (time : ℕ) → time ≤ GREATEST → text ≡ text_of time ++ end → ⊥
+pub no_time : (text stem end : List ℕ) → stem ≡ take (length text - length end) text → ((t : ℕ) → ¬ IsTimeText stem t) → (time : ℕ) → time ≤ GREATEST →
+    text ≡ text_of time ++ end → ⊥
 no_time text stem end s none time le e =
     let is : stem ≡ text_of time = s ∙ stem_is text (text_of time) end e in
     none time (subst (λ (l : List ℕ). IsTimeText l time) (sym is) (normal_text_reads_back time le).0)
 
-pub other_spelling : (text stem end : List ℕ) (read : ℕ) → stem ≡ take (length text - length end) text → IsTimeText stem read → ¬ (stem ≡ text_of read) → (time : ℕ) → time ≤ GREATEST → text ≡ text_of time ++ end → ⊥
+pub other_spelling : (text stem end : List ℕ) (read : ℕ) → stem ≡ take (length text - length end) text → IsTimeText stem read → ¬ (stem ≡ text_of read) →
+    (time : ℕ) → time ≤ GREATEST → text ≡ text_of time ++ end → ⊥
 other_spelling text stem end read s reads other time le e =
     let is : stem ≡ text_of time = s ∙ stem_is text (text_of time) end e in
     let again : IsTimeText stem time = subst (λ (l : List ℕ). IsTimeText l time) (sym is) (normal_text_reads_back time le).0 in

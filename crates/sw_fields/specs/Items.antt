@@ -1,6 +1,7 @@
 -- The header items that a request gives an object, and the limits of user metadata. (OpenStack Swift's object server and API. The limits
 -- are counted over the items that are kept.)
-use Rattle.std.specs.Prelude.{ℕ, ◌+◌, ◌-◌, Bool, ◌&&◌, ◌||◌, List, [], length, take, fold, codes, count_by, sum_by, nat_eq, nat_le, not, Option, None, Some, if◌then◌else◌}
+use Rattle.std.specs.Prelude.{ℕ, ◌+◌, ◌-◌, Bool, ◌&&◌, ◌||◌, List, [], length, take, fold, codes, count_by, sum_by, nat_eq, nat_le, not, Option, None, Some}
+use Rattle.std.specs.Prelude.{if◌then◌else◌}
 use Rattle.std.specs.List.{list_all, starts_with}
 use Rattle.std.specs.Option.{option_and_then}
 use Rattle.std.specs.Str.{str_eq_ignore_ascii_case, str_to_ascii_lowercase}

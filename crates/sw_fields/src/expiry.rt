@@ -3,7 +3,8 @@ ghost use Rattle.std.specs.Result.{result_ok};
 ghost use Rattle.std.specs.List.{list_all};
 ghost use Rattle.std.specs.Char.{is_ascii_digit};
 ghost use Rattle.sw_state.specs.DeleteTimes.{is_delete_time};
-ghost use Rattle.sw_fields.specs.Expiry.{checked_second as checked_second_at, expiry_of as expiry_of_fields, is_expired as is_expired_at, is_second as is_second_text, may_expire as may_expire_at, path_size as path_size_of, second_of as second_of_text};
+ghost use Rattle.sw_fields.specs.Expiry.{checked_second as checked_second_at, expiry_of as expiry_of_fields, is_expired as is_expired_at};
+ghost use Rattle.sw_fields.specs.Expiry.{is_second as is_second_text, may_expire as may_expire_at, path_size as path_size_of, second_of as second_of_text};
 
 use crate::limits::MAX_EXPIRING_NAME;
 use sw_hashpath::Name;

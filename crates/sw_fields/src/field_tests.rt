@@ -1,7 +1,9 @@
 ghost use Rattle.std.specs.Prelude.{◌≡◌, ◌≤◌, length};
 ghost use Rattle.std.specs.List.{prefix_len, suffix_len};
 ghost use Rattle.std.specs.Option.{option_copied};
-ghost use Rattle.sw_fields.specs.Fields.{IsTime, agrees_with as agrees_with_digest, asks_for_none as asks_for_none_in, before_quotes, behind_quotes, has_value as has_value_in, is_quote, is_replicated as is_replicated_in, is_type as is_type_text, shows_digest as shows_digest_in, type_of as type_of_fields, unquoted as unquoted_text};
+ghost use Rattle.sw_fields.specs.Fields.{IsTime, agrees_with as agrees_with_digest, asks_for_none as asks_for_none_in, before_quotes, behind_quotes};
+ghost use Rattle.sw_fields.specs.Fields.{has_value as has_value_in, is_quote, is_replicated as is_replicated_in, is_type as is_type_text};
+ghost use Rattle.sw_fields.specs.Fields.{shows_digest as shows_digest_in, type_of as type_of_fields, unquoted as unquoted_text};
 
 use sw_hashpath::hex_text;
 use sw_message::FieldList;

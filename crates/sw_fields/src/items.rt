@@ -2,7 +2,10 @@ ghost use Rattle.std.specs.Prelude.{◌≡◌, ◌-◌, ◌^◌, true, Ok, min, 
 ghost use Rattle.std.specs.List.{list_all};
 ghost use Rattle.std.specs.Str.{str_to_ascii_lowercase};
 ghost use Rattle.sw_message.specs.Fields.{is_named as is_named_field};
-ghost use Rattle.sw_fields.specs.Items.{are_few as are_few_items, has_good_name as has_good_name_of, is_in_limits as is_in_limits_of, is_item_field as is_item_field_of, is_kept_field as is_kept_field_of, is_user_field as is_user_field_of, is_user_item as is_user_item_of, item_of as item_of_field, items_of as items_of_fields, name_size as name_size_of, named_items as named_items_of, user_size as user_size_of, with_field};
+ghost use Rattle.sw_fields.specs.Items.{are_few as are_few_items, has_good_name as has_good_name_of, is_in_limits as is_in_limits_of};
+ghost use Rattle.sw_fields.specs.Items.{is_item_field as is_item_field_of, is_kept_field as is_kept_field_of, is_user_field as is_user_field_of};
+ghost use Rattle.sw_fields.specs.Items.{is_user_item as is_user_item_of, item_of as item_of_field, items_of as items_of_fields, name_size as name_size_of};
+ghost use Rattle.sw_fields.specs.Items.{named_items as named_items_of, user_size as user_size_of, with_field};
 
 use crate::limits::{MAX_ITEM_NAME, MAX_ITEM_VALUE, MAX_ITEMS, MAX_METADATA};
 use std::alloc::Global;

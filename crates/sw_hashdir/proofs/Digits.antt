@@ -1,5 +1,6 @@
 -- The digits of suffixes and hashes, and the directories that are made of them.
-use Rattle.std.proofs.Common.{◌≡◌, ℕ, zero, suc, ◌+◌, ◌*◌, ◌/◌, ◌%◌, ◌<◌, ◌==◌, refl, sym, ◌∙◌, ap, subst, true, false, not, List, [], ◌∷◌, ◌++◌, length, get_or, take, drop, slice_index, arith}
+use Rattle.std.proofs.Common.{◌≡◌, ℕ, zero, suc, ◌+◌, ◌*◌, ◌/◌, ◌%◌, ◌<◌, ◌==◌, refl, sym, ◌∙◌, ap, subst, true, false, not, List, [], ◌∷◌, ◌++◌, length}
+use Rattle.std.proofs.Common.{get_or, take, drop, slice_index, arith}
 use Rattle.std.proofs.Common.{◌^◌, Bool, Result, Ok, inl, inr}
 use Rattle.std.proofs.lemmas.Bool.{and_parts, cases_lt}
 use Rattle.std.proofs.lemmas.List.Elements.{All-drop, All-get_or}
@@ -105,7 +106,8 @@ hash-digits hash is =
     let left = two-left (drop 14 hash) (length-drop 14 hash ∙ omega (arith, count)) in
     let a : ℕ = left.0 in
     let b : ℕ = left.1 in
-    let bytes : All (λ (x : ℕ). x < 256) (a ∷ b ∷ []) = subst (λ (l : List ℕ). All (λ (x : ℕ). x < 256) l) left.2 (All-drop (λ (x : ℕ). x < 256) 14 hash is.1) in
+    let bytes : All (λ (x : ℕ). x < 256) (a ∷ b ∷ []) = subst (λ (l : List ℕ). All (λ (x : ℕ). x < 256) l) left.2 (All-drop (λ (x : ℕ). x < 256) 14 hash is.1)
+    in
     let last : b < 256 = bytes 1 0 (omega arith) in
     let text : drop 29 (encode_lower hash) ≡ drop 1 (encode_lower (a ∷ b ∷ [])) =
     drop-more 28 (encode_lower hash) ∙ ap (drop 1) (drop-encoded 14 lower_digits hash ∙ ap encode_lower left.2) in

@@ -229,7 +229,8 @@ module _ (power part : ℕ) (T : Type 0) (stood : Contents) (keys : List ℕ) (f
 
 -- ---- what is compared of the lines of one suffix
 
-pub told-there : (suffix : ℕ) (lines : List DirLine) → (length lines == 0) ≡ false → hash_with suffix (suffix_md5 lines) ≡ told_once suffix (md5 (suffix_text lines))
+pub told-there : (suffix : ℕ) (lines : List DirLine) → (length lines == 0) ≡ false →
+    hash_with suffix (suffix_md5 lines) ≡ told_once suffix (md5 (suffix_text lines))
 told-there suffix [] some = cc
 told-there suffix (line ∷ lines) some = refl
 

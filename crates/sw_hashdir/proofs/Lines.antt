@@ -154,7 +154,8 @@ picked-last [] hash picked apart = rw ((bytes_eq-Decides hash hash).1 refl) refl
 picked-last (l ∷ lines) hash picked apart = rw apart.0 (picked-last lines hash picked apart.1)
 
 -- of the hash whose line was added
-picked-added : (lines : List DirLine) (hash : Hash) (picked : Picked) → Apart lines hash → picked_in (lines ++ line_with hash picked (files picked)) hash ≡ picked
+picked-added : (lines : List DirLine) (hash : Hash) (picked : Picked) → Apart lines hash →
+    picked_in (lines ++ line_with hash picked (files picked)) hash ≡ picked
 picked-added lines hash picked apart = by picked.base picked.meta refl refl
   where
     by : (b m : Option FileName) → picked.base ≡ b → picked.meta ≡ m → picked_in (lines ++ line_with hash picked (files picked)) hash ≡ picked

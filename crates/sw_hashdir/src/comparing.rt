@@ -28,7 +28,8 @@ pub fn lines_of<V: Volume>(
     requires part { part < 2 ^ power }
     requires suffix { suffix < 4096 }
     ensures lines { IfOk result (λ lines. (secrets : Secrets)
-        → AreLines power part suffix (V.tells volume.old && in_order secrets power (V.holds volume.old)) (λ hash. holds secrets power (V.holds volume.old) hash) lines.items) }
+        → AreLines power part suffix (V.tells volume.old && in_order secrets power (V.holds volume.old)) (λ hash. holds secrets power (V.holds volume.old) hash)
+        lines.items) }
     ensures ordered { IfOk result (λ lines. AreOfSuffix power part suffix lines.items) }
     ensures listed { IfOk result (λ lines. V.tells volume.old ≡ true → AreListedLines power part suffix (contents (V.holds volume.old)) lines.items) }
     ensures same { V.tells volume.old ≡ true → IsSame (contents (V.holds volume.old)) (contents (V.holds volume.new)) }
@@ -86,7 +87,8 @@ pub fn hashes_of<V: Volume>(
     requires greatest { power ≤ 32 }
     requires part { part < 2 ^ power }
     ensures hashes { IfOk result (λ hashes. (secrets : Secrets)
-        → AreHashes power part (V.tells volume.old && in_order secrets power (V.holds volume.old)) (λ hash. holds secrets power (V.holds volume.old) hash) hashes.items) }
+        → AreHashes power part (V.tells volume.old && in_order secrets power (V.holds volume.old)) (λ hash. holds secrets power (V.holds volume.old) hash)
+        hashes.items) }
     ensures same { V.tells volume.old ≡ true → IsSame (contents (V.holds volume.old)) (contents (V.holds volume.new)) }
     ensures told { V.tells volume.new ≡ V.tells volume.old }
     ensures cause { HasCause (V.faults volume.old) (V.faults volume.new) result }

@@ -3,7 +3,8 @@ use Rattle.std.proofs.Common.{◌≡◌, ℕ, List, ◌++◌, Option, Some, None
 use Rattle.sw_hashpath.specs.Paths.{path_text, segment}
 use Rattle.sw_hashpath.specs.declared.secrets.Secrets.{Secrets}
 
-pub path_text-segments : (s : Secrets) (a : List ℕ) (c o : Option (List ℕ)) → (((s.prefix ++ segment (Some a)) ++ segment c) ++ segment o) ++ s.suffix ≡ path_text s a c o
+pub path_text-segments : (s : Secrets) (a : List ℕ) (c o : Option (List ℕ)) →
+    (((s.prefix ++ segment (Some a)) ++ segment c) ++ segment o) ++ s.suffix ≡ path_text s a c o
 unfolding path_text
 path_text-segments s a None None = simp append_assoc
 path_text-segments s a None (Some o) = simp append_assoc

@@ -31,7 +31,12 @@ impl Name {
         object: &[u8],
     ) -> Result<Name, NameError>
         ensures name { let c = Some container.now in let o = Some object.now in
-            IfOk result (λ name. name ≡ record { account = account.now; container = container.now; object = object.now; hash = hash_of secrets.now account.now c o }) }
+            IfOk result (λ name. name ≡ record {
+              account = account.now;
+              container = container.now;
+              object = object.now;
+              hash = hash_of secrets.now account.now c o;
+            }) }
         ensures good { IfOk result (λ _. bad_name account.now (Some container.now) (Some object.now) ≡ None) }
         ensures bad { (bad : BadName) → (result ≡ Err (NameError.Bad bad)) ↔ (bad_name account.now (Some container.now) (Some object.now) ≡ Some bad) }
     {

@@ -28,7 +28,11 @@ impl Place {
         account: &[u8],
         container: &[u8],
     ) -> Result<Place, NameError>
-        ensures place { IfOk result (λ place. place ≡ record { account = account.now; container = container.now; hash = hash_of secrets.now account.now (Some container.now) None }) }
+        ensures place { IfOk result (λ place. place ≡ record {
+          account = account.now;
+          container = container.now;
+          hash = hash_of secrets.now account.now (Some container.now) None;
+        }) }
         ensures good { IfOk result (λ _. bad_name account.now (Some container.now) None ≡ None) }
         ensures bad { (bad : BadName) → (result ≡ Err (NameError.Bad bad)) ↔ (bad_name account.now (Some container.now) None ≡ Some bad) }
     {

@@ -1,5 +1,6 @@
 -- What is kept of a body, and what was taken of it.
-use Rattle.std.proofs.Common.{◌≡◌, ℕ, ◌+◌, ◌<◌, ◌≤◌, List, [], ◌++◌, length, take, drop, Option, None, Some, IfSome, refl, sym, ap, ◌∙◌, subst, arith, append_assoc, append-nil, length-append, length-take-le, inl, inr}
+use Rattle.std.proofs.Common.{◌≡◌, ℕ, ◌+◌, ◌<◌, ◌≤◌, List, [], ◌++◌, length, take, drop, Option, None, Some, IfSome, refl, sym, ap, ◌∙◌, subst, arith}
+use Rattle.std.proofs.Common.{append_assoc, append-nil, length-append, length-take-le, inl, inr}
 use Rattle.std.specs.Io.KnownBytes.{Consumes, Keeps, IsAtEnd, prepend_known}
 use Rattle.std.proofs.KnownBytes.{Consumes-trans, Consumes-nil, Consumes-kept, Consumes-whole}
 use Rattle.std.proofs.lemmas.Bool.{cases_lt, cond-true, cond-false, le-leb, lt-leb}
@@ -35,7 +36,12 @@ extended_within TooLarge more = tt
 pub extended_twice : (body : Body) (more others : List ℕ) → extended (extended body more) others ≡ extended body (more ++ others)
 extended_twice (Whole bytes) more others = elim (cases_lt 5242880 (length (bytes ++ more))) [
   | inl large ↦ ap (λ (b : Body). extended b others) (body_too_large (bytes ++ more) large)
-      ∙ sym (body_too_large (bytes ++ (more ++ others)) (omega (arith, large, ap length (append_assoc bytes more others), length-append (bytes ++ more) others)))
+      ∙ sym (body_too_large (bytes ++ (more ++ others)) (omega (
+        arith,
+        large,
+        ap length (append_assoc bytes more others),
+        length-append (bytes ++ more) others,
+      )))
   | inr fits ↦ ap (λ (b : Body). extended b others) (body_fits (bytes ++ more) fits) ∙ ap body_of (append_assoc bytes more others)
 ]
 extended_twice TooLarge more others = refl
@@ -119,7 +125,8 @@ no_plain_room len room bytes many = record { none = go }
     go (Plain content) rest size fits e = omega (arith, size, fits)
     go (Chunks b) rest size fits e = size
 
-pub chunks_taken : (a b : Option (List ℕ)) (body now : Body) (room : ℕ) → IsUnread 0 body → TakesChunked a b body now room → TakesBody a b (Some Chunked) room now
+pub chunks_taken : (a b : Option (List ℕ)) (body now : Body) (room : ℕ) → IsUnread 0 body → TakesChunked a b body now room →
+    TakesBody a b (Some Chunked) room now
 chunks_taken a b body now room unread takes = record {
   text = Chunks takes.text;
   is_body = takes.is_chunked;
@@ -155,7 +162,8 @@ data_none a b body now len takes none_there =
 
 -- ---- a read failed in a body
 
-pub content_cut : (a b left : Option (List ℕ)) (body now : Body) (count len : ℕ) → TakesBytes a b body now count → count < len → IfSeen b left (λ (s : List ℕ). length s ≡ 0)
+pub content_cut : (a b left : Option (List ℕ)) (body now : Body) (count len : ℕ) → TakesBytes a b body now count → count < len →
+    IfSeen b left (λ (s : List ℕ). length s ≡ 0)
     → IfSeen a left (λ (s : List ℕ). length s < len)
 content_cut a b left body now count len takes short none_there =
     seen_behind a b left takes.bytes (λ (s : List ℕ). length s < len) (λ (s : List ℕ). length s ≡ 0) takes.taken
@@ -164,7 +172,8 @@ content_cut a b left body now count len takes short none_there =
 pub data_cut_short : (a left : Option (List ℕ)) (len : ℕ) → IfSeen a left (λ (s : List ℕ). length s < len) → IfSeen a left (HasNoData len)
 data_cut_short a left len = seen_map a left (λ (s : List ℕ). length s < len) (HasNoData len) (no_data_short len)
 
-pub data_cut_end : (a b left : Option (List ℕ)) (held : List ℕ) (body now : Body) (len : ℕ) → TakesBytes a b body now len → IfSeen b left (IsShort held) → IfSeen a left (HasNoData len)
+pub data_cut_end : (a b left : Option (List ℕ)) (held : List ℕ) (body now : Body) (len : ℕ) → TakesBytes a b body now len → IfSeen b left (IsShort held) →
+    IfSeen a left (HasNoData len)
 data_cut_end a b left held body now len takes cut =
     seen_behind a b left takes.bytes (HasNoData len) (IsShort held) takes.taken
     (λ rest short. no_data_end len takes.bytes rest takes.size (no_end_short rest short.0)) cut

@@ -1,5 +1,6 @@
 -- Chunked bodies: bytes begin with one at most, and when none can stand in front.
-use Rattle.std.proofs.Common.{◌≡◌, ℕ, ◌+◌, ◌-◌, ◌<◌, ◌≤◌, List, [], ◌∷◌, ◌++◌, length, Option, IfSome, refl, sym, ap, ◌∙◌, subst, arith, append_assoc, append-nil, length-append}
+use Rattle.std.proofs.Common.{◌≡◌, ℕ, ◌+◌, ◌-◌, ◌<◌, ◌≤◌, List, [], ◌∷◌, ◌++◌, length, Option, IfSome, refl, sym, ap, ◌∙◌, subst, arith, append_assoc}
+use Rattle.std.proofs.Common.{append-nil, length-append}
 use Rattle.std.specs.Prelude.{All}
 use Rattle.std.specs.List.{flat_map}
 use Rattle.std.specs.Io.KnownBytes.{Consumes}
@@ -11,7 +12,8 @@ use Rattle.httparse.proofs.ChunkLemmas.{chunk_line_unique}
 use Rattle.httparse.proofs.GrammarLemmas.{section_unique}
 use Rattle.sw_http.specs.Body.{extended, IsWithinLimit}
 use Rattle.sw_http.specs.Chunked.{Chunk, IsChunk, print_chunk, chunk_bytes, ChunkedText, IsChunked, print_chunked, IsLast, IsTrailer}
-use Rattle.sw_http.specs.ChunkSteps.{HasNoLineWithin, HasNoData, TakesData, TakesLine, TakesChunk, TakesLast, HasNoChunked, TakesChunks, TakesChunked, TakesTrailer, HasNoTrailerWithin}
+use Rattle.sw_http.specs.ChunkSteps.{HasNoLineWithin, HasNoData, TakesData, TakesLine, TakesChunk, TakesLast, HasNoChunked, TakesChunks, TakesChunked}
+use Rattle.sw_http.specs.ChunkSteps.{TakesTrailer, HasNoTrailerWithin}
 use Rattle.sw_http.specs.declared.chunk_line.SizeLine.{SizeLine}
 use Rattle.sw_message.specs.declared.request.Body.{Body}
 use Rattle.sw_http.proofs.BodyLemmas.{extended_none, extended_twice, extended_within}
@@ -28,7 +30,8 @@ regroup line bytes end more tail rest = simp append_assoc
 -- the first chunk, and what stands behind it
 chunk_split : (c : Chunk) (cs : List Chunk) (last : ChunkLine) (trailer : List Field) (end : LineEnd) (rest : List ℕ)
     → chunked (c ∷ cs) last trailer end ++ rest ≡ print_chunk_line c.line ++ (c.bytes ++ (crlf_bytes ++ (chunked cs last trailer end ++ rest)))
-chunk_split c cs last trailer end rest = regroup (print_chunk_line c.line) c.bytes crlf_bytes (flat_map print_chunk cs) (print_chunk_line last ++ print_section trailer end) rest
+chunk_split c cs last trailer end rest = regroup (print_chunk_line c.line) c.bytes crlf_bytes (flat_map print_chunk cs)
+    (print_chunk_line last ++ print_section trailer end) rest
 
 -- the line of size 0, and what stands behind it
 last_split : (last : ChunkLine) (trailer : List Field) (end : LineEnd) (rest : List ℕ)
@@ -64,21 +67,27 @@ chunked_unique : (cs ds : List Chunk) (last final : ChunkLine) (trailer others :
     → All IsChunk cs → All IsChunk ds → IsLast last → IsLast final → IsTrailer trailer end → IsTrailer others stop
     → chunked cs last trailer end ++ r ≡ chunked ds final others stop ++ q → SameChunked cs ds last final trailer others end stop r q
 chunked_unique [] [] last final trailer others end stop r q are others_are is other_is t u e =
-    let lines = chunk_line_unique _ last final _ _ (is.is_line, refl) (other_is.is_line, sym (last_split last trailer end r) ∙ e ∙ last_split final others stop q) in
+    let lines = chunk_line_unique _ last final _ _ (is.is_line, refl) (
+      other_is.is_line,
+      sym (last_split last trailer end r) ∙ e ∙ last_split final others stop q,
+    ) in
     let sections = section_unique _ trailer others end stop r q (t.are_fields, refl) (u.are_fields, lines.1) in
     record { chunks = refl; lines = lines.0; trailers = sections.0; ends = sections.1; rests = sections.2 }
 chunked_unique [] (d ∷ ds) last final trailer others end stop r q are others_are is other_is t u e =
     let first = All-head IsChunk d ds others_are in
-    let lines = chunk_line_unique _ last d.line _ _ (is.is_line, refl) (first.is_line, sym (last_split last trailer end r) ∙ e ∙ chunk_split d ds final others stop q) in
+    let lines = chunk_line_unique _ last d.line _ _ (is.is_line, refl)
+    (first.is_line, sym (last_split last trailer end r) ∙ e ∙ chunk_split d ds final others stop q) in
     absurd (not_last last d.line is first.some lines.0)
 chunked_unique (c ∷ cs) [] last final trailer others end stop r q are others_are is other_is t u e =
     let first = All-head IsChunk c cs are in
-    let lines = chunk_line_unique _ final c.line _ _ (other_is.is_line, refl) (first.is_line, sym (last_split final others stop q) ∙ sym e ∙ chunk_split c cs last trailer end r) in
+    let lines = chunk_line_unique _ final c.line _ _ (other_is.is_line, refl)
+    (first.is_line, sym (last_split final others stop q) ∙ sym e ∙ chunk_split c cs last trailer end r) in
     absurd (not_last final c.line other_is first.some lines.0)
 chunked_unique (c ∷ cs) (d ∷ ds) last final trailer others end stop r q are others_are is other_is t u e =
     let first = All-head IsChunk c cs are in
     let second = All-head IsChunk d ds others_are in
-    let lines = chunk_line_unique _ c.line d.line _ _ (first.is_line, refl) (second.is_line, sym (chunk_split c cs last trailer end r) ∙ e ∙ chunk_split d ds final others stop q) in
+    let lines = chunk_line_unique _ c.line d.line _ _ (first.is_line, refl)
+    (second.is_line, sym (chunk_split c cs last trailer end r) ∙ e ∙ chunk_split d ds final others stop q) in
     let bytes = fronts_same c.bytes d.bytes _ _ (first.size ∙ ap chunk_size lines.0 ∙ sym second.size) lines.1 in
     let rest = chunked_unique cs ds last final trailer others end stop r q (All-tail IsChunk c cs are) (All-tail IsChunk d ds others_are) is other_is t u
     (same_rest crlf_bytes _ _ bytes.1) in
@@ -92,7 +101,8 @@ chunked_unique (c ∷ cs) (d ∷ ds) last final trailer others end stop r q are 
 
 pub chunked_same : (a b : ChunkedText) (r q : List ℕ) → IsChunked a → IsChunked b → print_chunked a ++ r ≡ print_chunked b ++ q → (a ≡ b) × (r ≡ q)
 chunked_same a b r q is are e =
-    let same = chunked_unique a.chunks b.chunks a.last b.last a.trailer b.trailer a.end b.end r q is.are_chunks are.are_chunks is.is_last are.is_last is.is_trailer are.is_trailer e in
+    let same = chunked_unique a.chunks b.chunks a.last b.last a.trailer b.trailer a.end b.end r q is.are_chunks are.are_chunks is.is_last are.is_last
+    is.is_trailer are.is_trailer e in
     (λ i. record { chunks = same.chunks i; last = same.lines i; trailer = same.trailers i; end = same.ends i }, same.rests)
 
 -- ---- no chunked body in front
@@ -127,7 +137,8 @@ no_chunked_line room bytes none_there = no_chunked room bytes
 
 -- where a line of size 0 stands in front there are no chunks, and the trailer follows
 no_chunked_after_last : (room : ℕ) (line : ChunkLine) (rest : List ℕ) → IsLast line
-    → ((trailer : List Field) (end : LineEnd) (after : List ℕ) → IsTrailer trailer end → length (print_chunk_line line) + length (print_section trailer end) ≤ room
+    → ((trailer : List Field) (end : LineEnd) (after : List ℕ) → IsTrailer trailer end →
+    length (print_chunk_line line) + length (print_section trailer end) ≤ room
     → ¬ (rest ≡ print_section trailer end ++ after))
     → HasNoChunked room (print_chunk_line line ++ rest)
 no_chunked_after_last room line rest is_last none_there = no_chunked room _
@@ -161,7 +172,8 @@ no_chunked_after_line room line rest is_line some none_there = no_chunked room _
     let lines = chunk_line_unique _ c.line line _ rest (is.is_line, e) (is_line, refl) in
     none_there c b after is lines.0 are fits (sym lines.1))
 
-pub no_chunked_size : (room : ℕ) (line : ChunkLine) (rest : List ℕ) → IsChunkLine line → 0 < chunk_size line → room < length (print_chunk_line line) + chunk_size line + 2
+pub no_chunked_size : (room : ℕ) (line : ChunkLine) (rest : List ℕ) → IsChunkLine line → 0 < chunk_size line →
+    room < length (print_chunk_line line) + chunk_size line + 2
     → HasNoChunked room (print_chunk_line line ++ rest)
 no_chunked_size room line rest is_line some many = no_chunked_after_line room line rest is_line some
     λ c b after is same are fits e.
@@ -181,7 +193,8 @@ no_chunked_behind room left chunk rest is_chunk left_is none_there =
     (no_chunked_after_line room chunk.line (chunk.bytes ++ (crlf_bytes ++ rest)) is_chunk.is_line is_chunk.some
     λ c b after is same are fits e.
     let bytes = fronts_same chunk.bytes c.bytes _ _ (is_chunk.size ∙ sym (is.size ∙ ap chunk_size same)) e in
-    let size : length (print_chunk c) ≡ length (print_chunk chunk) = omega (arith, chunk_length c, chunk_length chunk, is.size, is_chunk.size, ap chunk_size same, ap (λ (l : ChunkLine). length (print_chunk_line l)) same) in
+    let size : length (print_chunk c) ≡ length (print_chunk chunk) = omega
+    (arith, chunk_length c, chunk_length chunk, is.size, is_chunk.size, ap chunk_size same, ap (λ (l : ChunkLine). length (print_chunk_line l)) same) in
     none_there.none b after are (smaller c b size fits) (same_rest crlf_bytes _ _ bytes.1))
   where
     split : (c : Chunk) (after : List ℕ) → print_chunk c ++ after ≡ print_chunk_line c.line ++ (c.bytes ++ (crlf_bytes ++ after))
@@ -194,7 +207,8 @@ no_chunked_behind room left chunk rest is_chunk left_is none_there =
         → length (print_chunked b) ≤ left
     smaller c b size fits = omega (arith, size, fits, left_is)
 
-no_chunked_behind_all : (cs : List Chunk) (room left : ℕ) (rest : List ℕ) → All IsChunk cs → length (flat_map print_chunk cs) + left ≡ room → HasNoChunked left rest
+no_chunked_behind_all : (cs : List Chunk) (room left : ℕ) (rest : List ℕ) → All IsChunk cs → length (flat_map print_chunk cs) + left ≡ room →
+    HasNoChunked left rest
     → HasNoChunked room (flat_map print_chunk cs ++ rest)
 no_chunked_behind_all [] room left rest are left_is none_there = subst (λ (n : ℕ). HasNoChunked n rest) (add-zero_left left left_is) none_there
   where
@@ -209,7 +223,8 @@ no_chunked_behind_all (c ∷ cs) room left rest are left_is none_there =
 
 -- ---- chunks that were taken
 
-pub chunk_taken : (a b c : Option (List ℕ)) (body now : Body) (size_line : SizeLine) → TakesLine a b size_line → 0 < size_line.size → TakesData b c body now size_line.size
+pub chunk_taken : (a b c : Option (List ℕ)) (body now : Body) (size_line : SizeLine) → TakesLine a b size_line → 0 < size_line.size →
+    TakesData b c body now size_line.size
     → TakesChunk a c body now (size_line.len + size_line.size + 2)
 chunk_taken a b c body now size_line takes some data_takes =
     let chunk : Chunk = record { line = takes.line; bytes = data_takes.bytes } in
@@ -222,7 +237,13 @@ chunk_taken a b c body now size_line takes some data_takes =
     }
 
 pub no_chunks_yet : (a : Option (List ℕ)) (body : Body) (room : ℕ) → IsWithinLimit body → TakesChunks a a body body room room
-no_chunks_yet a body room within = record { chunks = []; are_chunks = All-nil _; room_is = omega arith; taken = Consumes-nil a; kept = sym (extended_none body within) }
+no_chunks_yet a body room within = record {
+  chunks = [];
+  are_chunks = All-nil _;
+  room_is = omega arith;
+  taken = Consumes-nil a;
+  kept = sym (extended_none body within);
+}
 
 flat_map-append : {A : Type 0} (f : A → List ℕ) (xs ys : List A) → flat_map f (xs ++ ys) ≡ flat_map f xs ++ flat_map f ys
 flat_map-append f [] ys = refl
@@ -231,7 +252,8 @@ flat_map-append f (x ∷ xs) ys = ap (λ (l : List ℕ). f x ++ l) (flat_map-app
 flat_map_one : {A : Type 0} (f : A → List ℕ) (xs : List A) (y : A) → flat_map f (xs ++ y ∷ []) ≡ flat_map f xs ++ f y
 flat_map_one f xs y = flat_map-append f xs (y ∷ []) ∙ ap (λ (l : List ℕ). flat_map f xs ++ l) (append-nil (f y))
 
-pub chunks_more : (a b c : Option (List ℕ)) (body mid now : Body) (room left less len : ℕ) → TakesChunks a b body mid room left → TakesChunk b c mid now len → len + less ≡ left
+pub chunks_more : (a b c : Option (List ℕ)) (body mid now : Body) (room left less len : ℕ) → TakesChunks a b body mid room left → TakesChunk b c mid now len →
+    len + less ≡ left
     → TakesChunks a c body now room less
 chunks_more a b c body mid now room left less len before takes less_is = record {
   chunks = before.chunks ++ takes.chunk ∷ [];
@@ -248,17 +270,27 @@ chunks_more a b c body mid now room left less len before takes less_is = record 
 pub chunks_within : (a b : Option (List ℕ)) (body now : Body) (room left : ℕ) → TakesChunks a b body now room left → IsWithinLimit now
 chunks_within a b body now room left takes = subst IsWithinLimit (sym takes.kept) (extended_within body _)
 
-pub chunked_taken : (a b c d : Option (List ℕ)) (body mid now : Body) (room left len : ℕ) → TakesChunks a b body mid room left → TakesLast b c len → now ≡ mid → len ≤ left
+pub chunked_taken : (a b c d : Option (List ℕ)) (body mid now : Body) (room left len : ℕ) → TakesChunks a b body mid room left → TakesLast b c len → now ≡ mid →
+    len ≤ left
     → TakesTrailer c d (left - len) → TakesChunked a d body now room
 chunked_taken a b c d body mid now room left len before last same within trailer = record {
   text = record { chunks = before.chunks; last = last.line; trailer = trailer.fields; end = trailer.end };
   is_chunked = record { are_chunks = before.are_chunks; is_last = last.is_last; is_trailer = trailer.is_trailer };
-  fits = omega (arith, before.room_is, last.len_is, trailer.fits, within, length-append (flat_map print_chunk before.chunks) (print_chunk_line last.line ++ print_section trailer.fields trailer.end), length-append (print_chunk_line last.line) (print_section trailer.fields trailer.end));
+  fits = omega (
+    arith,
+    before.room_is,
+    last.len_is,
+    trailer.fits,
+    within,
+    length-append (flat_map print_chunk before.chunks) (print_chunk_line last.line ++ print_section trailer.fields trailer.end),
+    length-append (print_chunk_line last.line) (print_section trailer.fields trailer.end),
+  );
   taken = Consumes-trans a b d _ _ before.taken (Consumes-trans b c d _ _ last.taken trailer.taken);
   kept = same ∙ before.kept;
 }
 
-pub chunks_refused : (a b : Option (List ℕ)) (body now : Body) (room left : ℕ) → TakesChunks a b body now room left → IfSome b (HasNoChunked left) → IfSome a (HasNoChunked room)
+pub chunks_refused : (a b : Option (List ℕ)) (body now : Body) (room left : ℕ) → TakesChunks a b body now room left → IfSome b (HasNoChunked left) →
+    IfSome a (HasNoChunked room)
 chunks_refused a b body now room left takes none_there =
     if_behind a b _ (HasNoChunked room) (HasNoChunked left) takes.taken
     (λ rest holds. no_chunked_behind_all takes.chunks room left rest takes.are_chunks takes.room_is holds) none_there
@@ -272,7 +304,8 @@ trailer_refused a b c body now room left len takes last within none_there =
 
 -- ---- why a step refuses
 
-pub step_last_long : (a b : Option (List ℕ)) (size_line : SizeLine) (room : ℕ) → TakesLine a b size_line → size_line.size ≡ 0 → room < size_line.len → IfSome a (HasNoChunked room)
+pub step_last_long : (a b : Option (List ℕ)) (size_line : SizeLine) (room : ℕ) → TakesLine a b size_line → size_line.size ≡ 0 → room < size_line.len →
+    IfSome a (HasNoChunked room)
 step_last_long a b size_line room takes none many =
     if_taken a b _ (HasNoChunked room) takes.taken λ rest.
     no_chunked_last room size_line.len takes.line rest (record { is_line = takes.is_line; none = takes.size_is ∙ none }) takes.len_is many
@@ -281,17 +314,20 @@ pub step_last : (a b : Option (List ℕ)) (size_line : SizeLine) → TakesLine a
 step_last a b size_line takes none =
     record { line = takes.line; is_last = record { is_line = takes.is_line; none = takes.size_is ∙ none }; len_is = takes.len_is; taken = takes.taken }
 
-pub step_too_long : (a b : Option (List ℕ)) (size_line : SizeLine) (room : ℕ) → TakesLine a b size_line → 0 < size_line.size → room < size_line.len + size_line.size + 2
+pub step_too_long : (a b : Option (List ℕ)) (size_line : SizeLine) (room : ℕ) → TakesLine a b size_line → 0 < size_line.size →
+    room < size_line.len + size_line.size + 2
     → IfSome a (HasNoChunked room)
 step_too_long a b size_line room takes some many =
     if_taken a b _ (HasNoChunked room) takes.taken λ rest.
     no_chunked_size room takes.line rest takes.is_line (omega (arith, takes.size_is, some)) (omega (arith, takes.size_is, takes.len_is, many))
 
-pub step_no_data : (a b : Option (List ℕ)) (size_line : SizeLine) (room : ℕ) → TakesLine a b size_line → 0 < size_line.size → IfSome b (HasNoData size_line.size)
+pub step_no_data : (a b : Option (List ℕ)) (size_line : SizeLine) (room : ℕ) → TakesLine a b size_line → 0 < size_line.size →
+    IfSome b (HasNoData size_line.size)
     → IfSome a (HasNoChunked room)
 step_no_data a b size_line room takes some none_there =
     if_behind a b _ (HasNoChunked room) (HasNoData size_line.size) takes.taken
-    (λ rest holds. no_chunked_data room takes.line rest takes.is_line (omega (arith, takes.size_is, some)) (subst (λ (n : ℕ). HasNoData n rest) (sym takes.size_is) holds))
+    (λ rest holds. no_chunked_data room takes.line rest takes.is_line (omega (arith, takes.size_is, some))
+    (subst (λ (n : ℕ). HasNoData n rest) (sym takes.size_is) holds))
     none_there
 
 -- ---- a read failed in a chunked body
@@ -299,11 +335,13 @@ step_no_data a b size_line room takes some none_there =
 pub chunk_cut_line : (a left : Option (List ℕ)) (room : ℕ) → IfSeen a left (HasNoLineWithin room) → IfSeen a left (HasNoChunked room)
 chunk_cut_line a left room = seen_map a left (HasNoLineWithin room) (HasNoChunked room) (no_chunked_line room)
 
-pub chunk_cut_data : (a b left : Option (List ℕ)) (size_line : SizeLine) (room : ℕ) → TakesLine a b size_line → 0 < size_line.size → IfSeen b left (HasNoData size_line.size)
+pub chunk_cut_data : (a b left : Option (List ℕ)) (size_line : SizeLine) (room : ℕ) → TakesLine a b size_line → 0 < size_line.size →
+    IfSeen b left (HasNoData size_line.size)
     → IfSeen a left (HasNoChunked room)
 chunk_cut_data a b left size_line room takes some cut =
     seen_behind a b left _ (HasNoChunked room) (HasNoData size_line.size) takes.taken
-    (λ rest holds. no_chunked_data room takes.line rest takes.is_line (omega (arith, takes.size_is, some)) (subst (λ (n : ℕ). HasNoData n rest) (sym takes.size_is) holds))
+    (λ rest holds. no_chunked_data room takes.line rest takes.is_line (omega (arith, takes.size_is, some))
+    (subst (λ (n : ℕ). HasNoData n rest) (sym takes.size_is) holds))
     cut
 
 pub chunks_cut : (a b now : Option (List ℕ)) (body body_now : Body) (room left : ℕ) → TakesChunks a b body body_now room left → IfSeen b now (HasNoChunked left)
@@ -312,7 +350,8 @@ chunks_cut a b now body body_now room left takes cut =
     seen_behind a b now _ (HasNoChunked room) (HasNoChunked left) takes.taken
     (λ rest holds. no_chunked_behind_all takes.chunks room left rest takes.are_chunks takes.room_is holds) cut
 
-pub trailer_cut : (a b c now : Option (List ℕ)) (body body_now : Body) (room left len : ℕ) → TakesChunks a b body body_now room left → TakesLast b c len → len ≤ left
+pub trailer_cut : (a b c now : Option (List ℕ)) (body body_now : Body) (room left len : ℕ) → TakesChunks a b body body_now room left → TakesLast b c len →
+    len ≤ left
     → IfSeen c now (HasNoTrailerWithin (left - len)) → IfSeen a now (HasNoChunked room)
 trailer_cut a b c now body body_now room left len takes last within cut =
     chunks_cut a b now body body_now room left takes

@@ -1,5 +1,6 @@
 -- What reading and passing over do to the input.
-use Rattle.std.proofs.Common.{◌≡◌, ℕ, ◌+◌, ◌<◌, ◌≤◌, Bool, true, List, [], ◌∷◌, ◌++◌, length, take, drop, Option, None, Some, IfSome, refl, sym, ap, ◌∙◌, subst, arith, append_assoc, length-append, length-take, length-drop, get_or-take, take-append-drop, append-nil}
+use Rattle.std.proofs.Common.{◌≡◌, ℕ, ◌+◌, ◌<◌, ◌≤◌, Bool, true, List, [], ◌∷◌, ◌++◌, length, take, drop, Option, None, Some, IfSome, refl, sym, ap, ◌∙◌, subst}
+use Rattle.std.proofs.Common.{arith, append_assoc, length-append, length-take, length-drop, get_or-take, take-append-drop, append-nil}
 use Rattle.std.specs.Prelude.{IsTrue}
 use Rattle.std.specs.Io.KnownBytes.{Consumes, Keeps, IsAtEnd, prepend_known}
 use Rattle.std.proofs.KnownBytes.{Consumes-trans, Consumes-nil, Consumes-kept, Consumes-whole}
@@ -172,7 +173,8 @@ run_kept test a b c count before kept = record {
 pub run_few : (test : ℕ → Bool) (limit : ℕ) (a b : Option (List ℕ)) (count : ℕ) → TakesRun test a b count → count ≤ limit → TakesFew test limit a b
 run_few test limit a b count all few = record { count = count; few = few; takes = all }
 
-pub run_is_all : (test : ℕ → Bool) (limit : ℕ) (a b : Option (List ℕ)) (count : ℕ) → TakesRun test a b count → count ≤ limit → IsAtEnd b → IfSome a (IsAllRun test limit)
+pub run_is_all : (test : ℕ → Bool) (limit : ℕ) (a b : Option (List ℕ)) (count : ℕ) → TakesRun test a b count → count ≤ limit → IsAtEnd b →
+    IfSome a (IsAllRun test limit)
 run_is_all test limit a b count all few end =
     Consumes-whole a b all.run (IsAllRun test limit) all.taken end (record { passes = all.passes; few = omega (arith, all.size) })
 
@@ -198,7 +200,8 @@ pub run_within : (test : ℕ → Bool) (held : List ℕ) (run : ℕ) → run ≡
 run_within test held run is = omega (arith, prefix_len-le-length test held)
 
 -- the run in front of what is held was taken off it
-pub run_step : (test : ℕ → Bool) (a : Option (List ℕ)) (held after : List ℕ) (left : Option (List ℕ)) (count run : ℕ) → TakesRun test a (prepend_known held left) count
+pub run_step : (test : ℕ → Bool) (a : Option (List ℕ)) (held after : List ℕ) (left : Option (List ℕ)) (count run : ℕ) →
+    TakesRun test a (prepend_known held left) count
     → run ≡ prefix_len test held → after ≡ drop run held → TakesRun test a (prepend_known after left) (count + run)
 run_step test a held after left count run before is dropped =
     let passes = subst (λ (n : ℕ). AllPass test (take n held)) (sym is) (run_passes test held) in
@@ -207,12 +210,14 @@ run_step test a held after left count run before is dropped =
     subst (λ (n : ℕ). TakesRun test a (prepend_known after left) (count + n)) size (run_more test a _ _ count (take run held) before passes taken)
 
 -- what then stands in front ends it
-pub run_step_stops : (test : ℕ → Bool) (held after : List ℕ) (run : ℕ) → run ≡ prefix_len test held → after ≡ drop run held → 0 < length after → Stops test after
+pub run_step_stops : (test : ℕ → Bool) (held after : List ℕ) (run : ℕ) → run ≡ prefix_len test held → after ≡ drop run held → 0 < length after →
+    Stops test after
 run_step_stops test held after run is dropped some =
     run_stops test held after (dropped ∙ ap (λ (n : ℕ). drop n held) is) some
 
 -- a run of bytes that pass is no longer than what stands before the first that doesn't
-pub longer_run : (test : ℕ → Bool) (run front after rest : List ℕ) → AllPass test run → Stops test after → run ++ rest ≡ front ++ after → length front < length run → ⊥
+pub longer_run : (test : ℕ → Bool) (run front after rest : List ℕ) → AllPass test run → Stops test after → run ++ rest ≡ front ++ after →
+    length front < length run → ⊥
 longer_run test [] front after rest all stops e longer = omega arith
 longer_run test (x ∷ run) [] [] rest all stops e longer = stops
 longer_run test (x ∷ run) [] (y ∷ after) rest all stops e longer = let passes = All-head (λ v. test v ≡ true) x run all in cc

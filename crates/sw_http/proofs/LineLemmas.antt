@@ -1,5 +1,6 @@
 -- The line before a chunk, piece by piece.
-use Rattle.std.proofs.Common.{◌≡◌, ℕ, ◌+◌, ◌<◌, ◌≤◌, eq-eqb, true≢false, List, [], ◌∷◌, ◌++◌, length, take, drop, Option, None, Some, IfSome, refl, sym, ap, ◌∙◌, subst, arith, append_assoc, length-append, length-take-le, length-drop, take-append-drop, append-nil}
+use Rattle.std.proofs.Common.{◌≡◌, ℕ, ◌+◌, ◌<◌, ◌≤◌, eq-eqb, true≢false, List, [], ◌∷◌, ◌++◌, length, take, drop, Option, None, Some, IfSome, refl, sym, ap}
+use Rattle.std.proofs.Common.{◌∙◌, subst, arith, append_assoc, length-append, length-take-le, length-drop, take-append-drop, append-nil}
 use Rattle.std.specs.Char.{is_ascii_hexdigit}
 use Rattle.std.specs.Io.KnownBytes.{Consumes, Keeps, prepend_known}
 use Rattle.std.specs.List.{prefix_len}
@@ -8,17 +9,20 @@ use Rattle.std.proofs.KnownBytes.{Consumes-trans, Consumes-nil}
 use Rattle.std.proofs.lemmas.Bool.{ne_eqb}
 use Rattle.std.proofs.lemmas.List.Elements.{All-nil}
 use Rattle.httparse.specs.Ascii.{crlf_bytes}
-use Rattle.httparse.specs.Grammar.{AllPass, ChunkLine, IsChunkLine, chunk_size, ReadsChunkLine, HasNoChunkLine, NeverHasChunkLine, print_chunk_line, print_extension, IsExtension, is_ows, is_extension_byte}
+use Rattle.httparse.specs.Grammar.{AllPass, ChunkLine, IsChunkLine, chunk_size, ReadsChunkLine, HasNoChunkLine, NeverHasChunkLine, print_chunk_line}
+use Rattle.httparse.specs.Grammar.{print_extension, IsExtension, is_ows, is_extension_byte}
 use Rattle.httparse.specs.Pieces.{Stops}
 use Rattle.httparse.specs.Spans.{IsChunkLineAt}
 use Rattle.httparse.proofs.ChunkLemmas.{chunk_pieces, chunk_line_unique}
 use Rattle.httparse.proofs.RunLemmas.{run_unique, run_unstopped, Stops-append}
-use Rattle.sw_http.specs.ChunkSteps.{HasNoLine, HasDigits, is_semicolon, EndsExtension, TakesExtension, HasNoExtension, IsExtensionCut, print_tail, TakesTail, HasNoTail, TakesLine, HasNoLineWithin}
+use Rattle.sw_http.specs.ChunkSteps.{HasNoLine, HasDigits, is_semicolon, EndsExtension, TakesExtension, HasNoExtension, IsExtensionCut, print_tail, TakesTail}
+use Rattle.sw_http.specs.ChunkSteps.{HasNoTail, TakesLine, HasNoLineWithin}
 use Rattle.sw_http.specs.Input.{IfSeen, IsShort, TakesRun, HasNoRun, HasNoLineEnd}
 use Rattle.sw_http.specs.declared.chunk_line.SizeLine.{SizeLine}
 use Rattle.sw_http.proofs.ListLemmas.{same_rest}
 use Rattle.sw_message.proofs.ListLemmas.{take_every}
-use Rattle.sw_http.proofs.InputLemmas.{if_behind, if_kept, if_some_map, longer_run, no_end_short, none_within, run_passes, run_stops, run_within, seen_begins, seen_behind, seen_kept, seen_map, stops_front, stops_some}
+use Rattle.sw_http.proofs.InputLemmas.{if_behind, if_kept, if_some_map, longer_run, no_end_short, none_within, run_passes, run_stops, run_within, seen_begins}
+use Rattle.sw_http.proofs.InputLemmas.{seen_behind, seen_kept, seen_map, stops_front, stops_some}
 
 -- ---- the digits
 
@@ -61,7 +65,8 @@ no_line_ended bytes n is all = record {
   none = λ l rest valid e.
       let whole : n ≡ length bytes = omega (arith, run_within is_ascii_hexdigit bytes n is) in
       let passes = subst (λ (k : ℕ). AllPass is_ascii_hexdigit (take k bytes)) (sym is ∙ whole) (run_passes is_ascii_hexdigit bytes) in
-      run_unstopped is_ascii_hexdigit l.digits _ (subst (AllPass is_ascii_hexdigit) (take_every bytes ∙ e ∙ line_split l rest) passes) (digits_end l rest valid);
+      run_unstopped is_ascii_hexdigit l.digits _ (subst (AllPass is_ascii_hexdigit) (take_every bytes ∙ e ∙ line_split l rest) passes)
+      (digits_end l rest valid);
 }
 
 pub has_digits : (bytes : List ℕ) (n : ℕ) → n ≡ prefix_len is_ascii_hexdigit bytes → n ≤ 16 → 0 < n → n < length bytes → HasDigits bytes n
@@ -82,7 +87,10 @@ plain digits = record { digits = digits; pad = []; extension = None }
 plain_reads : (buf digits : List ℕ) → 0 < length digits → length digits ≤ 16 → AllPass is_ascii_hexdigit digits → buf ≡ digits ++ crlf_bytes
     → ReadsChunkLine buf (plain digits) []
 unfolding plain
-plain_reads buf digits some few are e = (record { digits = (some, few, are); pad = All-nil _; extension = tt }, e ∙ sym (line_text (plain digits)) ∙ sym (append-nil _))
+plain_reads buf digits some few are e = (
+  record { digits = (some, few, are); pad = All-nil _; extension = tt },
+  e ∙ sym (line_text (plain digits)) ∙ sym (append-nil _),
+)
 
 -- so the parser reads it
 pub plain_size : (buf digits : List ℕ) (len size : ℕ) (l : ChunkLine) → 0 < length digits → length digits ≤ 16 → AllPass is_ascii_hexdigit digits
@@ -115,7 +123,8 @@ no_semicolon (b ∷ held) some other = ne_eqb b 59 λ e. other held (ap (λ (x :
 pub extension_absent : (a : Option (List ℕ)) (held : List ℕ) → Stops is_semicolon held → TakesExtension a a held 0
 extension_absent a held stops = record { extension = None; is_extension = tt; len_is = refl; taken = Consumes-nil a; ends = stops }
 
-pub extension_present : (a b c : Option (List ℕ)) (held : List ℕ) (count : ℕ) → Consumes a b (59 ∷ []) → TakesRun is_extension_byte b c count → Stops is_extension_byte held
+pub extension_present : (a b c : Option (List ℕ)) (held : List ℕ) (count : ℕ) → Consumes a b (59 ∷ []) → TakesRun is_extension_byte b c count →
+    Stops is_extension_byte held
     → TakesExtension a c held (count + 1)
 extension_present a b c held count semicolon run stops = record {
   extension = Some run.run;
@@ -129,7 +138,8 @@ extension_present a b c held count semicolon run stops = record {
 pub no_extension : (room : ℕ) (rest : List ℕ) → HasNoRun is_extension_byte room rest → HasNoExtension room (59 ∷ rest)
 no_extension room rest none_there = record { none = go }
   where
-    go : (e : Option (List ℕ)) (after : List ℕ) → IsExtension e × (length (print_extension e) ≤ room) → ¬ (59 ∷ rest ≡ (print_extension e ++ crlf_bytes) ++ after)
+    go : (e : Option (List ℕ)) (after : List ℕ) → IsExtension e × (length (print_extension e) ≤ room) →
+        ¬ (59 ∷ rest ≡ (print_extension e ++ crlf_bytes) ++ after)
     go None after is e = let same : ◌≡◌ {A = ℕ} 59 13 = cc in omega (arith, same)
     go (Some text) after is e =
         let same : rest ≡ (text ++ crlf_bytes) ++ after = cc in
@@ -181,7 +191,8 @@ no_tail_extension room pad bytes blanks stops none_there = record {
 }
 
 -- these are the blanks and the extension, and no line end follows
-pub no_tail_end : (room : ℕ) (pad : List ℕ) (e : Option (List ℕ)) (bytes : List ℕ) → AllPass is_ows pad → Stops is_ows (print_extension e ++ bytes) → IsExtension e
+pub no_tail_end : (room : ℕ) (pad : List ℕ) (e : Option (List ℕ)) (bytes : List ℕ) → AllPass is_ows pad → Stops is_ows (print_extension e ++ bytes) →
+    IsExtension e
     → EndsExtension e bytes → HasNoLineEnd bytes → HasNoTail room (pad ++ (print_extension e ++ bytes))
 no_tail_end room pad e bytes blanks stops valid ends none_there = record {
   none = λ tail rest is fits same.
@@ -195,14 +206,17 @@ no_tail_end room pad e bytes blanks stops valid ends none_there = record {
 line_length : (l : ChunkLine) → length (print_chunk_line l) ≡ length l.digits + length (print_tail l.pad l.extension)
 line_length l = ap length (line_text l) ∙ length-append l.digits (print_tail l.pad l.extension)
 
-pub no_line_tail : (room n : ℕ) (bytes rest : List ℕ) → HasDigits bytes n → HasNoTail room rest → Stops is_ascii_hexdigit rest → HasNoLineWithin room (take n bytes ++ rest)
+pub no_line_tail : (room n : ℕ) (bytes rest : List ℕ) → HasDigits bytes n → HasNoTail room rest → Stops is_ascii_hexdigit rest →
+    HasNoLineWithin room (take n bytes ++ rest)
 no_line_tail room n bytes rest digits none_there stops = record {
   none = λ l after valid fits same.
-      let cut = run_unique is_ascii_hexdigit (take n bytes) l.digits rest _ digits.digits valid.digits.2 stops (digits_end l after valid) (same ∙ line_split l after) in
+      let cut = run_unique is_ascii_hexdigit (take n bytes) l.digits rest _ digits.digits valid.digits.2 stops (digits_end l after valid)
+      (same ∙ line_split l after) in
       none_there.none (l.pad, l.extension) after (valid.pad, valid.extension) (omega (arith, fits, line_length l)) cut.1;
 }
 
-pub line_taken : (a b c : Option (List ℕ)) (bytes : List ℕ) (n len : ℕ) (size_line : SizeLine) → HasDigits bytes n → Consumes a b (take n bytes) → TakesTail b c len
+pub line_taken : (a b c : Option (List ℕ)) (bytes : List ℕ) (n len : ℕ) (size_line : SizeLine) → HasDigits bytes n → Consumes a b (take n bytes) →
+    TakesTail b c len
     → size_line.size ≡ digits_value 16 (take n bytes) → size_line.len ≡ n + len → TakesLine a c size_line
 line_taken a b c bytes n len size_line digits front tail size_is len_is =
     let size : length (take n bytes) ≡ n = length-take-le n bytes digits.within in
@@ -224,7 +238,8 @@ line_taken a b c bytes n len size_line digits front tail size_is len_is =
 pub line_none : (a : Option (List ℕ)) (room : ℕ) → IfSome a HasNoLine → IfSome a (HasNoLineWithin room)
 line_none a room = if_some_map a HasNoLine (HasNoLineWithin room) (none_within _ _ room)
 
-pub line_no_tail : (a : Option (List ℕ)) (held after : List ℕ) (left : Option (List ℕ)) (n room : ℕ) → Keeps a (prepend_known held left) → HasDigits held n → after ≡ drop n held
+pub line_no_tail : (a : Option (List ℕ)) (held after : List ℕ) (left : Option (List ℕ)) (n room : ℕ) → Keeps a (prepend_known held left) → HasDigits held n →
+    after ≡ drop n held
     → IfSome (prepend_known after left) (HasNoTail room) → IfSome a (HasNoLineWithin room)
 line_no_tail a held after left n room kept digits after_is none_there = if_kept a _ (HasNoLineWithin room) kept (go left none_there)
   where
@@ -234,7 +249,8 @@ line_no_tail a held after left n room kept digits after_is none_there = if_kept 
     go : (x : Option (List ℕ)) → IfSome (prepend_known after x) (HasNoTail room) → IfSome (prepend_known held x) (HasNoLineWithin room)
     go None holds = tt
     go (Some xs) holds =
-        subst (HasNoLineWithin room) (sym (append_assoc (take n held) after xs) ∙ ap (λ (l : List ℕ). l ++ xs) (ap (λ (l : List ℕ). take n held ++ l) after_is ∙ take-append-drop n held))
+        subst (HasNoLineWithin room) (sym (append_assoc (take n held) after xs) ∙ ap (λ (l : List ℕ). l ++ xs)
+        (ap (λ (l : List ℕ). take n held ++ l) after_is ∙ take-append-drop n held))
         (no_line_tail room n held (after ++ xs) digits holds (stops xs))
 
 pub extension_none : (a b : Option (List ℕ)) (room : ℕ) → Consumes a b (59 ∷ []) → IfSome b (HasNoRun is_extension_byte room) → IfSome a (HasNoExtension room)
@@ -244,7 +260,8 @@ extension_none a b room semicolon none_there =
 pub tail_no_blanks : (a : Option (List ℕ)) (room : ℕ) → IfSome a (HasNoRun is_ows room) → IfSome a (HasNoTail room)
 tail_no_blanks a room = if_some_map a (HasNoRun is_ows room) (HasNoTail room) (no_tail_blanks room)
 
-pub tail_no_extension : (a : Option (List ℕ)) (held : List ℕ) (left : Option (List ℕ)) (count room : ℕ) → TakesRun is_ows a (prepend_known held left) count → Stops is_ows held
+pub tail_no_extension : (a : Option (List ℕ)) (held : List ℕ) (left : Option (List ℕ)) (count room : ℕ) → TakesRun is_ows a (prepend_known held left) count →
+    Stops is_ows held
     → IfSome (prepend_known held left) (HasNoExtension room) → IfSome a (HasNoTail room)
 tail_no_extension a held left count room run stops none_there = go a left run.taken none_there
   where
@@ -254,18 +271,21 @@ tail_no_extension a held left count room run stops none_there = go a left run.ta
     go (Some xs) (Some ys) taken holds =
         subst (HasNoTail room) (sym taken) (no_tail_extension room run.run (held ++ ys) run.passes (Stops-append is_ows held ys stops) holds)
 
-pub tail_no_end : (a : Option (List ℕ)) (held mid : List ℕ) (left now : Option (List ℕ)) (count len room : ℕ) → TakesRun is_ows a (prepend_known held left) count → Stops is_ows held
+pub tail_no_end : (a : Option (List ℕ)) (held mid : List ℕ) (left now : Option (List ℕ)) (count len room : ℕ) →
+    TakesRun is_ows a (prepend_known held left) count → Stops is_ows held
     → TakesExtension (prepend_known held left) (prepend_known mid now) mid len → IfSome (prepend_known mid now) HasNoLineEnd → IfSome a (HasNoTail room)
 tail_no_end a held mid left now count len room run stops extension none_there = go a left now run.taken extension.taken none_there
   where
-    go : (x y z : Option (List ℕ)) → Consumes x (prepend_known held y) run.run → Consumes (prepend_known held y) (prepend_known mid z) (print_extension extension.extension)
+    go : (x y z : Option (List ℕ)) → Consumes x (prepend_known held y) run.run →
+        Consumes (prepend_known held y) (prepend_known mid z) (print_extension extension.extension)
         → IfSome (prepend_known mid z) HasNoLineEnd → IfSome x (HasNoTail room)
     go None y z taken text holds = tt
     go (Some xs) None z taken text holds = absurd taken
     go (Some xs) (Some ys) None taken text holds = absurd text
     go (Some xs) (Some ys) (Some zs) taken text holds =
         subst (HasNoTail room) (sym (taken ∙ ap (λ (l : List ℕ). run.run ++ l) text))
-        (no_tail_end room run.run extension.extension (mid ++ zs) run.passes (subst (Stops is_ows) text (Stops-append is_ows held ys stops)) extension.is_extension
+        (no_tail_end room run.run extension.extension (mid ++ zs) run.passes (subst (Stops is_ows) text (Stops-append is_ows held ys stops))
+        extension.is_extension
         (ends_append extension.extension mid zs extension.ends) holds)
 
 pub tail_taken : (a b c d : Option (List ℕ)) (held : List ℕ) (count len : ℕ) → TakesRun is_ows a b count → TakesExtension b c held len → Consumes c d crlf_bytes
@@ -275,13 +295,20 @@ tail_taken a b c d held count len run extension end = record {
   extension = extension.extension;
   are_blanks = run.passes;
   is_extension = extension.is_extension;
-  len_is = omega (arith, run.size, extension.len_is, length-append run.run (print_extension extension.extension ++ crlf_bytes), length-append (print_extension extension.extension) crlf_bytes);
+  len_is = omega (
+    arith,
+    run.size,
+    extension.len_is,
+    length-append run.run (print_extension extension.extension ++ crlf_bytes),
+    length-append (print_extension extension.extension) crlf_bytes,
+  );
   taken = Consumes-trans a b d run.run _ run.taken (Consumes-trans b c d _ crlf_bytes extension.taken end);
 }
 
 -- ---- a read failed in a line
 
-pub extension_cut : (a b left : Option (List ℕ)) (room : ℕ) → Consumes a b (59 ∷ []) → IfSeen b left (HasNoRun is_extension_byte room) → IfSeen a left (IsExtensionCut room)
+pub extension_cut : (a b left : Option (List ℕ)) (room : ℕ) → Consumes a b (59 ∷ []) → IfSeen b left (HasNoRun is_extension_byte room) →
+    IfSeen a left (IsExtensionCut room)
 extension_cut a b left room semicolon none_there =
     seen_behind a b left (59 ∷ []) (IsExtensionCut room) (HasNoRun is_extension_byte room) semicolon
     (λ rest holds. record { text = rest; begins = refl; none = no_extension room rest holds }) none_there
@@ -289,32 +316,38 @@ extension_cut a b left room semicolon none_there =
 pub tail_cut_blanks : (a left : Option (List ℕ)) (room : ℕ) → IfSeen a left (HasNoRun is_ows room) → IfSeen a left (HasNoTail room)
 tail_cut_blanks a left room = seen_map a left (HasNoRun is_ows room) (HasNoTail room) (no_tail_blanks room)
 
-pub tail_cut_extension : (a b left : Option (List ℕ)) (count room : ℕ) → TakesRun is_ows a b count → IfSeen b left (IsExtensionCut room) → IfSeen a left (HasNoTail room)
+pub tail_cut_extension : (a b left : Option (List ℕ)) (count room : ℕ) → TakesRun is_ows a b count → IfSeen b left (IsExtensionCut room) →
+    IfSeen a left (HasNoTail room)
 tail_cut_extension a b left count room run none_there =
     seen_behind a b left run.run (HasNoTail room) (IsExtensionCut room) run.taken
     (λ rest cut. no_tail_extension room run.run rest run.passes (subst (Stops is_ows) (sym cut.begins) refl) cut.none) none_there
 
-pub tail_cut_end : (a : Option (List ℕ)) (held mid : List ℕ) (left behind now : Option (List ℕ)) (count len room : ℕ) → TakesRun is_ows a (prepend_known held left) count
-    → Stops is_ows held → TakesExtension (prepend_known held left) (prepend_known mid behind) mid len → IfSeen (prepend_known mid behind) now (IsShort mid) → IfSeen a now (HasNoTail room)
+pub tail_cut_end : (a : Option (List ℕ)) (held mid : List ℕ) (left behind now : Option (List ℕ)) (count len room : ℕ) →
+    TakesRun is_ows a (prepend_known held left) count
+    → Stops is_ows held → TakesExtension (prepend_known held left) (prepend_known mid behind) mid len → IfSeen (prepend_known mid behind) now (IsShort mid) →
+    IfSeen a now (HasNoTail room)
 tail_cut_end a held mid left behind now count len room run stops extension cut = go a left behind now run.taken extension.taken cut
   where
     some_held : (e : Option (List ℕ)) → EndsExtension e mid → 0 < length mid
     some_held None ends = stops_some is_semicolon mid ends
     some_held (Some word) ends = stops_some is_extension_byte mid ends
 
-    no_tail : (xs ys zs s ws : List ℕ) → held ++ ys ≡ print_extension extension.extension ++ (mid ++ zs) → mid ++ zs ≡ s ++ ws → length s < 2 → length mid ≤ length s
+    no_tail : (xs ys zs s ws : List ℕ) → held ++ ys ≡ print_extension extension.extension ++ (mid ++ zs) → mid ++ zs ≡ s ++ ws → length s < 2 →
+        length mid ≤ length s
         → HasNoTail room (run.run ++ (print_extension extension.extension ++ s))
     no_tail xs ys zs s ws taken_text e short as_many =
         let begins = seen_begins mid zs s ws e as_many in
         let whole : held ++ ys ≡ (print_extension extension.extension ++ s) ++ ws =
         taken_text ∙ ap (λ (l : List ℕ). print_extension extension.extension ++ l) e ∙ sym (append_assoc (print_extension extension.extension) s ws) in
         let some = some_held extension.extension extension.ends in
-        let front = stops_front is_ows (print_extension extension.extension ++ s) ws (omega (arith, some, as_many, length-append (print_extension extension.extension) s))
+        let front = stops_front is_ows (print_extension extension.extension ++ s) ws
+        (omega (arith, some, as_many, length-append (print_extension extension.extension) s))
         (subst (Stops is_ows) whole (Stops-append is_ows held ys stops)) in
         no_tail_end room run.run extension.extension s run.passes front extension.is_extension
         (subst (EndsExtension extension.extension) (sym begins.1) (ends_append extension.extension mid begins.0 extension.ends)) (no_end_short s short)
 
-    go : (x y z w : Option (List ℕ)) → Consumes x (prepend_known held y) run.run → Consumes (prepend_known held y) (prepend_known mid z) (print_extension extension.extension)
+    go : (x y z w : Option (List ℕ)) → Consumes x (prepend_known held y) run.run →
+        Consumes (prepend_known held y) (prepend_known mid z) (print_extension extension.extension)
         → IfSeen (prepend_known mid z) w (IsShort mid) → IfSeen x w (HasNoTail room)
     go None y z w taken taken_text holds = tt
     go (Some xs) None z w taken taken_text holds = absurd taken
@@ -323,7 +356,8 @@ tail_cut_end a held mid left behind now count len room run stops extension cut =
     go (Some xs) (Some ys) (Some zs) (Some ws) taken taken_text holds = (
       run.run ++ (print_extension extension.extension ++ holds.0),
       taken ∙ ap (λ (l : List ℕ). run.run ++ l) (taken_text ∙ ap (λ (l : List ℕ). print_extension extension.extension ++ l) holds.1
-          ∙ sym (append_assoc (print_extension extension.extension) holds.0 ws)) ∙ sym (append_assoc run.run (print_extension extension.extension ++ holds.0) ws),
+          ∙ sym (append_assoc (print_extension extension.extension) holds.0 ws)) ∙ sym
+          (append_assoc run.run (print_extension extension.extension ++ holds.0) ws),
       no_tail xs ys zs holds.0 ws taken_text holds.1 holds.2.0 holds.2.1,
     )
 
@@ -333,7 +367,8 @@ line_cut_none a left room = seen_map a left HasNoLine (HasNoLineWithin room) (no
 -- digits alone are no line
 no_line_digits : (room : ℕ) (bytes : List ℕ) → AllPass is_ascii_hexdigit bytes → HasNoLineWithin room bytes
 no_line_digits room bytes all = record {
-  none = λ l rest valid fits e. run_unstopped is_ascii_hexdigit l.digits _ (subst (AllPass is_ascii_hexdigit) (e ∙ line_split l rest) all) (digits_end l rest valid);
+  none = λ l rest valid fits e. run_unstopped is_ascii_hexdigit l.digits _ (subst (AllPass is_ascii_hexdigit) (e ∙ line_split l rest) all)
+      (digits_end l rest valid);
 }
 
 pub line_cut_tail : (a : Option (List ℕ)) (held after : List ℕ) (left now : Option (List ℕ)) (n room : ℕ) → Keeps a (prepend_known held left) → HasDigits held n
@@ -356,6 +391,7 @@ line_cut_tail a held after left now n room kept digits after_is none_there = see
     go (Some xs) None holds = tt
     go (Some xs) (Some ys) holds = (
       take n held ++ holds.0,
-      ap (λ (l : List ℕ). l ++ xs) (sym whole) ∙ append_assoc (take n held) after xs ∙ ap (λ (l : List ℕ). take n held ++ l) holds.1 ∙ sym (append_assoc (take n held) holds.0 ys),
+      ap (λ (l : List ℕ). l ++ xs) (sym whole) ∙ append_assoc (take n held) after xs ∙ ap (λ (l : List ℕ). take n held ++ l) holds.1 ∙ sym
+          (append_assoc (take n held) holds.0 ys),
       no_line xs holds.0 ys holds.1 holds.2,
     )

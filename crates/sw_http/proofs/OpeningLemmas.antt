@@ -1,5 +1,6 @@
 -- The front of a request: what was skipped and the head, and why there is none.
-use Rattle.std.proofs.Common.{◌≡◌, ℕ, ◌-◌, ◌≤◌, List, [], ◌∷◌, ◌++◌, length, take, drop, map, Option, None, Some, IfSome, refl, sym, ap, ◌∙◌, subst, arith, length-append}
+use Rattle.std.proofs.Common.{◌≡◌, ℕ, ◌-◌, ◌≤◌, List, [], ◌∷◌, ◌++◌, length, take, drop, map, Option, None, Some, IfSome, refl, sym, ap, ◌∙◌, subst, arith}
+use Rattle.std.proofs.Common.{length-append}
 use Rattle.std.specs.List.{before_first, after_first}
 use Rattle.std.specs.Io.KnownBytes.{Consumes, Keeps, prepend_known}
 use Rattle.std.proofs.KnownBytes.{Consumes-trans, Consumes-kept}
@@ -111,7 +112,8 @@ headless_behind skipped after newlines stops none_there = record {
   not_skipped = λ are. run_unstopped is_newline skipped after are.newlines stops;
 }
 
-pub headless : (a : Option (List ℕ)) (held : List ℕ) (left : Option (List ℕ)) (count : ℕ) → TakesRun is_newline a (prepend_known held left) count → Stops is_newline held
+pub headless : (a : Option (List ℕ)) (held : List ℕ) (left : Option (List ℕ)) (count : ℕ) → TakesRun is_newline a (prepend_known held left) count →
+    Stops is_newline held
     → IfSome (prepend_known held left) HasNoHead → IfSome a IsHeadless
 headless a held left count run stops none_there = go a left run.taken none_there
   where

@@ -21,7 +21,8 @@ pub text_split : (p : Parts) (rest : List ℕ) → text_of p ++ rest ≡ p.skipp
 text_split p rest = append_assoc p.skipped _ rest ∙ ap (λ (l : List ℕ). p.skipped ++ l) (append_assoc (print_request p.head) (print_body p.body) rest)
 
 -- bodies with one framing
-body_same : (framing : Framing) (a b : BodyText) (r q : List ℕ) → IsBody framing a → IsBody framing b → print_body a ++ r ≡ print_body b ++ q → (a ≡ b) × (r ≡ q)
+body_same : (framing : Framing) (a b : BodyText) (r q : List ℕ) → IsBody framing a → IsBody framing b → print_body a ++ r ≡ print_body b ++ q →
+    (a ≡ b) × (r ≡ q)
 body_same Unframed (Plain a) (Plain b) r q is are e =
     let same = fronts_same a b r q (ap length is ∙ sym (ap length are)) e in (ap Plain same.0, same.1)
 body_same (Length len) (Plain a) (Plain b) r q is are e =
@@ -63,7 +64,8 @@ one_request bytes more first second rest last a b =
 -- where nothing more can be read no request stands in front
 no_more : (p : Parts) (rest last : List ℕ) → AreParts p → last ≡ text_of p ++ rest → IsEnd last → ⊥
 no_more p rest last parts e (inl skipped) =
-    run_unstopped is_newline p.skipped _ (subst (AllPass is_newline) (e ∙ text_split p rest) skipped.newlines) (head_stops p.head (print_body p.body ++ rest) parts.head)
+    run_unstopped is_newline p.skipped _ (subst (AllPass is_newline) (e ∙ text_split p rest) skipped.newlines)
+    (head_stops p.head (print_body p.body ++ rest) parts.head)
 no_more p rest last parts e (inr none) = none.none p rest (record { parts = parts; whole = e })
 
 step : (p : Parts) (ps : List Parts) (rest : List ℕ) → flat_map text_of (p ∷ ps) ++ rest ≡ text_of p ++ (flat_map text_of ps ++ rest)

@@ -1,5 +1,6 @@
 -- From a head and a body that were taken off the input to a request, and why there is none.
-use Rattle.std.proofs.Common.{◌≡◌, ◌⊎◌, ℕ, ◌+◌, ◌≤◌, Bool, true, false, refl, List, ◌++◌, length, Option, None, IfSome, inl, inr, sym, ap, ◌∙◌, subst, arith, length-append, append_assoc}
+use Rattle.std.proofs.Common.{◌≡◌, ◌⊎◌, ℕ, ◌+◌, ◌≤◌, Bool, true, false, refl, List, ◌++◌, length, Option, None, IfSome, inl, inr, sym, ap, ◌∙◌, subst, arith}
+use Rattle.std.proofs.Common.{length-append, append_assoc}
 use Rattle.std.specs.Io.KnownBytes.{Consumes, Appends, Keeps}
 use Rattle.std.proofs.KnownBytes.{Consumes-trans, Consumes-kept, Appends-nil}
 use Rattle.httparse.specs.Grammar.{RequestHead, print_request}
@@ -8,7 +9,8 @@ use Rattle.httparse.proofs.RunLemmas.{run_unstopped}
 use Rattle.sw_outside.specs.Taken.{AppendsPart}
 use Rattle.sw_http.specs.Body.{IsFramedBody, print_body}
 use Rattle.sw_http.specs.ChunkSteps.{TakesBody, HasNoBody}
-use Rattle.sw_http.specs.Continue.{Takes, HasHead, BeginsNone, FindsNoRequest, IsCutShort, IsStopped, IsToldOnce, IsToldPart, asks_continue, continue_text, continue_of, puts_after}
+use Rattle.sw_http.specs.Continue.{Takes, HasHead, BeginsNone, FindsNoRequest, IsCutShort, IsStopped, IsToldOnce, IsToldPart, asks_continue, continue_text}
+use Rattle.sw_http.specs.Continue.{continue_of, puts_after}
 use Rattle.std.specs.Prelude.{codes}
 use Rattle.std.proofs.lemmas.Bool.{cond-true, cond-false}
 use Rattle.httparse.specs.Ascii.{crlf_bytes}
@@ -49,7 +51,8 @@ told_part a b t now open_ room opens written =
 pub part_of_all : (t now : Option (List ℕ)) (text : List ℕ) → Appends t now text → AppendsPart t now text
 part_of_all t now text written = (length text, subst (Appends t now) (sym (take_every text)) written)
 
-pub told_whole : (a b t now : Option (List ℕ)) (open_ : OpenRequest) (room : ℕ) (opens : Opens a b open_ room) → Appends t now (continue_text open_.fields) → IsToldPart a t now
+pub told_whole : (a b t now : Option (List ℕ)) (open_ : OpenRequest) (room : ℕ) (opens : Opens a b open_ room) → Appends t now (continue_text open_.fields) →
+    IsToldPart a t now
 told_whole a b t now open_ room opens written = told_part a b t now open_ room opens (part_of_all t now (continue_text open_.fields) written)
 
 pub continue_asked : (fields : List Field) → asks_continue fields ≡ true → continue_text fields ≡ codes "HTTP/1.1 100 Continue" ++ (crlf_bytes ++ crlf_bytes)
@@ -58,7 +61,8 @@ continue_asked fields asks = cond-true _ _ _ asks
 
 -- ---- the request
 
-size_of_text : (skipped head body : List ℕ) (room most : ℕ) → length (skipped ++ head) + room ≡ most → length body ≤ room → length (skipped ++ (head ++ body)) ≤ most
+size_of_text : (skipped head body : List ℕ) (room most : ℕ) → length (skipped ++ head) + room ≡ most → length body ≤ room →
+    length (skipped ++ (head ++ body)) ≤ most
 size_of_text skipped head body room most sum fits =
     omega (arith, sum, fits, length-append skipped head, length-append skipped (head ++ body), length-append head body)
 
@@ -82,7 +86,8 @@ request_taken a b c t now open_ room body request opens written takes request_is
     framed = is_framed (opens.is_open.fields i);
     body = takes.body_is i;
   });
-  consumed = subst (Consumes a c) (append_assoc opens.skipped (print_request opens.head) (print_body takes.text)) (Consumes-trans a b c _ _ opens.taken takes.taken);
+  consumed = subst (Consumes a c) (append_assoc opens.skipped (print_request opens.head) (print_body takes.text))
+      (Consumes-trans a b c _ _ opens.taken takes.taken);
   continued = told a b t now open_ room opens written;
 }
 
@@ -101,14 +106,17 @@ refuses_headless a t headless = record {
 }
 
 -- line ends, a head, and then what isn't its body
-no_request_body : (skipped rest : List ℕ) (h : RequestHead) (room : ℕ) → IsSkipped skipped → (is : (after : List ℕ) → ¬ (IsSkipped (skipped ++ (print_request h ++ after))))
+no_request_body : (skipped rest : List ℕ) (h : RequestHead) (room : ℕ) → IsSkipped skipped →
+    (is : (after : List ℕ) → ¬ (IsSkipped (skipped ++ (print_request h ++ after))))
     → ((p : Parts) (after : List ℕ) → AreParts p → ¬ (skipped ++ (print_request h ++ rest) ≡ text_of p ++ after))
     → IsNoRequest ((skipped ++ print_request h) ++ rest)
 no_request_body skipped rest h room are not none_there =
-    subst IsNoRequest (sym (append_assoc skipped (print_request h) rest)) (record { none = λ p after reads. none_there p after reads.parts reads.whole; not_skipped = not rest })
+    subst IsNoRequest (sym (append_assoc skipped (print_request h) rest))
+    (record { none = λ p after reads. none_there p after reads.parts reads.whole; not_skipped = not rest })
 
 refused_behind : (a b : Option (List ℕ)) (open_ : OpenRequest) (room : ℕ) (opens : Opens a b open_ room) (Q : List ℕ → Type 0)
-    → ((rest : List ℕ) → Q rest → (p : Parts) (after : List ℕ) → AreParts p → opens.head ≡ p.head → opens.skipped ≡ p.skipped → ¬ (rest ≡ print_body p.body ++ after))
+    → ((rest : List ℕ) → Q rest → (p : Parts) (after : List ℕ) → AreParts p → opens.head ≡ p.head → opens.skipped ≡ p.skipped →
+    ¬ (rest ≡ print_body p.body ++ after))
     → IfSome b Q → IfSome a IsNoRequest
 refused_behind a b open_ room opens Q step = if_behind a b _ IsNoRequest Q opens.taken λ rest holds.
     no_request_body opens.skipped rest opens.head room opens.are_skipped
@@ -122,12 +130,22 @@ unfolding continue_text
 nothing_told fields bad x = rw (← bad) (Appends-nil x)
 
 -- what follows the head is not the body of a request
-no_request_behind : (a b : Option (List ℕ)) (open_ : OpenRequest) (room : ℕ) (opens : Opens a b open_ room) (rest : List ℕ) → HasNoBody (framing_of open_.fields) room rest
+no_request_behind : (a b : Option (List ℕ)) (open_ : OpenRequest) (room : ℕ) (opens : Opens a b open_ room) (rest : List ℕ) →
+    HasNoBody (framing_of open_.fields) room rest
     → (p : Parts) (after : List ℕ) → AreParts p → opens.head ≡ p.head → opens.skipped ≡ p.skipped → ¬ (rest ≡ print_body p.body ++ after)
 no_request_behind a b open_ room opens rest holds p after parts same skipped_same e =
     let framing = ap framing_of opens.is_open.fields ∙ ap (λ (h : RequestHead). framing_of (fields_of h)) same in
     let fits : length (print_body p.body) ≤ room =
-    omega (arith, parts.size, opens.room_is, length-append opens.skipped (print_request opens.head), length-append p.skipped (print_request p.head ++ print_body p.body), length-append (print_request p.head) (print_body p.body), ap length skipped_same, ap (λ (h : RequestHead). length (print_request h)) same) in
+    omega (
+      arith,
+      parts.size,
+      opens.room_is,
+      length-append opens.skipped (print_request opens.head),
+      length-append p.skipped (print_request p.head ++ print_body p.body),
+      length-append (print_request p.head) (print_body p.body),
+      ap length skipped_same,
+      ap (λ (h : RequestHead). length (print_request h)) same,
+    ) in
     holds.none p.body after (subst (λ (f : Option Framing). IsFramedBody f p.body) (sym framing) parts.body) fits e
 
 -- its body isn't there
@@ -150,7 +168,8 @@ cut_opening a left t calls = seen_map a left BeginsNone (IsCutShort t t calls ca
   told = inl (none_there, Appends-nil t, refl);
 }
 
-pub cut_body : (a b left t now : Option (List ℕ)) (calls calls_now : ℕ) (open_ : OpenRequest) (room : ℕ) → Opens a b open_ room → Appends t now (continue_text open_.fields)
+pub cut_body : (a b left t now : Option (List ℕ)) (calls calls_now : ℕ) (open_ : OpenRequest) (room : ℕ) → Opens a b open_ room →
+    Appends t now (continue_text open_.fields)
     → calls_now ≡ puts_after open_.fields calls → IfSeen b left (HasNoBody (framing_of open_.fields) room) → IfSeen a left (IsCutShort t now calls calls_now)
 cut_body a b left t now calls calls_now open_ room opens written called cut =
     seen_behind a b left (opens.skipped ++ print_request opens.head) (IsCutShort t now calls calls_now) (HasNoBody (framing_of open_.fields) room) opens.taken
@@ -161,7 +180,13 @@ cut_body a b left t now calls calls_now open_ room opens written called cut =
           no_request_behind a b open_ room opens rest holds p after reads.parts same.1 same.0 same.2;
       told = inr (
         opens.head,
-        record { skipped = opens.skipped; are_skipped = opens.are_skipped; is_head = opens.is_head; rest = rest; whole = append_assoc opens.skipped (print_request opens.head) rest },
+        record {
+          skipped = opens.skipped;
+          are_skipped = opens.are_skipped;
+          is_head = opens.is_head;
+          rest = rest;
+          whole = append_assoc opens.skipped (print_request opens.head) rest;
+        },
         told a b t now open_ room opens written,
         called ∙ ap (λ (l : List Field). puts_after l calls) opens.is_open.fields,
       );
@@ -182,7 +207,8 @@ called_once a b open_ room calls calls_now opens called = go (asks_continue open
     )
     go false asks = inl (called ∙ cond-false _ _ _ asks)
 
-pub stopped : (a b c t now : Option (List ℕ)) (calls calls_now : ℕ) (open_ : OpenRequest) (room : ℕ) → Opens a b open_ room → Keeps b c → asks_continue open_.fields ≡ true
+pub stopped : (a b c t now : Option (List ℕ)) (calls calls_now : ℕ) (open_ : OpenRequest) (room : ℕ) → Opens a b open_ room → Keeps b c →
+    asks_continue open_.fields ≡ true
     → AppendsPart t now (continue_text open_.fields) → calls_now ≡ puts_after open_.fields calls → IsStopped a c t now calls calls_now
 stopped a b c t now calls calls_now open_ room opens kept asks written called = record {
   skipped = opens.skipped;

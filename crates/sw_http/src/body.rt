@@ -33,7 +33,8 @@ fn take_plain<R: Source>(
     room: usize,
 ) -> Result<Option<Body>, ReadError>
     requires { room ≤ 1_073_741_824 }
-    ensures taken { IfOk result (λ found. IfSome found (TakesBody (prepend_known held.old (R.left source.old)) (prepend_known held.new (R.left source.new)) (Some (Length len)) room)) }
+    ensures taken { IfOk result (λ found. IfSome found (TakesBody (prepend_known held.old (R.left source.old)) (prepend_known held.new (R.left source.new))
+        (Some (Length len)) room)) }
     ensures none { result ≡ Ok None → IfSome (prepend_known held.old (R.left source.old)) (HasNoBody (Some (Length len)) room) }
     ensures sound { OnOk result (R.faults source.new ≡ R.faults source.old) }
     ensures starved { result ≡ Err ReadError.NoMemory → R.faults source.new ≡ R.faults source.old }
@@ -59,7 +60,8 @@ fn take_chunks<R: Source>(
     room: usize,
 ) -> Result<Option<Body>, ReadError>
     requires { room ≤ 1_073_741_824 }
-    ensures taken { IfOk result (λ found. IfSome found (TakesBody (prepend_known held.old (R.left source.old)) (prepend_known held.new (R.left source.new)) (Some Chunked) room)) }
+    ensures taken { IfOk result (λ found. IfSome found (TakesBody (prepend_known held.old (R.left source.old)) (prepend_known held.new (R.left source.new))
+        (Some Chunked) room)) }
     ensures none { result ≡ Ok None → IfSome (prepend_known held.old (R.left source.old)) (HasNoBody (Some Chunked) room) }
     ensures sound { OnOk result (R.faults source.new ≡ R.faults source.old) }
     ensures starved { result ≡ Err ReadError.NoMemory → R.faults source.new ≡ R.faults source.old }
@@ -84,7 +86,8 @@ pub(crate) fn take_body<R: Source>(
     room: usize,
 ) -> Result<Option<Body>, ReadError>
     requires { room ≤ 1_073_741_824 }
-    ensures taken { IfOk result (λ found. IfSome found (TakesBody (prepend_known held.old (R.left source.old)) (prepend_known held.new (R.left source.new)) (Some framing) room)) }
+    ensures taken { IfOk result (λ found. IfSome found (TakesBody (prepend_known held.old (R.left source.old)) (prepend_known held.new (R.left source.new))
+        (Some framing) room)) }
     ensures none { result ≡ Ok None → IfSome (prepend_known held.old (R.left source.old)) (HasNoBody (Some framing) room) }
     ensures sound { OnOk result (R.faults source.new ≡ R.faults source.old) }
     ensures starved { result ≡ Err ReadError.NoMemory → R.faults source.new ≡ R.faults source.old }

@@ -40,7 +40,8 @@ fn take_data<R: Source>(
     body: &mut Body,
 ) -> Result<bool, ReadError>
     requires { IsWithinLimit body.old }
-    ensures taken { result ≡ Ok true → TakesData (prepend_known held.old (R.left source.old)) (prepend_known held.new (R.left source.new)) body.old body.new size }
+    ensures taken { result ≡ Ok true → TakesData (prepend_known held.old (R.left source.old)) (prepend_known held.new (R.left source.new)) body.old body.new
+        size }
     ensures none { result ≡ Ok false → IfSome (prepend_known held.old (R.left source.old)) (HasNoData size) }
     ensures sound { OnOk result (R.faults source.new ≡ R.faults source.old) }
     ensures starved { result ≡ Err ReadError.NoMemory → R.faults source.new ≡ R.faults source.old }
@@ -64,7 +65,8 @@ fn take_sized<R: Source>(
 ) -> Result<bool, ReadError>
     requires limit { room ≤ 1_073_741_824 }
     requires body { IsWithinLimit body.old }
-    ensures taken { result ≡ Ok true → TakesData (prepend_known held.old (R.left source.old)) (prepend_known held.new (R.left source.new)) body.old body.new line.size }
+    ensures taken { result ≡ Ok true → TakesData (prepend_known held.old (R.left source.old)) (prepend_known held.new (R.left source.new)) body.old body.new
+        line.size }
     ensures fits { result ≡ Ok true → line.len + line.size + 2 ≤ room }
     ensures none { result ≡ Ok false → (room < line.len + line.size + 2) ⊎ IfSome (prepend_known held.old (R.left source.old)) (HasNoData line.size) }
     ensures sound { OnOk result (R.faults source.new ≡ R.faults source.old) }
@@ -120,7 +122,8 @@ pub(crate) fn take_chunked<R: Source>(
 ) -> Result<bool, ReadError>
     requires limit { room ≤ 1_073_741_824 }
     requires body { IsWithinLimit body.old }
-    ensures taken { result ≡ Ok true → TakesChunked (prepend_known held.old (R.left source.old)) (prepend_known held.new (R.left source.new)) body.old body.new room }
+    ensures taken { result ≡ Ok true → TakesChunked (prepend_known held.old (R.left source.old)) (prepend_known held.new (R.left source.new)) body.old body.new
+        room }
     ensures none { result ≡ Ok false → IfSome (prepend_known held.old (R.left source.old)) (HasNoChunked room) }
     ensures sound { OnOk result (R.faults source.new ≡ R.faults source.old) }
     ensures starved { result ≡ Err ReadError.NoMemory → R.faults source.new ≡ R.faults source.old }

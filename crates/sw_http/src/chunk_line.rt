@@ -7,7 +7,8 @@ ghost use Rattle.std.specs.Io.KnownBytes.{Keeps, prepend_known};
 ghost use Rattle.std.specs.Str.Parse.{digits_value};
 ghost use Rattle.httparse.specs.Grammar.{AllPass, is_ows};
 ghost use Rattle.httparse.specs.Pieces.{Stops};
-ghost use Rattle.sw_http.specs.ChunkSteps.{HasNoLine, HasDigits, TakesExtension, HasNoExtension, TakesTail, HasNoTail, TakesLine, HasNoLineWithin, IsExtensionCut};
+ghost use Rattle.sw_http.specs.ChunkSteps.{HasNoLine, HasDigits, TakesExtension, HasNoExtension, TakesTail, HasNoTail, TakesLine, HasNoLineWithin};
+ghost use Rattle.sw_http.specs.ChunkSteps.{IsExtensionCut};
 ghost use Rattle.sw_http.specs.Input.{HasFailed, IfSeen};
 
 use crate::held::Held;
@@ -89,7 +90,8 @@ fn take_extension<R: Source>(
 ) -> Result<Option<usize>, ReadError>
     requires begun { 0 < length held.old }
     requires limit { room ≤ 1_073_741_824 }
-    ensures taken { IfOk result (λ found. IfSome found (TakesExtension (prepend_known held.old (R.left source.old)) (prepend_known held.new (R.left source.new)) held.new)) }
+    ensures taken { IfOk result (λ found. IfSome found (TakesExtension (prepend_known held.old (R.left source.old)) (prepend_known held.new (R.left source.new))
+        held.new)) }
     ensures bound { IfOk result (λ found. IfSome found (λ len. len ≤ room + 1)) }
     ensures none { result ≡ Ok None → IfSome (prepend_known held.old (R.left source.old)) (HasNoExtension room) }
     ensures sound { OnOk result (R.faults source.new ≡ R.faults source.old) }

@@ -53,7 +53,8 @@ pub(crate) fn take_content<R: Source>(
     body: &mut Body,
 ) -> Result<bool, ReadError>
     requires { IsWithinLimit body.old }
-    ensures taken { result ≡ Ok true → TakesBytes (prepend_known held.old (R.left source.old)) (prepend_known held.new (R.left source.new)) body.old body.new len }
+    ensures taken { result ≡ Ok true → TakesBytes (prepend_known held.old (R.left source.old)) (prepend_known held.new (R.left source.new)) body.old body.new
+        len }
     ensures none { result ≡ Ok false → IfSome (prepend_known held.old (R.left source.old)) (λ bytes. length bytes < len) }
     ensures sound { OnOk result (R.faults source.new ≡ R.faults source.old) }
     ensures starved { result ≡ Err ReadError.NoMemory → R.faults source.new ≡ R.faults source.old }

@@ -34,7 +34,8 @@ fn take_head<R: Source>(
     source: &mut R,
 ) -> Result<Option<(OpenRequest, usize)>, ReadError>
     requires { Stops is_newline held.old }
-    ensures taken { IfOk result (λ found. IfSome found (λ head. TakesHead (prepend_known held.old (R.left source.old)) (prepend_known held.new (R.left source.new)) head.0 head.1)) }
+    ensures taken { IfOk result (λ found. IfSome found (λ head. TakesHead (prepend_known held.old (R.left source.old))
+        (prepend_known held.new (R.left source.new)) head.0 head.1)) }
     ensures none { result ≡ Ok None → IfSome (prepend_known held.old (R.left source.old)) HasNoHead }
     ensures kept { result ≡ Err ReadError.Failed → Keeps (prepend_known held.old (R.left source.old)) (prepend_known held.new (R.left source.new)) }
     ensures sound { OnOk result (R.faults source.new ≡ R.faults source.old) }

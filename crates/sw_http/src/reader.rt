@@ -3,7 +3,8 @@ ghost use Rattle.std.specs.Io.KnownBytes.{Appends, IsAtEnd, prepend_known};
 ghost use Rattle.sw_outside.specs.Counts.{raised};
 ghost use Rattle.sw_outside.specs.Faults.{HasRisen};
 ghost use Rattle.sw_outside.specs.Taken.{AppendsPart};
-ghost use Rattle.sw_http.specs.Continue.{Takes, FindsNoRequest, MayContinue, IsToldPart, IsToldOnce, IsCut, IsCutShort, IsStopped, asks_continue, continue_text, puts_after};
+ghost use Rattle.sw_http.specs.Continue.{Takes, FindsNoRequest, MayContinue, IsToldPart, IsToldOnce, IsCut, IsCutShort, IsStopped, asks_continue};
+ghost use Rattle.sw_http.specs.Continue.{continue_text, puts_after};
 ghost use Rattle.sw_http.specs.ChunkSteps.{TakesBody, HasNoBody};
 ghost use Rattle.sw_message.specs.Framing.{framing_of, is_framed};
 ghost use Rattle.sw_http.specs.Input.{HasFailed, IfSeen, fault_of};
@@ -73,7 +74,8 @@ pub fn next_request<R: Source, W: Sink>(
     source: &mut R,
     out: &mut W,
 ) -> Result<Option<Request>, HttpFault>
-    ensures request { IfOk result (λ next. IfSome next (Takes (prepend_known held.old (R.left source.old)) (prepend_known held.new (R.left source.new)) (W.taken out.old) (W.taken out.new))) }
+    ensures request { IfOk result (λ next. IfSome next (Takes (prepend_known held.old (R.left source.old)) (prepend_known held.new (R.left source.new))
+        (W.taken out.old) (W.taken out.new))) }
 
     // The input ended, and nothing but line ends to be skipped was left.
     ensures ended { result ≡ Ok None → IfSome (prepend_known held.old (R.left source.old)) IsSkipped }
@@ -87,14 +89,17 @@ pub fn next_request<R: Source, W: Sink>(
     ensures read_fault { result ≡ Err HttpFault.ReadFault → HasRisen (R.faults source.old) (R.faults source.new) }
     ensures sound { result ≢ Err HttpFault.ReadFault → R.faults source.new ≡ R.faults source.old }
     ensures failed_once { result ≡ Err HttpFault.ReadFault → R.faults source.new ≡ raised (R.faults source.old) }
-    ensures seen { result ≡ Err HttpFault.ReadFault → IfSeen (prepend_known held.old (R.left source.old)) (R.left source.new) (IsCutShort (W.taken out.old) (W.taken out.new) (W.calls out.old) (W.calls out.new)) }
-    ensures cut { result ≡ Err HttpFault.ReadFault → IsCut (prepend_known held.old (R.left source.old)) (prepend_known held.new (R.left source.new)) (W.taken out.old) (W.taken out.new) }
+    ensures seen { result ≡ Err HttpFault.ReadFault → IfSeen (prepend_known held.old (R.left source.old)) (R.left source.new)
+        (IsCutShort (W.taken out.old) (W.taken out.new) (W.calls out.old) (W.calls out.new)) }
+    ensures cut { result ≡ Err HttpFault.ReadFault → IsCut (prepend_known held.old (R.left source.old)) (prepend_known held.new (R.left source.new))
+        (W.taken out.old) (W.taken out.new) }
     ensures written_later { W.faults out.old ≤ W.faults out.new }
     ensures write_fault { result ≡ Err HttpFault.WriteFault → HasRisen (W.faults out.old) (W.faults out.new) }
     ensures told_part { result ≡ Err HttpFault.WriteFault → IsToldPart (prepend_known held.old (R.left source.old)) (W.taken out.old) (W.taken out.new) }
     ensures written_sound { result ≢ Err HttpFault.WriteFault → W.faults out.new ≡ W.faults out.old }
     ensures write_failed_once { result ≡ Err HttpFault.WriteFault → W.faults out.new ≡ raised (W.faults out.old) }
-    ensures stopped { result ≡ Err HttpFault.WriteFault → IsStopped (prepend_known held.old (R.left source.old)) (prepend_known held.new (R.left source.new)) (W.taken out.old) (W.taken out.new) (W.calls out.old) (W.calls out.new) }
+    ensures stopped { result ≡ Err HttpFault.WriteFault → IsStopped (prepend_known held.old (R.left source.old)) (prepend_known held.new (R.left source.new))
+        (W.taken out.old) (W.taken out.new) (W.calls out.old) (W.calls out.new) }
 
     // The sink is called once where the client waits to be told, and never else.
     ensures puts { (W.calls out.new ≡ W.calls out.old) ⊎ IsToldOnce (prepend_known held.old (R.left source.old)) (W.calls out.old) (W.calls out.new) }
@@ -114,7 +119,14 @@ pub fn next_request<R: Source, W: Sink>(
 
 /// The request that a head and a body make.
 fn request_of(head: OpenRequest, body: Body) -> Request
-    ensures { result ≡ record { method = head.method; path = head.path; query = head.query; fields = head.fields; framed = is_framed head.fields; body = body } }
+    ensures { result ≡ record {
+      method = head.method;
+      path = head.path;
+      query = head.query;
+      fields = head.fields;
+      framed = is_framed head.fields;
+      body = body;
+    } }
 {
     let framed = is_framed(&head.fields);
     Request {
@@ -138,7 +150,8 @@ fn read_body<R: Source, W: Sink>(
     room: usize,
 ) -> Result<Option<Body>, HttpFault>
     requires { room ≤ 1_073_741_824 }
-    ensures taken { IfOk result (λ found. IfSome found (TakesBody (prepend_known held.old (R.left source.old)) (prepend_known held.new (R.left source.new)) (framing_of fields.now) room)) }
+    ensures taken { IfOk result (λ found. IfSome found (TakesBody (prepend_known held.old (R.left source.old)) (prepend_known held.new (R.left source.new))
+        (framing_of fields.now) room)) }
     ensures none { result ≡ Ok None → IfSome (prepend_known held.old (R.left source.old)) (HasNoBody (framing_of fields.now) room) }
     ensures told { OnOk result (Appends (W.taken out.old) (W.taken out.new) (continue_text fields.now)) }
     ensures told_first { result ≡ Err HttpFault.ReadFault → Appends (W.taken out.old) (W.taken out.new) (continue_text fields.now) }
@@ -147,8 +160,10 @@ fn read_body<R: Source, W: Sink>(
     ensures sound { OnOk result (R.faults source.new ≡ R.faults source.old) }
     ensures starved { result ≡ Err HttpFault.NoMemory → R.faults source.new ≡ R.faults source.old }
     ensures failed { result ≡ Err HttpFault.ReadFault → HasFailed (R.faults source.old) (R.faults source.new) }
-    ensures cut { result ≡ Err HttpFault.ReadFault → IfSeen (prepend_known held.old (R.left source.old)) (R.left source.new) (HasNoBody (framing_of fields.now) room) }
-    ensures unread { result ≡ Err HttpFault.WriteFault → (held.new ≡ held.old) × (R.left source.new ≡ R.left source.old) × (R.faults source.new ≡ R.faults source.old) }
+    ensures cut { result ≡ Err HttpFault.ReadFault → IfSeen (prepend_known held.old (R.left source.old)) (R.left source.new)
+        (HasNoBody (framing_of fields.now) room) }
+    ensures unread { result ≡ Err HttpFault.WriteFault → (held.new ≡ held.old) × (R.left source.new ≡ R.left source.old) ×
+        (R.faults source.new ≡ R.faults source.old) }
     ensures asked { result ≡ Err HttpFault.WriteFault → asks_continue fields.now ≡ true }
     ensures puts { W.calls out.new ≡ puts_after fields.now (W.calls out.old) }
     ensures written_sound { result ≢ Err HttpFault.WriteFault → W.faults out.new ≡ W.faults out.old }

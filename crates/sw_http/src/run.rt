@@ -55,7 +55,8 @@ pub(crate) fn skip_run<R: Source>(
     source: &mut R,
 ) -> Result<Run, ReadError>
     requires { limit ≤ 1_073_741_824 }
-    ensures run { IfOk result (IsRun (test_of class) limit (prepend_known held.old (R.left source.old)) (prepend_known held.new (R.left source.new)) held.new (R.left source.new)) }
+    ensures run { IfOk result (IsRun (test_of class) limit (prepend_known held.old (R.left source.old)) (prepend_known held.new (R.left source.new)) held.new
+        (R.left source.new)) }
     ensures kept { OnErr result (TakesFew (test_of class) limit (prepend_known held.old (R.left source.old)) (prepend_known held.new (R.left source.new))) }
     ensures sound { OnOk result (R.faults source.new ≡ R.faults source.old) }
     ensures starved { result ≡ Err ReadError.NoMemory → R.faults source.new ≡ R.faults source.old }
@@ -87,7 +88,8 @@ pub(crate) fn take_run<R: Source>(
     source: &mut R,
 ) -> Result<Option<usize>, ReadError>
     requires { limit ≤ 1_073_741_824 }
-    ensures taken { IfOk result (λ found. IfSome found (TakesRun (test_of class) (prepend_known held.old (R.left source.old)) (prepend_known held.new (R.left source.new)))) }
+    ensures taken { IfOk result (λ found. IfSome found (TakesRun (test_of class) (prepend_known held.old (R.left source.old))
+        (prepend_known held.new (R.left source.new)))) }
     ensures few { IfOk result (λ found. IfSome found (λ count. count ≤ limit)) }
     ensures stops { IfOk result (λ found. IfSome found (λ _. Stops (test_of class) held.new)) }
     ensures none { result ≡ Ok None → IfSome (prepend_known held.old (R.left source.old)) (HasNoRun (test_of class) limit) }

@@ -20,7 +20,8 @@ remove-number rowid low (n ∷ ns) rising found = at (is_numbered rowid n) refl 
     at : (b : Bool) → is_numbered rowid n ≡ b
         → (position_or_len (is_numbered rowid) ns < length ns → remove ns (position_or_len (is_numbered rowid) ns) ≡ filter (λ n. not (is_numbered rowid n)) ns)
         → cond (not b) (1 + position_or_len (is_numbered rowid) ns) 0 < length (n ∷ ns)
-        → remove (n ∷ ns) (cond (not b) (1 + position_or_len (is_numbered rowid) ns) 0) ≡ cond (not b) (n ∷ filter (λ n. not (is_numbered rowid n)) ns) (filter (λ n. not (is_numbered rowid n)) ns)
+        → remove (n ∷ ns) (cond (not b) (1 + position_or_len (is_numbered rowid) ns) 0) ≡ cond (not b) (n ∷ filter (λ n. not (is_numbered rowid n)) ns)
+        (filter (λ n. not (is_numbered rowid n)) ns)
     at true is rest found =
         let same : n.rowid ≡ rowid = eqb-true n.rowid rowid is in
         sym (none-numbered rowid n.rowid ns (omega arith) rising.1)
@@ -38,10 +39,12 @@ past-number rowid (n ∷ ns) past = at (is_numbered rowid n) (λ inside. past-nu
     at true rest past = absurd (omega arith)
     at false rest past = ap (λ (t : List Numbered). n ∷ t) (rest (omega arith))
 
-pub cut-found : (rowid k : ℕ) (ns : List Numbered) → IsRising 0 ns → position (is_numbered rowid) ns ≡ Some k → remove ns k ≡ filter (λ n. not (is_numbered rowid n)) ns
+pub cut-found : (rowid k : ℕ) (ns : List Numbered) → IsRising 0 ns → position (is_numbered rowid) ns ≡ Some k →
+    remove ns k ≡ filter (λ n. not (is_numbered rowid n)) ns
 cut-found rowid k ns rising found = at (cases_lt (position_or_len (is_numbered rowid) ns) (length ns))
   where
-    at : (position_or_len (is_numbered rowid) ns < length ns) ⊎ (length ns ≤ position_or_len (is_numbered rowid) ns) → remove ns k ≡ filter (λ n. not (is_numbered rowid n)) ns
+    at : (position_or_len (is_numbered rowid) ns < length ns) ⊎ (length ns ≤ position_or_len (is_numbered rowid) ns) →
+        remove ns k ≡ filter (λ n. not (is_numbered rowid n)) ns
     at (inl inside) =
         let is : position (is_numbered rowid) ns ≡ Some (position_or_len (is_numbered rowid) ns) = rw (lt-ltb _ _ inside) refl in
         let same : position_or_len (is_numbered rowid) ns ≡ k = cc in
@@ -53,7 +56,8 @@ cut-found rowid k ns rising found = at (cases_lt (position_or_len (is_numbered r
 pub cut-absent : (rowid : ℕ) (ns : List Numbered) → position (is_numbered rowid) ns ≡ None → ns ≡ filter (λ n. not (is_numbered rowid n)) ns
 cut-absent rowid ns found = at (cases_lt (position_or_len (is_numbered rowid) ns) (length ns))
   where
-    at : (position_or_len (is_numbered rowid) ns < length ns) ⊎ (length ns ≤ position_or_len (is_numbered rowid) ns) → ns ≡ filter (λ n. not (is_numbered rowid n)) ns
+    at : (position_or_len (is_numbered rowid) ns < length ns) ⊎ (length ns ≤ position_or_len (is_numbered rowid) ns) →
+        ns ≡ filter (λ n. not (is_numbered rowid n)) ns
     at (inl inside) =
         let is : position (is_numbered rowid) ns ≡ Some (position_or_len (is_numbered rowid) ns) = rw (lt-ltb _ _ inside) refl in
         cc

@@ -34,7 +34,8 @@ held_after o [] is = is
 held_after o (change ∷ changes) is = held_after (changed o change) changes is.1
 
 -- a batch begins at a place that isn't held as it does at one with no rows
-pub begins : (changes : List Change) → IsBatch None changes → IsBatch (Some (begun 0 None)) changes × (all_changed (Some (begun 0 None)) changes ≡ all_changed None changes)
+pub begins : (changes : List Change) → IsBatch None changes → IsBatch (Some (begun 0 None)) changes ×
+    (all_changed (Some (begun 0 None)) changes ≡ all_changed None changes)
 begins [] is = let no : ⊥ = cc in absurd no
 begins (Times put_time delete_time ∷ changes) is = ((tt, is.1), refl)
 begins (PutRow row rowid ∷ changes) is = absurd is.0
@@ -43,7 +44,8 @@ begins (CutRow rowid ∷ changes) is = absurd is.0
 apart : (p place : Place) → p ≢ place → is_eq (place_cmp p place) ≡ false
 apart p place differs = false_from_ne_true (is_eq (place_cmp p place)) (λ same. differs (place_same p place (lt-cases (place_cmp p place) same)))
 
-changes_with : (es : List (Place × Tables)) (place : Place) (batch : List Change) (o : Option Tables) → IsSome o → all_changed (at es place) batch ≡ o → Changes (at es) (at (with_tables es place o)) place batch
+changes_with : (es : List (Place × Tables)) (place : Place) (batch : List Change) (o : Option Tables) → IsSome o → all_changed (at es place) batch ≡ o →
+    Changes (at es) (at (with_tables es place o)) place batch
 changes_with es place batch None some is = cc
 changes_with es place batch (Some t) some is =
     let here : place_cmp place place ≡ Equal = tied_itself place_total place in
@@ -52,17 +54,21 @@ changes_with es place batch (Some t) some is =
       elsewhere = λ p differs. at-insert es place t p ∙ rw (apart p place differs) refl;
     }
 
-pub changes-batch : (es : List (Place × Tables)) (place : Place) (batch : List Change) → IsBatch (at es place) batch → Changes (at es) (at (with_batch es place batch)) place batch
+pub changes-batch : (es : List (Place × Tables)) (place : Place) (batch : List Change) → IsBatch (at es place) batch →
+    Changes (at es) (at (with_batch es place batch)) place batch
 changes-batch es place batch is = changes_with es place batch (all_changed (at es place) batch) (held_after (at es place) batch is) refl
 
-sorted_with : (es : List (Place × Tables)) (place : Place) (o : Option Tables) → IsStrictlySortedBy place_cmp (keys_of es) → IsStrictlySortedBy place_cmp (keys_of (with_tables es place o))
+sorted_with : (es : List (Place × Tables)) (place : Place) (o : Option Tables) → IsStrictlySortedBy place_cmp (keys_of es) →
+    IsStrictlySortedBy place_cmp (keys_of (with_tables es place o))
 sorted_with es place None sorted = sorted
 sorted_with es place (Some t) sorted = sorted-insert es place t sorted
 
-pub sorted-batch : (es : List (Place × Tables)) (place : Place) (batch : List Change) → IsStrictlySortedBy place_cmp (keys_of es) → IsStrictlySortedBy place_cmp (keys_of (with_batch es place batch))
+pub sorted-batch : (es : List (Place × Tables)) (place : Place) (batch : List Change) → IsStrictlySortedBy place_cmp (keys_of es) →
+    IsStrictlySortedBy place_cmp (keys_of (with_batch es place batch))
 sorted-batch es place batch sorted = sorted_with es place (all_changed (at es place) batch) sorted
 
-pub lists-places : (es : List (Place × Tables)) (places : List Place) → places ≡ keys_of es → IsStrictlySortedBy place_cmp (keys_of es) → ListsPlaces places (λ place. IsSome (at es place))
+pub lists-places : (es : List (Place × Tables)) (places : List Place) → places ≡ keys_of es → IsStrictlySortedBy place_cmp (keys_of es) →
+    ListsPlaces places (λ place. IsSome (at es place))
 lists-places es places is sorted = rw is record {
   ascending = sorted;
   exact = λ p. (
@@ -113,7 +119,8 @@ pub new_fits : (es : List (Place × Tables)) (place : Place) (batch : List Chang
     → i ≡ index_of es place → is_place_at es i place ≡ false → IsBatch (at es place) batch → IsBatch (Some (begun 0 None)) batch
 new_fits es place batch i sorted index found fits = (begins batch (rw (absent_tables es place i sorted index found) at fits)).0
 
-pub new_batch : (es : List (Place × Tables)) (place : Place) (batch : List Change) (start w : Place × Tables) (i : ℕ) → IsStrictlySortedBy place_cmp (keys_of es)
+pub new_batch : (es : List (Place × Tables)) (place : Place) (batch : List Change) (start w : Place × Tables) (i : ℕ) →
+    IsStrictlySortedBy place_cmp (keys_of es)
     → i ≡ index_of es place → is_place_at es i place ≡ false → IsBatch (at es place) batch
     → start ≡ (place, begun 0 None) → w.0 ≡ start.0 → Some w.1 ≡ all_changed (Some start.1) batch
     → insert es i w ≡ with_batch es place batch
@@ -128,5 +135,6 @@ new_batch es place batch start w i sorted index found fits is named made =
     ∙ ap (λ (o : Option Tables). with_tables es place o) (sym after)
 
 -- a call that failed counted one fault
-pub cause_failed : {T : Type 0} (before now : ℕ) (e : KeeperError) → e ≡ Failed → now ≡ raised before → before ≤ now → HasRisen before now → HasCause {T = T} before now (Err e)
+pub cause_failed : {T : Type 0} (before now : ℕ) (e : KeeperError) → e ≡ Failed → now ≡ raised before → before ≤ now → HasRisen before now →
+    HasCause {T = T} before now (Err e)
 cause_failed before now e is once later risen = rw is record { once = once; memory = tt; kept = tt; later = later; risen = risen }

@@ -35,12 +35,14 @@ placed account container hash = record { account = account; container = containe
 
 pub place_same : (a b : Place) → place_cmp a b ≡ Equal → a ≡ b
 place_same a b is =
-    let outer = then-Equal (ordering_then (slice_cmp nat_cmp a.account b.account) (slice_cmp nat_cmp a.container b.container)) (slice_cmp nat_cmp a.hash b.hash) is in
+    let outer = then-Equal (ordering_then (slice_cmp nat_cmp a.account b.account) (slice_cmp nat_cmp a.container b.container)) (slice_cmp nat_cmp a.hash b.hash)
+    is in
     let inner = then-Equal (slice_cmp nat_cmp a.account b.account) (slice_cmp nat_cmp a.container b.container) outer.0 in
     let account : a.account ≡ b.account = same_bytes a.account b.account inner.0 in
     let container : a.container ≡ b.container = same_bytes a.container b.container inner.1 in
     let hash : a.hash ≡ b.hash = same_bytes a.hash b.hash outer.1 in
-    ap (λ (x : List ℕ). placed x a.container a.hash) account ∙ ap (λ (x : List ℕ). placed b.account x a.hash) container ∙ ap (λ (x : List ℕ). placed b.account b.container x) hash
+    ap (λ (x : List ℕ). placed x a.container a.hash) account ∙ ap (λ (x : List ℕ). placed b.account x a.hash) container ∙ ap
+    (λ (x : List ℕ). placed b.account b.container x) hash
 
 next : (n : ℕ) → 1 + n ≡ suc n
 next n = omega arith
@@ -63,9 +65,11 @@ module _ {X : Type 0} where
 
   -- the shelf of a place that is found has its tables
   held_at : (e : Place × X) (es : List (Place × X)) (place : Place) (d : Place × X) (o : Ordering) → place_cmp e.0 place ≡ o
-      → (is_place_at es (index_of es place) place ≡ true → (at es place ≡ Some (get_or es (index_of es place) d).1) × ((get_or es (index_of es place) d).0 ≡ place))
+      → (is_place_at es (index_of es place) place ≡ true → (at es place ≡ Some (get_or es (index_of es place) d).1) ×
+      ((get_or es (index_of es place) d).0 ≡ place))
       → is_place_at (e ∷ es) (cond (is_lt o) (1 + index_of es place) 0) place ≡ true
-      → (at (e ∷ es) place ≡ Some (get_or (e ∷ es) (cond (is_lt o) (1 + index_of es place) 0) d).1) × ((get_or (e ∷ es) (cond (is_lt o) (1 + index_of es place) 0) d).0 ≡ place)
+      → (at (e ∷ es) place ≡ Some (get_or (e ∷ es) (cond (is_lt o) (1 + index_of es place) 0) d).1) ×
+      ((get_or (e ∷ es) (cond (is_lt o) (1 + index_of es place) 0) d).0 ≡ place)
   held_at e es place d Less is rest found =
       let after : place_cmp place e.0 ≡ Greater = back e.0 place Less is in
       rw (next (index_of es place), after) (rest (rw (next (index_of es place)) at found))
@@ -81,7 +85,8 @@ module _ {X : Type 0} where
   held [] place d found = cc
   held (e ∷ es) place d found = held_at e es place d (place_cmp e.0 place) refl (λ h. held es place d h) found
 
-  none_above : (x place : Place) (es : List (Place × X)) → place_cmp place x ≡ Less → AllByRecursion (λ y. place_cmp x y ≡ Less) (keys_of es) → at es place ≡ None
+  none_above : (x place : Place) (es : List (Place × X)) → place_cmp place x ≡ Less → AllByRecursion (λ y. place_cmp x y ≡ Less) (keys_of es) →
+      at es place ≡ None
   none_above x place [] before above = refl
   none_above x place (e ∷ es) before above =
       let less : place_cmp place e.0 ≡ Less = place_total.trans place x e.0 before above.0 in
@@ -102,10 +107,12 @@ module _ {X : Type 0} where
       let before : place_cmp place e.0 ≡ Less = back e.0 place Greater is in
       rw before (none_above e.0 place es before above)
 
-  pub absent : (es : List (Place × X)) (place : Place) → IsStrictlySortedBy place_cmp (keys_of es) → is_place_at es (index_of es place) place ≡ false → at es place ≡ None
+  pub absent : (es : List (Place × X)) (place : Place) → IsStrictlySortedBy place_cmp (keys_of es) → is_place_at es (index_of es place) place ≡ false →
+      at es place ≡ None
   absent [] place sorted found = refl
   absent (e ∷ es) place sorted found =
-      absent_at e es place (place_cmp e.0 place) refl (sorted_head place_cmp e.0 (keys_of es) sorted) (λ h. absent es place (sorted_tail place_cmp e.0 (keys_of es) sorted) h) found
+      absent_at e es place (place_cmp e.0 place) refl (sorted_head place_cmp e.0 (keys_of es) sorted)
+      (λ h. absent es place (sorted_tail place_cmp e.0 (keys_of es) sorted) h) found
 
   set_at : (e : Place × X) (es : List (Place × X)) (w : Place × X) (place : Place) (o : Ordering) → place_cmp e.0 place ≡ o → w.0 ≡ place
       → (is_place_at es (index_of es place) place ≡ true → set es (index_of es place) w ≡ insert_entry place_cmp es place w.1)
@@ -159,26 +166,30 @@ module _ {X : Type 0} where
       by Equal rest = all
       by Greater rest = (all.0, rest)
 
-  all-before : (x k : Place) (es : List (Place × X)) → place_cmp k x ≡ Less → AllByRecursion (λ y. place_cmp x y ≡ Less) (keys_of es) → AllByRecursion (λ y. place_cmp k y ≡ Less) (keys_of es)
+  all-before : (x k : Place) (es : List (Place × X)) → place_cmp k x ≡ Less → AllByRecursion (λ y. place_cmp x y ≡ Less) (keys_of es) →
+      AllByRecursion (λ y. place_cmp k y ≡ Less) (keys_of es)
   all-before x k [] before all = tt
   all-before x k (e ∷ es) before all = (place_total.trans k x e.0 before all.0, all-before x k es before all.1)
 
   sorted_at : (e : Place × X) (es : List (Place × X)) (k : Place) (v : X) (o : Ordering) → place_cmp k e.0 ≡ o
-      → AllByRecursion (λ y. place_cmp e.0 y ≡ Less) (keys_of es) → IsStrictlySortedBy place_cmp (keys_of es) → IsStrictlySortedBy place_cmp (keys_of (insert_entry place_cmp es k v))
+      → AllByRecursion (λ y. place_cmp e.0 y ≡ Less) (keys_of es) → IsStrictlySortedBy place_cmp (keys_of es) →
+      IsStrictlySortedBy place_cmp (keys_of (insert_entry place_cmp es k v))
       → IsStrictlySortedBy place_cmp (keys_of (match_ordering o ((k, v) ∷ e ∷ es) ((e.0, v) ∷ es) (e ∷ insert_entry place_cmp es k v)))
   unfolding IsStrictlySortedBy
   sorted_at e es k v Less is above sorted rest = ((is, all-before e.0 k es is above), (above, sorted))
   sorted_at e es k v Equal is above sorted rest = (above, sorted)
   sorted_at e es k v Greater is above sorted rest = (all-insert e.0 k v es above (back k e.0 Greater is), rest)
 
-  pub sorted-insert : (es : List (Place × X)) (k : Place) (v : X) → IsStrictlySortedBy place_cmp (keys_of es) → IsStrictlySortedBy place_cmp (keys_of (insert_entry place_cmp es k v))
+  pub sorted-insert : (es : List (Place × X)) (k : Place) (v : X) → IsStrictlySortedBy place_cmp (keys_of es) →
+      IsStrictlySortedBy place_cmp (keys_of (insert_entry place_cmp es k v))
   sorted-insert [] k v sorted = single k
   sorted-insert (e ∷ es) k v sorted =
       let rest = sorted_tail place_cmp e.0 (keys_of es) sorted in
       sorted_at e es k v (place_cmp k e.0) refl (sorted_head place_cmp e.0 (keys_of es) sorted) rest (sorted-insert es k v rest)
 
   -- what stands at each place, where tables were put at one
-  pub at-insert : (es : List (Place × X)) (k : Place) (v : X) (q : Place) → at (insert_entry place_cmp es k v) q ≡ cond (is_eq (place_cmp q k)) (Some v) (at es q)
+  pub at-insert : (es : List (Place × X)) (k : Place) (v : X) (q : Place) →
+      at (insert_entry place_cmp es k v) q ≡ cond (is_eq (place_cmp q k)) (Some v) (at es q)
   at-insert [] k v q = refl
   at-insert (e ∷ es) k v q = by (place_cmp k e.0) refl (at-insert es k v q)
     where
@@ -193,7 +204,8 @@ module _ {X : Type 0} where
       swapped false false x y o apart = refl
 
       by : (o : Ordering) → place_cmp k e.0 ≡ o → at (insert_entry place_cmp es k v) q ≡ cond (is_eq (place_cmp q k)) (Some v) (at es q)
-          → at (match_ordering o ((k, v) ∷ e ∷ es) ((e.0, v) ∷ es) (e ∷ insert_entry place_cmp es k v)) q ≡ cond (is_eq (place_cmp q k)) (Some v) (at (e ∷ es) q)
+          → at (match_ordering o ((k, v) ∷ e ∷ es) ((e.0, v) ∷ es) (e ∷ insert_entry place_cmp es k v)) q ≡ cond (is_eq (place_cmp q k)) (Some v)
+          (at (e ∷ es) q)
       by Less is rest = refl
       by Equal is rest =
           let same : k ≡ e.0 = place_same k e.0 is in

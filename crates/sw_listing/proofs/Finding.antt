@@ -34,7 +34,8 @@ shape-insert (e ∷ es) k v = at (by_items k e.0) (shape-insert es k v)
   where
     at : (o : Ordering) → map shape (insert_entry by_items es k v) ≡ insert_entry (slice_cmp nat_cmp) (map shape es) k.items (shown_entry v)
         → map shape (match_ordering o ((k, v) ∷ e ∷ es) ((e.0, v) ∷ es) (e ∷ insert_entry by_items es k v))
-        ≡ match_ordering o ((k.items, shown_entry v) ∷ shape e ∷ map shape es) ((e.0.items, shown_entry v) ∷ map shape es) (shape e ∷ insert_entry (slice_cmp nat_cmp) (map shape es) k.items (shown_entry v))
+        ≡ match_ordering o ((k.items, shown_entry v) ∷ shape e ∷ map shape es) ((e.0.items, shown_entry v) ∷ map shape es)
+        (shape e ∷ insert_entry (slice_cmp nat_cmp) (map shape es) k.items (shown_entry v))
     at Less rest = refl
     at Equal rest = refl
     at Greater rest = ap (λ (t : List (List ℕ × Entry)). shape e ∷ t) rest
@@ -44,7 +45,8 @@ pub found-none : (query : Query) (found : List (List ℕ × Entry)) (n : Numbere
     → fold with_entry found (entries_asked query left) ≡ fold with_entry found (entries_asked query ns)
 found-none query found n ns left is none = rw (is, none) refl
 
-pub found-some : (query : Query) (found : List (List ℕ × Entry)) (n : Numbered) (ns left : List Numbered) (e : Entry) → left ≡ n ∷ ns → shows query n.row ≡ Some e
+pub found-some : (query : Query) (found : List (List ℕ × Entry)) (n : Numbered) (ns left : List Numbered) (e : Entry) → left ≡ n ∷ ns →
+    shows query n.row ≡ Some e
     → fold with_entry found (entries_asked query left) ≡ fold with_entry (with_entry found e) (entries_asked query ns)
 found-some query found n ns left e is some = rw (is, some) refl
 
@@ -53,7 +55,8 @@ values-shape [] = refl
 values-shape (e ∷ es) = ap (λ (t : List Entry). shown_entry e.1 ∷ t) (values-shape es)
 
 -- the entries of what a map's values are
-pub shown-values : (items : List (Bor Shown)) (es : List (Vec ℕ Global × Shown)) → map (λ s. s.now) items ≡ values_of es → shown_entries items ≡ values_of (map shape es)
+pub shown-values : (items : List (Bor Shown)) (es : List (Vec ℕ Global × Shown)) → map (λ s. s.now) items ≡ values_of es →
+    shown_entries items ≡ values_of (map shape es)
 shown-values items es is = sym (map-map shown_entry (λ (s : Bor Shown). s.now) items) ∙ ap (λ (t : List Shown). map shown_entry t) is ∙ values-shape es
 
 map-reverse : (items : List (Bor Shown)) → shown_entries (reverse items) ≡ reverse (shown_entries items)
@@ -62,7 +65,8 @@ map-reverse (x ∷ xs) =
     ap shown_entries (reverse-append (x ∷ []) xs) ∙ map-append (λ (s : Bor Shown). shown_entry s.now) (reverse xs) (x ∷ [])
     ∙ ap (λ (t : List Entry). t ++ shown_entry x.now ∷ []) (map-reverse xs) ∙ sym (reverse-append (shown_entry x.now ∷ []) (shown_entries xs))
 
-pub turned : (items after : List (Bor Shown)) (backwards : Bool) → after ≡ reverse items → backwards ≡ true → shown_entries after ≡ in_direction backwards (shown_entries items)
+pub turned : (items after : List (Bor Shown)) (backwards : Bool) → after ≡ reverse items → backwards ≡ true →
+    shown_entries after ≡ in_direction backwards (shown_entries items)
 turned items after backwards is on = rw (is, on) (map-reverse items)
 
 -- the first entries, where what they are taken from is in order

@@ -28,7 +28,8 @@ no_length_by_size value size = no_length value (and_left (has_size value) (list_
 pub no_length_by_digit : (value : List ℕ) → list_all is_ascii_digit value ≡ false → None ≡ length_of value
 no_length_by_digit value fails = no_length value (and_right (has_size value) (list_all is_ascii_digit value) fails)
 
-pub some_length : (value : List ℕ) → 1 ≤ length value → length value ≤ 18 → list_all is_ascii_digit value ≡ true → Some (digits_value 10 value) ≡ length_of value
+pub some_length : (value : List ℕ) → 1 ≤ length value → length value ≤ 18 → list_all is_ascii_digit value ≡ true →
+    Some (digits_value 10 value) ≡ length_of value
 unfolding length_of
 some_length value some few digits =
     sym (cond-true _ _ _ (and_from _ _ (and_from _ _ (le-leb 1 (length value) some) (le-leb (length value) 18 few)) digits))

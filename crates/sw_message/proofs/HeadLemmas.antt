@@ -20,7 +20,8 @@ head_stops h rest is =
     subst (Stops is_newline) (sym (print_request-append h rest))
     (at_once h.blank h.method _ is.at_once (Stops_token h.method _ is.valid.method.0 is.valid.method.1))
   where
-    at_once : (ends : List LineEnd) (word after : List ℕ) → ends ≡ [] → Stops is_newline (word ++ after) → Stops is_newline (print_blank ends ++ (word ++ after))
+    at_once : (ends : List LineEnd) (word after : List ℕ) → ends ≡ [] → Stops is_newline (word ++ after) →
+        Stops is_newline (print_blank ends ++ (word ++ after))
     at_once [] word after none stops = stops
     at_once (e ∷ ends) word after none stops = absurd (cc)
 
@@ -48,7 +49,11 @@ pub head_found : (bytes : List ℕ) (headers : List HeaderSpan) (spans : Request
     → IsHeadAt bytes headers spans
 head_found bytes headers spans h stops at within room size version path =
     let few : length h.fields ≤ 128 =
-    omega (arith, sym (length-map h.fields name_and_value) ∙ sym (ap length at.fields) ∙ length-map (take spans.headers headers) (header_bytes bytes), length-take {A = HeaderSpan}) in
+    omega (
+      arith,
+      sym (length-map h.fields name_and_value) ∙ sym (ap length at.fields) ∙ length-map (take spans.headers headers) (header_bytes bytes),
+      length-take {A = HeaderSpan},
+    ) in
     record {
       head = h;
       is_head = record {

@@ -1,5 +1,6 @@
 -- What is pushed to make a reply's text.
-use Rattle.std.proofs.Common.{◌≡◌, ℕ, Bool, true, false, [], length, ap, ◌<◌, ◌≤◌, ◌⊎◌, inl, inr, List, ◌++◌, Option, None, Some, refl, ◌∙◌, arith, append_assoc, lit≤}
+use Rattle.std.proofs.Common.{◌≡◌, ℕ, Bool, true, false, [], length, ap, ◌<◌, ◌≤◌, ◌⊎◌, inl, inr, List, ◌++◌, Option, None, Some, refl, ◌∙◌, arith}
+use Rattle.std.proofs.Common.{append_assoc, lit≤}
 use Rattle.std.specs.Prelude.{if◌then◌else◌, ◌==◌, codes, decimal, MatchBool}
 use Rattle.std.proofs.lemmas.Bool.{cond-true, cond-false, ne_eqb}
 use Rattle.httparse.specs.Ascii.{crlf_bytes}
@@ -13,7 +14,8 @@ pub five_pushed : (old one two three four five a b c d e : List ℕ) → one ≡
     → five ≡ old ++ (a ++ (b ++ (c ++ (d ++ e))))
 five_pushed old one two three four five a b c d e p q r s t = simp (t, s, r, q, p, append_assoc)
 
-skip : (n k : ℕ) (phrase : List ℕ) (rest : Option (List ℕ)) → (n < 100) ⊎ (999 < n) → 100 ≤ k → k ≤ 999 → rest ≡ None → (if n == k then Some phrase else rest) ≡ None
+skip : (n k : ℕ) (phrase : List ℕ) (rest : Option (List ℕ)) → (n < 100) ⊎ (999 < n) → 100 ≤ k → k ≤ 999 → rest ≡ None →
+    (if n == k then Some phrase else rest) ≡ None
 skip n k phrase rest out low high none =
     let other : n ≡ k → ⊥ = λ e. elim out [ inl below ↦ omega arith | inr above ↦ omega arith ] in
     cond-false _ _ _ (ne_eqb n k other) ∙ none
@@ -54,7 +56,8 @@ carries_its_length r = go (has_no_body r.status) refl
 
     go : (none : Bool) → has_no_body r.status ≡ none → MatchBool none
         ((length_line r ≡ []) × (body_bytes r ≡ []))
-        ((length_line r ≡ codes "Content-Length: " ++ (decimal (body_length r.body) ++ crlf_bytes)) × ((body_bytes r ≡ []) ⊎ (length (body_bytes r) ≡ body_length r.body)))
+        ((length_line r ≡ codes "Content-Length: " ++ (decimal (body_length r.body) ++ crlf_bytes)) ×
+        ((body_bytes r ≡ []) ⊎ (length (body_bytes r) ≡ body_length r.body)))
     go true none = (cond-true _ _ _ none, cond-true _ _ _ none)
     go false none =
         let bytes : body_bytes r ≡ carried r.body = cond-false _ _ _ none in

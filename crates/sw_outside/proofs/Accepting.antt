@@ -22,5 +22,8 @@ pub accepts-more : (d : MemDoorsState) (c : MemConnection) (ends : Supply × Sto
     → accepts_of (record d { accepted = d.accepted + 1 }) ≡ accepts_of d ++ record { source = giving ends.0; sink = taking ends.1 } ∷ []
 accepts-more d c ends next source sink =
     let contact = λ (m : MemConnection). (let a : Accepted = record { source = giving (supply_of m); sink = taking (store_of m) } in a) in
-    rw add-one (ap (λ ms. map contact ms) (take-next d.connections d.accepted c (stands d.port _ c next)) ∙ map-append contact (take d.accepted d.connections) (c ∷ [])
-    ∙ ap (λ (a : Accepted). map contact (take d.accepted d.connections) ++ a ∷ []) (ap (λ (e : Supply). record { source = giving e; sink = taking (store_of c) }) (sym source) ∙ ap (λ (e : Store). record { source = giving ends.0; sink = taking e }) (sym sink)))
+    rw add-one (ap (λ ms. map contact ms) (take-next d.connections d.accepted c (stands d.port _ c next)) ∙ map-append contact (take d.accepted d.connections)
+    (c ∷ [])
+    ∙ ap (λ (a : Accepted). map contact (take d.accepted d.connections) ++ a ∷ [])
+    (ap (λ (e : Supply). record { source = giving e; sink = taking (store_of c) }) (sym source) ∙ ap
+    (λ (e : Store). record { source = giving ends.0; sink = taking e }) (sym sink)))

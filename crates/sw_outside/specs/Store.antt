@@ -22,7 +22,8 @@ after_fault s = record s { calls = raised s.calls; faults = raised s.faults }
 
 -- a put of bs failed as it was planned: the sink took as many of its bytes as the plan tells, from the front
 abbrev pub FailsAsPlanned : Store → Store → List ℕ → Type 0
-FailsAsPlanned old new bs = (taken : ℕ) × (breach_at old.failing old.calls ≡ Some taken) × (new ≡ record (after_fault old) { bytes = old.bytes ++ take taken bs })
+FailsAsPlanned old new bs = (taken : ℕ) × (breach_at old.failing old.calls ≡ Some taken) ×
+    (new ≡ record (after_fault old) { bytes = old.bytes ++ take taken bs })
 
 -- a put failed for want of memory: the sink took nothing
 abbrev pub FindsNoMemory : Store → Store → Type 0

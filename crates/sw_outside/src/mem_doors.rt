@@ -51,14 +51,30 @@ impl Model for MemDoors {
 
     ghost Value = { MemDoorsState };
 
-    ghost view = { λ d. record { connections = d.connections.items; failing = d.failing.items; calls = d.calls; faults = d.faults; port = d.port; accepted = d.finished.promised; finished = d.finished.items } };
+    ghost view = { λ d. record {
+      connections = d.connections.items;
+      failing = d.failing.items;
+      calls = d.calls;
+      faults = d.faults;
+      port = d.port;
+      accepted = d.finished.promised;
+      finished = d.finished.items;
+    } };
 }
 
 impl MemDoors {
     /// Doors to which these connections come, in order. The calls of `listen` and `accept` whose numbers, counted from 0 over both, are in
     /// `failing` fail.
     pub fn new(alloc: Global, connections: Vec<MemConnection>, failing: Vec<u64>) -> MemDoors
-        ensures { result ≡ record { connections = connections.items; failing = failing.items; calls = 0; faults = 0; port = None; accepted = 0; finished = [] } }
+        ensures { result ≡ record {
+          connections = connections.items;
+          failing = failing.items;
+          calls = 0;
+          faults = 0;
+          port = None;
+          accepted = 0;
+          finished = [];
+        } }
     {
         MemDoors {
             alloc,

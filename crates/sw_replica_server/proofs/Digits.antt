@@ -44,7 +44,8 @@ read-digits text = decode_sized (48 ∷ slice_index text 0 ∷ slice_index text 
 
 three-of : (s : ℕ) → slice_index (suffix_digits s) 0 ∷ slice_index (suffix_digits s) 1 ∷ slice_index (suffix_digits s) 2 ∷ [] ≡ suffix_digits s
 three-of s =
-    let t : suffix_digits s ≡ slice_index lower_digits (s / 256 % 256 % 16) ∷ slice_index lower_digits (s % 256 / 16) ∷ slice_index lower_digits (s % 256 % 16) ∷ [] =
+    let t : suffix_digits s ≡ slice_index lower_digits (s / 256 % 256 % 16) ∷ slice_index lower_digits (s % 256 / 16) ∷ slice_index lower_digits (s % 256 % 16)
+    ∷ [] =
     ap (λ (l : List ℕ). drop 1 l) (four s) in
     ap (λ (l : List ℕ). slice_index l 0 ∷ slice_index l 1 ∷ slice_index l 2 ∷ []) t ∙ sym t
 

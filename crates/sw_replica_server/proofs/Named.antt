@@ -1,5 +1,6 @@
 -- The suffixes that pieces name, one piece after the other.
-use Rattle.std.proofs.Common.{◌≡◌, ℕ, ◌↔◌, ◌⊎◌, Bool, true, false, cond, inl, inr, refl, sym, ◌∙◌, subst, true≢false, List, [], ◌∷◌, ◌++◌, ◌+◌, ◌<◌, get_or, length, map, take, arith}
+use Rattle.std.proofs.Common.{◌≡◌, ℕ, ◌↔◌, ◌⊎◌, Bool, true, false, cond, inl, inr, refl, sym, ◌∙◌, subst, true≢false, List, [], ◌∷◌, ◌++◌, ◌+◌, ◌<◌, get_or}
+use Rattle.std.proofs.Common.{length, map, take, arith}
 use Rattle.std.proofs.lemmas.Bool.Decides.{nat_tests}
 use Rattle.std.proofs.lemmas.Cmp.{nat_cmp_total}
 use Rattle.std.proofs.lemmas.List.{get_or-map, length-map, map_more}

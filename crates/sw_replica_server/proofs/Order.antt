@@ -23,7 +23,8 @@ abbrev Entries : Type 0
 Entries = List (Hash × DirLine)
 
 -- what holds of all keys and of one more
-all-put : (P : Hash → Type 0) (es : Entries) (k : Hash) (v : DirLine) → AllByRecursion P (keys_of es) → P k → AllByRecursion P (keys_of (insert_entry cmp es k v))
+all-put : (P : Hash → Type 0) (es : Entries) (k : Hash) (v : DirLine) → AllByRecursion P (keys_of es) → P k →
+    AllByRecursion P (keys_of (insert_entry cmp es k v))
 all-put P [] k v all one = (one, tt)
 all-put P (e ∷ es) k v all one = by (cmp k e.0) (all-put P es k v all.1 one)
   where

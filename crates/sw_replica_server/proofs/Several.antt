@@ -1,5 +1,6 @@
 -- The files of several suffixes, one after the other.
-use Rattle.std.proofs.Common.{◌≡◌, ℕ, ◌+◌, ◌<◌, length, get_or, take, drop, List, [], ◌∷◌, ◌++◌, append-nil, append_assoc, refl, sym, ◌∙◌, ap, subst, Result, Ok, Err, OnErr}
+use Rattle.std.proofs.Common.{◌≡◌, ℕ, ◌+◌, ◌<◌, length, get_or, take, drop, List, [], ◌∷◌, ◌++◌, append-nil, append_assoc, refl, sym, ◌∙◌, ap, subst, Result}
+use Rattle.std.proofs.Common.{Ok, Err, OnErr}
 use Rattle.std.proofs.lemmas.List.{take-append-drop, take_more}
 use Rattle.std.specs.declared.alloc.Global.{Global}
 use Rattle.std.specs.declared.vec.Vec.{Vec}
@@ -29,7 +30,8 @@ module _ (device part : ℕ) where
 
   -- one suffix more
   pub read-more : (suffixes : List ℕ) (suffix : ℕ) (s : Sight) (found : List DirLine) (mid : Sight) (lines : Vec DirLine Global) (t : Sight)
-      → AreFilesRead device part suffixes s found mid → Reads suffix mid (Ok lines) t → AreFilesRead device part (suffixes ++ suffix ∷ []) s (found ++ lines.items) t
+      → AreFilesRead device part suffixes s found mid → Reads suffix mid (Ok lines) t →
+      AreFilesRead device part (suffixes ++ suffix ∷ []) s (found ++ lines.items) t
   read-more [] suffix s found mid lines t p step = (
     lines,
     [],

@@ -1,5 +1,6 @@
 -- A text of hashes has one list of them.
-use Rattle.std.proofs.Common.{◌≡◌, ℕ, ◌<◌, List, [], ◌∷◌, ◌++◌, append_assoc, length, take, drop, map, get_or, eqb, refl, sym, ◌∙◌, ap, true≢false, inl, inr, arith}
+use Rattle.std.proofs.Common.{◌≡◌, ℕ, ◌<◌, List, [], ◌∷◌, ◌++◌, append_assoc, length, take, drop, map, get_or, eqb, refl, sym, ◌∙◌, ap, true≢false, inl, inr}
+use Rattle.std.proofs.Common.{arith}
 use Rattle.std.proofs.lemmas.Bool.{cases_lt}
 use Rattle.std.proofs.lemmas.List.{drop_at, get_or_past, take_at}
 use Rattle.std.proofs.lemmas.List.Elements.{All-get_or, All-head, All-tail}
@@ -39,7 +40,8 @@ spread d e r =
     ap (λ (l : List ℕ). 34 ∷ l) (append_assoc (d ++ 34 ∷ []) (58 ∷ 34 ∷ (e ++ 34 ∷ [])) r
     ∙ (append_assoc d (34 ∷ []) (58 ∷ 34 ∷ ((e ++ 34 ∷ []) ++ r)) ∙ ap (λ (l : List ℕ). d ++ 34 ∷ 58 ∷ 34 ∷ l) (append_assoc e (34 ∷ []) r)))
 
-one-hash : (s t : ℕ) (a b : List ℕ) → s ≡ t → a ≡ b → let x : SuffixHash = record { suffix = s; md5 = a } in let y : SuffixHash = record { suffix = t; md5 = b } in x ≡ y
+one-hash : (s t : ℕ) (a b : List ℕ) → s ≡ t → a ≡ b → let x : SuffixHash = record { suffix = s; md5 = a } in let y : SuffixHash =
+    record { suffix = t; md5 = b } in x ≡ y
 one-hash s t a b suffixes digests = rw (suffixes, digests) refl
 
 -- one text has one first member, and one rest

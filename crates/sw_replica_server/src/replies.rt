@@ -1,5 +1,6 @@
 ghost use Rattle.std.specs.Prelude.{◌≡◌, true, IfOk, OnErr};
-ghost use Rattle.sw_replica_server.specs.Replies.{fault_reply as fault_reply_to, files_reply as files_reply_to, hashes_reply as hashes_reply_to, json_reply as json_reply_of, shows_fault, takes_memory};
+ghost use Rattle.sw_replica_server.specs.Replies.{fault_reply as fault_reply_to, files_reply as files_reply_to, hashes_reply as hashes_reply_to};
+ghost use Rattle.sw_replica_server.specs.Replies.{json_reply as json_reply_of, shows_fault, takes_memory};
 
 use crate::texts::{files_text, hashes_text};
 use std::alloc::Global;

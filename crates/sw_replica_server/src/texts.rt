@@ -1,6 +1,7 @@
 ghost use Rattle.std.specs.Prelude.{◌≡◌, ◌++◌, IfOk, OnOk};
 ghost use Rattle.sw_diskfile.specs.FileNames.{name_text};
-ghost use Rattle.sw_replica_server.specs.ReplicaText.{by_hash, comma, files_member, files_text as files_text_of, hash_member, hashes_text as hashes_text_of, names_list, quoted};
+ghost use Rattle.sw_replica_server.specs.ReplicaText.{by_hash, comma, files_member, files_text as files_text_of, hash_member, hashes_text as hashes_text_of};
+ghost use Rattle.sw_replica_server.specs.ReplicaText.{names_list, quoted};
 
 use crate::suffixes::suffix_digits;
 use std::alloc::Global;

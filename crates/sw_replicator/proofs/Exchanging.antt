@@ -12,47 +12,47 @@ use Rattle.sw_state.proofs.StateLaws.{associates, idempotent}
 use Rattle.sw_state.specs.States.{Agree, together, writes_of}
 use Rattle.sw_state.specs.declared.state.State.{State}
 
-module _ (a b part : ℕ) (s m n t : Sight) (x : IsExchange a b part s m n t) (hash : Hash) (is : IsOfPart s.nodes.power part hash) (same : HoldSame a b hash m n) where
-  abbrev Before : ℕ → State
-  Before d = s.objects.holds d hash
+module _ (a b part : ℕ) (s m n t : Sight) (x : IsExchange a b part s m n t) (hash : Hash) (is : IsOfPart s.nodes.power part hash) (same : HoldSame a b hash m n)
+  where
+    abbrev Before : ℕ → State
+    Before d = s.objects.holds d hash
 
-  abbrev Holds : ℕ → State
-  Holds d = t.objects.holds d hash
+    abbrev Holds : ℕ → State
+    Holds d = t.objects.holds d hash
 
-  went : (m.objects.holds a hash ≡ Before a) × ((m.objects.holds b hash ≡ together (Before b) (Before a)) ⊎ Collides a b part (suffix_of hash) s m)
-  went = push-meets a b part s m x.there x.apart x.pushes x.there_done x.alone x.told.0 x.told.1 hash is
+    went : (m.objects.holds a hash ≡ Before a) × ((m.objects.holds b hash ≡ together (Before b) (Before a)) ⊎ Collides a b part (suffix_of hash) s m)
+    went = push-meets a b part s m x.there x.apart x.pushes x.there_done x.alone x.told.0 x.told.1 hash is
 
-  came : (Holds b ≡ n.objects.holds b hash)
-      × ((Holds a ≡ together (n.objects.holds a hash) (n.objects.holds b hash)) ⊎ Collides b a part (suffix_of hash) n t)
-  came =
-      push-meets b a part n t x.back (λ equal. x.apart (sym equal)) x.pushes_back x.back_done x.alone_after x.told_then.1 x.told_then.0 hash
-      (subst (λ (k : Nodes). IsOfPart k.power part hash) (sym x.nodes) is)
+    came : (Holds b ≡ n.objects.holds b hash)
+        × ((Holds a ≡ together (n.objects.holds a hash) (n.objects.holds b hash)) ⊎ Collides b a part (suffix_of hash) n t)
+    came = push-meets b a part n t x.back (λ equal. x.apart (sym equal)) x.pushes_back x.back_done x.alone_after x.told_then.1 x.told_then.0 hash
+        (subst (λ (k : Nodes). IsOfPart k.power part hash) (sym x.nodes) is)
 
-  abbrev Both : Type 0
-  Both = (Holds b ≡ together (Before b) (Before a)) × (Holds a ≡ together (Before a) (Holds b))
+    abbrev Both : Type 0
+    Both = (Holds b ≡ together (Before b) (Before a)) × (Holds a ≡ together (Before a) (Holds b))
 
-  pub exchanged : Both ⊎ CollidesOnce a b part hash s m n t
-  exchanged = by went.1 came.1
-    where
-      by : (m.objects.holds b hash ≡ together (Before b) (Before a)) ⊎ Collides a b part (suffix_of hash) s m
-          → (Holds a ≡ together (n.objects.holds a hash) (n.objects.holds b hash)) ⊎ Collides b a part (suffix_of hash) n t
-          → Both ⊎ CollidesOnce a b part hash s m n t
-      by (inr collides) back = inr (inl collides)
-      by (inl there) (inr collides) = inr (inr collides)
-      by (inl there) (inl back) = inl (
-        came.0 ∙ (same.1 ∙ there),
-        back ∙ (ap (λ (v : State). together v (n.objects.holds b hash)) (same.0 ∙ went.0) ∙ ap (together (Before a)) (sym came.0)),
-      )
-
-  module _ (agree : Agree (writes_of (Before a) ++ writes_of (Before b))) where
-    agreed : Both → (Holds a ≡ together (Before a) (Before b)) × (Holds b ≡ together (Before a) (Before b))
-    agreed both =
-        let their : Holds b ≡ together (Before a) (Before b) = both.0 ∙ sym (commutes (Before a) (Before b) agree) in (
-          both.1
-              ∙ (ap (together (Before a)) their
-              ∙ (sym (associates (Before a) (Before a) (Before b)) ∙ ap (λ (v : State). together v (Before b)) (idempotent (Before a)))),
-          their,
+    pub exchanged : Both ⊎ CollidesOnce a b part hash s m n t
+    exchanged = by went.1 came.1
+      where
+        by : (m.objects.holds b hash ≡ together (Before b) (Before a)) ⊎ Collides a b part (suffix_of hash) s m
+            → (Holds a ≡ together (n.objects.holds a hash) (n.objects.holds b hash)) ⊎ Collides b a part (suffix_of hash) n t
+            → Both ⊎ CollidesOnce a b part hash s m n t
+        by (inr collides) back = inr (inl collides)
+        by (inl there) (inr collides) = inr (inr collides)
+        by (inl there) (inl back) = inl (
+          came.0 ∙ (same.1 ∙ there),
+          back ∙ (ap (λ (v : State). together v (n.objects.holds b hash)) (same.0 ∙ went.0) ∙ ap (together (Before a)) (sym came.0)),
         )
+
+    module _ (agree : Agree (writes_of (Before a) ++ writes_of (Before b))) where
+      agreed : Both → (Holds a ≡ together (Before a) (Before b)) × (Holds b ≡ together (Before a) (Before b))
+      agreed both =
+          let their : Holds b ≡ together (Before a) (Before b) = both.0 ∙ sym (commutes (Before a) (Before b) agree) in (
+            both.1
+                ∙ (ap (together (Before a)) their
+                ∙ (sym (associates (Before a) (Before a) (Before b)) ∙ ap (λ (v : State). together v (Before b)) (idempotent (Before a)))),
+            their,
+          )
 
 pub exchange_meets : ExchangeMeets
 exchange_meets a b part s m n t x hash is same = exchanged a b part s m n t x hash is same

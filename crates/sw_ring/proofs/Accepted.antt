@@ -1,5 +1,6 @@
 -- What holds of a ring with which nothing is wrong.
-use Rattle.std.proofs.Common.{◌≡◌, ℕ, ◌≤◌, ◌^◌, List, [], ◌∷◌, length, Bool, true, false, ◌||◌, ◌&&◌, not, Option, Some, None, bytes_eq, nat_eq, nat_lt, nat_le, cond, refl, true≢false, arith}
+use Rattle.std.proofs.Common.{◌≡◌, ℕ, ◌≤◌, ◌^◌, List, [], ◌∷◌, length, Bool, true, false, ◌||◌, ◌&&◌, not, Option, Some, None, bytes_eq, nat_eq, nat_lt, nat_le}
+use Rattle.std.proofs.Common.{cond, refl, true≢false, arith}
 use Rattle.std.proofs.lemmas.Grind.{common_steps}
 use Rattle.std.specs.List.{list_all, list_any}
 use Rattle.sw_ring.specs.Faults.{first_fault, has_repeat, has_unknown}

@@ -1,5 +1,6 @@
 -- Lists without a repeat.
-use Rattle.std.proofs.Common.{◌≡◌, ℕ, zero, suc, ◌<◌, length, get_or, List, [], ◌∷◌, Bool, true, false, ◌||◌, Option, Some, None, bytes_eq, slice_get, Contains, ◌↔◌, refl, sym, ap, ◌∙◌, true≢false}
+use Rattle.std.proofs.Common.{◌≡◌, ℕ, zero, suc, ◌<◌, length, get_or, List, [], ◌∷◌, Bool, true, false, ◌||◌, Option, Some, None, bytes_eq, slice_get, Contains}
+use Rattle.std.proofs.Common.{◌↔◌, refl, sym, ap, ◌∙◌, true≢false}
 use Rattle.std.proofs.lemmas.Option.{get_or_from_slice_get, slice_get-get_or, slice_get_within}
 use Rattle.std.proofs.lemmas.Slice.Eq.{bytes_eq-Decides}
 use Rattle.std.specs.List.{list_any}
@@ -39,7 +40,8 @@ one_place n (x ∷ xs) (suc i) zero distinct at_i at_j = absurd (only_first x xs
 one_place n (x ∷ xs) (suc i) (suc j) distinct at_i at_j = ap suc (one_place n xs i j (or-right (list_any (λ y. bytes_eq y x) xs) _ distinct) at_i at_j)
 
 -- where n has the place p, it has no other
-pub at_one_place : (n : List ℕ) (xs : List (List ℕ)) (p : ℕ) → has_repeat bytes_eq xs ≡ false → slice_get xs p ≡ Some n → (i : ℕ) → (Some p ≡ Some i) ↔ (slice_get xs i ≡ Some n)
+pub at_one_place : (n : List ℕ) (xs : List (List ℕ)) (p : ℕ) → has_repeat bytes_eq xs ≡ false → slice_get xs p ≡ Some n → (i : ℕ) →
+    (Some p ≡ Some i) ↔ (slice_get xs i ≡ Some n)
 at_one_place n xs p distinct at i = (λ e. let same : i ≡ p = cc in rw same at, λ other. ap Some (one_place n xs p i distinct at other))
 
 -- where n isn't in the list, it has no place

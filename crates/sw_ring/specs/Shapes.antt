@@ -1,5 +1,6 @@
 -- Which JSON value is a ring. (This project's own, over JSON values as `serde_json` reads them.)
-use Rattle.std.specs.Prelude.{ℕ, ◌==◌, ◌&&◌, ◌||◌, List, [], ◌∷◌, length, codes, Bool, false, nat_lt, nat_le, if◌then◌else◌, Option, Some, None, option_map, option_and_then}
+use Rattle.std.specs.Prelude.{ℕ, ◌==◌, ◌&&◌, ◌||◌, List, [], ◌∷◌, length, codes, Bool, false, nat_lt, nat_le, if◌then◌else◌, Option, Some, None, option_map}
+use Rattle.std.specs.Prelude.{option_and_then}
 use Rattle.std.specs.Char.{is_ascii_digit, is_ascii_lowercase}
 use Rattle.std.specs.List.{list_all}
 use Rattle.std.specs.Option.{option_map_or}
@@ -45,7 +46,8 @@ abbrev pub secrets_from : Option (List ℕ) → Option (List ℕ) → Option Sec
 secrets_from (Some prefix) (Some suffix) = Some (record { prefix = prefix; suffix = suffix })
 secrets_from _ _ = None
 
-abbrev pub ring_from : Option (List (List ℕ)) → Option ℕ → Option ℕ → Option ℕ → Option Secrets → Option (List (List ℕ)) → Option (List (List ℕ)) → Option RingData
+abbrev pub ring_from : Option (List (List ℕ)) → Option ℕ → Option ℕ → Option ℕ → Option Secrets → Option (List (List ℕ)) → Option (List (List ℕ)) →
+    Option RingData
 ring_from (Some devices) (Some power) (Some lock_bits) (Some replicas) (Some secrets) (Some object) (Some container) =
     Some (record { devices = devices; power = power; lock_bits = lock_bits; replicas = replicas; secrets = secrets; object = object; container = container })
 ring_from _ _ _ _ _ _ _ = None

@@ -10,4 +10,12 @@ table_of Object ring = ring.object
 table_of Container ring = ring.container
 
 abbrev pub data_of : Ring → RingData
-data_of ring = record { devices = ring.devices; power = ring.power; lock_bits = ring.lock_bits; replicas = ring.replicas; secrets = ring.secrets; object = ring.object; container = ring.container }
+data_of ring = record {
+  devices = ring.devices;
+  power = ring.power;
+  lock_bits = ring.lock_bits;
+  replicas = ring.replicas;
+  secrets = ring.secrets;
+  object = ring.object;
+  container = ring.container;
+}

@@ -48,7 +48,15 @@ impl Model for Draft {
 
     ghost Value = { RingData };
 
-    ghost view = { λ d. record { devices = d.devices; power = d.power; lock_bits = d.lock_bits; replicas = d.replicas; secrets = d.secrets; object = d.object.items; container = d.container.items } };
+    ghost view = { λ d. record {
+      devices = d.devices;
+      power = d.power;
+      lock_bits = d.lock_bits;
+      replicas = d.replicas;
+      secrets = d.secrets;
+      object = d.object.items;
+      container = d.container.items;
+    } };
 }
 
 impl Draft {

@@ -40,7 +40,8 @@ fn text_at<'v>(value: &'v Value, key: &str) -> Option<&'v str>
 
 /// The secrets.
 pub(crate) fn secrets_of(alloc: Global, value: &Value) -> Result<Option<Secrets>, NoMemory>
-    ensures { IfOk result (λ secrets. secrets ≡ secrets_from (field as_str (codes "hash_prefix") (view value.now)) (field as_str (codes "hash_suffix") (view value.now))) }
+    ensures { IfOk result (λ secrets.
+        secrets ≡ secrets_from (field as_str (codes "hash_prefix") (view value.now)) (field as_str (codes "hash_suffix") (view value.now))) }
 {
     let Some(prefix) = text_at(value, "hash_prefix") else {
         return Ok(None);

@@ -1,5 +1,6 @@
 -- Merges keep what holds of rows.
-use Rattle.std.proofs.Common.{◌≡◌, ℕ, ◌+◌, ◌<◌, ◌≤◌, Bool, true, false, cond, not, List, [], ◌∷◌, ◌++◌, Option, None, Some, All, refl, sym, ◌∙◌, ap, arith, inl, inr}
+use Rattle.std.proofs.Common.{◌≡◌, ℕ, ◌+◌, ◌<◌, ◌≤◌, Bool, true, false, cond, not, List, [], ◌∷◌, ◌++◌, Option, None, Some, All, refl, sym, ◌∙◌, ap, arith, inl}
+use Rattle.std.proofs.Common.{inr}
 use Rattle.std.specs.List.{filter, fold}
 use Rattle.std.specs.Str.{bytes_eq}
 use Rattle.std.proofs.lemmas.List.Elements.{All-contains_itself, All-filter, All-head, All-push, All-tail, All-weaker}
@@ -22,7 +23,8 @@ rising-filter p low (n ∷ ns) rising =
     at true above rest = (rising.0, above)
     at false above rest = rest
 
-pub rising-push : (low top : ℕ) (ns : List Numbered) (n : Numbered) → low ≤ top → top < n.rowid → IsRising low ns → All (λ m. m.rowid ≤ top) ns → IsRising low (ns ++ n ∷ [])
+pub rising-push : (low top : ℕ) (ns : List Numbered) (n : Numbered) → low ≤ top → top < n.rowid → IsRising low ns → All (λ m. m.rowid ≤ top) ns →
+    IsRising low (ns ++ n ∷ [])
 rising-push low top [] n le above rising within = (omega arith, tt)
 rising-push low top (m ∷ ms) n le above rising within =
     let P : Numbered → Type 0 = λ x. x.rowid ≤ top in

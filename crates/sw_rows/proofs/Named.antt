@@ -1,5 +1,6 @@
 -- Rows by their names.
-use Rattle.std.proofs.Common.{◌≡◌, ℕ, ◌+◌, ◌<◌, ◌≤◌, suc, Bool, true, false, cond, not, List, [], ◌∷◌, ◌++◌, length, Option, None, Some, refl, sym, ◌∙◌, ap, arith, subst, ◌⊎◌, inl, inr}
+use Rattle.std.proofs.Common.{◌≡◌, ℕ, ◌+◌, ◌<◌, ◌≤◌, suc, Bool, true, false, cond, not, List, [], ◌∷◌, ◌++◌, length, Option, None, Some, refl, sym, ◌∙◌, ap}
+use Rattle.std.proofs.Common.{arith, subst, ◌⊎◌, inl, inr}
 use Rattle.std.specs.List.{filter, find, position, position_or_len, remove}
 use Rattle.std.specs.Option.{option_or}
 use Rattle.std.specs.Str.{bytes_eq}
@@ -54,12 +55,14 @@ pub find-without : (name : List ℕ) (ns : List Numbered) → find (is_named nam
 find-without name [] = refl
 find-without name (n ∷ ns) = at (is_named name n) refl (find-without name ns)
   where
-    at : (b : Bool) → is_named name n ≡ b → find (is_named name) (without name ns) ≡ None → find (is_named name) (cond (not b) (n ∷ without name ns) (without name ns)) ≡ None
+    at : (b : Bool) → is_named name n ≡ b → find (is_named name) (without name ns) ≡ None →
+        find (is_named name) (cond (not b) (n ∷ without name ns) (without name ns)) ≡ None
     at true is rest = rest
     at false is rest = find-cons (is_named name) n (without name ns) is rest
 
 -- a row of another name is found as before
-pub find-without_other : (name other : List ℕ) (ns : List Numbered) → bytes_eq name other ≡ false → find (is_named other) (without name ns) ≡ find (is_named other) ns
+pub find-without_other : (name other : List ℕ) (ns : List Numbered) → bytes_eq name other ≡ false →
+    find (is_named other) (without name ns) ≡ find (is_named other) ns
 find-without_other name other [] apart = refl
 find-without_other name other (n ∷ ns) apart = at (is_named name n) refl (find-without_other name other ns apart)
   where

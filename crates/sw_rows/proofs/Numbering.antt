@@ -27,7 +27,8 @@ not_found name (n ∷ ns) none = at (is_named name n) none (λ h. not_found name
     at true none rest = cc
     at false none rest = rest none
 
-pub listed-with_numbered : (l : Listed) (row : Row) (rowid : ℕ) → IsListed l → l.top < rowid → find_named l.list row.name ≡ None → IsListed (with_numbered l row rowid)
+pub listed-with_numbered : (l : Listed) (row : Row) (rowid : ℕ) → IsListed l → l.top < rowid → find_named l.list row.name ≡ None →
+    IsListed (with_numbered l row rowid)
 listed-with_numbered l row rowid is above none =
     let n : Numbered = record { rowid = rowid; row = row } in
     let P : Numbered → Type 0 = λ x. x.rowid ≤ l.top in

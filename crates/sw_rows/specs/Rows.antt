@@ -1,6 +1,7 @@
 -- Rows of a container: one for each name, and numbers that are used once. (OpenStack Swift's container server numbers its
 -- rows and orders those of one name by created_at; that the deleted row wins at one time is this project's own.)
-use Rattle.std.specs.Prelude.{◌≡◌, ℕ, ◌+◌, ◌<◌, ◌≤◌, Bool, true, not, ◌&&◌, ◌||◌, ◌==◌, nat_lt, List, [], ◌∷◌, ◌++◌, filter, find, Option, None, Some, if◌then◌else◌, All, ⊤}
+use Rattle.std.specs.Prelude.{◌≡◌, ℕ, ◌+◌, ◌<◌, ◌≤◌, Bool, true, not, ◌&&◌, ◌||◌, ◌==◌, nat_lt, List, [], ◌∷◌, ◌++◌, filter, find, Option, None, Some}
+use Rattle.std.specs.Prelude.{if◌then◌else◌, All, ⊤}
 use Rattle.std.specs.Option.{option_map}
 use Rattle.std.specs.Str.{bytes_eq}
 use Rattle.sw_rows.specs.declared.row.Row.{Row}

@@ -181,11 +181,13 @@ const TIME: u64 = 140_122_404_822_541;
 
 /// A PUT with items of each kind, one of them given twice, and a field that is none.
 const PUT: &[u8] =
-    b"PUT /sdb/0/a/c/o\nX-Timestamp:1401224048.22541\nContent-Length:3\nContent-Type:text/plain\nX-Delete-At:1401230000\nX-Object-Meta-Color:red\nExpires:0\nx-object-meta-COLOR:blue\nContent-Encoding:gzip\nX-Object-Met-Color:green";
+    b"PUT /sdb/0/a/c/o\nX-Timestamp:1401224048.22541\nContent-Length:3\nContent-Type:text/plain\nX-Delete-At:1401230000\nX-Object-Meta-Color:red\n\
+      Expires:0\nx-object-meta-COLOR:blue\nContent-Encoding:gzip\nX-Object-Met-Color:green";
 
 /// The same from another node.
 const RECEIVED: &[u8] =
-    b"PUT /sdb/0/a/c/o\nX-Timestamp:1401224048.22541\nContent-Length:3\nContent-Type:text/plain\nX-Delete-At:1401230000\nX-Object-Meta-Color:red\nExpires:0\nx-object-meta-COLOR:blue\nContent-Encoding:gzip\nIf-None-Match:*\nX-Backend-Replication:true";
+    b"PUT /sdb/0/a/c/o\nX-Timestamp:1401224048.22541\nContent-Length:3\nContent-Type:text/plain\nX-Delete-At:1401230000\nX-Object-Meta-Color:red\n\
+      Expires:0\nx-object-meta-COLOR:blue\nContent-Encoding:gzip\nIf-None-Match:*\nX-Backend-Replication:true";
 
 /// Whether it is the content that those ask for.
 fn is_content(content: &Content) -> bool {

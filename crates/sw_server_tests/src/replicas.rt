@@ -160,7 +160,8 @@ fn hashes_have_their_text(rt: HostRuntime) -> Result<(), Fail> {
                     md5: HASH,
                 },
             ],
-            b"HTTP/1.1 200 OK\r\nContent-Type: application/json; charset=utf-8\r\nContent-Length: 83\r\n\r\n{\"009\":\"521d10736a2329a0f432a266914aa48b\",\"a83\":\"06fbf0b514e5199dfc4e00f42eb5ea83\"}",
+            b"HTTP/1.1 200 OK\r\nContent-Type: application/json; charset=utf-8\r\nContent-Length: 83\r\n\r\n{\"009\":\"521d10736a2329a0f432a266914aa48b\",\
+              \"a83\":\"06fbf0b514e5199dfc4e00f42eb5ea83\"}",
         ),
     ];
     for (hashes, text) in table {
@@ -202,11 +203,14 @@ fn files_stand_in_order_of_their_hashes(rt: HostRuntime) -> Result<(), Fail> {
         ),
         (
             &[(HASH, true)],
-            b"HTTP/1.1 200 OK\r\nContent-Type: application/json; charset=utf-8\r\nContent-Length: 86\r\n\r\n{\"06fbf0b514e5199dfc4e00f42eb5ea83\":[\"0000000005.00000.data\",\"0000000009.00000.meta\"]}",
+            b"HTTP/1.1 200 OK\r\nContent-Type: application/json; charset=utf-8\r\nContent-Length: 86\r\n\r\n\
+              {\"06fbf0b514e5199dfc4e00f42eb5ea83\":[\"0000000005.00000.data\",\"0000000009.00000.meta\"]}",
         ),
         (
             &[(HASH, true), (EARLIER, false)],
-            b"HTTP/1.1 200 OK\r\nContent-Type: application/json; charset=utf-8\r\nContent-Length: 147\r\n\r\n{\"06fbf0b514e5199dfc4e00f42eb5e9ff\":[\"0000000009.00000.meta\"],\"06fbf0b514e5199dfc4e00f42eb5ea83\":[\"0000000005.00000.data\",\"0000000009.00000.meta\"]}",
+            b"HTTP/1.1 200 OK\r\nContent-Type: application/json; charset=utf-8\r\nContent-Length: 147\r\n\r\n\
+              {\"06fbf0b514e5199dfc4e00f42eb5e9ff\":[\"0000000009.00000.meta\"],\"06fbf0b514e5199dfc4e00f42eb5ea83\":[\"0000000005.00000.data\",\
+              \"0000000009.00000.meta\"]}",
         ),
     ];
     for (hashes, text) in table {

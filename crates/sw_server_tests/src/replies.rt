@@ -134,21 +134,26 @@ fn an_object_is_shown_until_it_expires(rt: HostRuntime) -> Result<(), Fail> {
             false,
             9,
             false,
-            b"HTTP/1.1 200 OK\r\nContent-Type: text/plain\r\nETag: 900150983cd24fb0d6963f7d28e17f72\r\nLast-Modified: Tue, 27 May 2014 20:54:09 GMT\r\nX-Timestamp: 1401224048.22541\r\nX-Backend-Timestamp: 1401224048.22541\r\nx-object-meta-color: red\r\nContent-Length: 3\r\n\r\nabc",
+            b"HTTP/1.1 200 OK\r\nContent-Type: text/plain\r\nETag: 900150983cd24fb0d6963f7d28e17f72\r\nLast-Modified: Tue, 27 May 2014 20:54:09 GMT\r\n\
+              X-Timestamp: 1401224048.22541\r\nX-Backend-Timestamp: 1401224048.22541\r\nx-object-meta-color: red\r\nContent-Length: 3\r\n\r\nabc",
         ),
         (
             b"0.00001",
             true,
             6,
             false,
-            b"HTTP/1.1 200 OK\r\nContent-Type: text/plain\r\nETag: 900150983cd24fb0d6963f7d28e17f72\r\nLast-Modified: Thu, 01 Jan 1970 00:00:01 GMT\r\nX-Timestamp: 0000000000.00001\r\nX-Backend-Timestamp: 0000000000.00001\r\nX-Delete-At: 0000000007\r\nx-object-meta-color: red\r\nContent-Length: 3\r\n\r\nabc",
+            b"HTTP/1.1 200 OK\r\nContent-Type: text/plain\r\nETag: 900150983cd24fb0d6963f7d28e17f72\r\nLast-Modified: Thu, 01 Jan 1970 00:00:01 GMT\r\n\
+              X-Timestamp: 0000000000.00001\r\nX-Backend-Timestamp: 0000000000.00001\r\nX-Delete-At: 0000000007\r\nx-object-meta-color: red\r\n\
+              Content-Length: 3\r\n\r\nabc",
         ),
         (
             b"1",
             true,
             6,
             true,
-            b"HTTP/1.1 200 OK\r\nContent-Type: text/plain\r\nETag: 900150983cd24fb0d6963f7d28e17f72\r\nLast-Modified: Thu, 01 Jan 1970 00:00:01 GMT\r\nX-Timestamp: 0000000001.00000\r\nX-Backend-Timestamp: 0000000001.00000\r\nX-Delete-At: 0000000007\r\nx-object-meta-color: red\r\nContent-Length: 3\r\n\r\n",
+            b"HTTP/1.1 200 OK\r\nContent-Type: text/plain\r\nETag: 900150983cd24fb0d6963f7d28e17f72\r\nLast-Modified: Thu, 01 Jan 1970 00:00:01 GMT\r\n\
+              X-Timestamp: 0000000001.00000\r\nX-Backend-Timestamp: 0000000001.00000\r\nX-Delete-At: 0000000007\r\nx-object-meta-color: red\r\n\
+              Content-Length: 3\r\n\r\n",
         ),
         (
             b"1",

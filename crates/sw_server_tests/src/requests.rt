@@ -11,7 +11,8 @@ use sw_ring::{Ring, read};
 
 /// A ring of two devices and four partitions.
 const RING: &[u8] =
-    br#"{"devices":["sda","sdb"],"part_power":2,"lock_bits":2,"replicas":2,"hash_prefix":"","hash_suffix":"endcap","object":[[0,1],[1,0],[0,1],[1,0]],"container":[[0,1],[1,0],[0,1],[1,0]]}"#;
+    br#"{"devices":["sda","sdb"],"part_power":2,"lock_bits":2,"replicas":2,"hash_prefix":"","hash_suffix":"endcap","object":[[0,1],[1,0],[0,1],[1,0]],
+        "container":[[0,1],[1,0],[0,1],[1,0]]}"#;
 
 /// The MD5 of `abc`.
 pub(crate) const DIGEST: [u8; 16] = [

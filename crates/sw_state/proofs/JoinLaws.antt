@@ -10,7 +10,8 @@ use Rattle.sw_state.specs.declared.write.Write.{Write}
 use Rattle.sw_state.proofs.BaseOrder.{higher-again, later-again}
 use Rattle.sw_state.proofs.MetaCuts.{cut_left}
 use Rattle.sw_state.proofs.OneState.{state_of_set}
-use Rattle.sw_state.proofs.StateLaws.{above_base-cong, associates, idempotent, joins_lists, joins_one_more, same_state, state_of-writes_of, together-base, together-meta}
+use Rattle.sw_state.proofs.StateLaws.{above_base-cong, associates, idempotent, joins_lists, joins_one_more, same_state, state_of-writes_of, together-base}
+use Rattle.sw_state.proofs.StateLaws.{together-meta}
 
 swapped : (ws vs : List Write) (w : Write) → Contains (ws ++ vs) w → Contains (vs ++ ws) w
 swapped ws vs w is =
@@ -71,10 +72,12 @@ at_least_first v u =
     same_state (together (together v u) v) (together v u)
     (together-base (together v u) v ∙ ap (λ b. higher b v.base) (together-base v u) ∙ higher-again v.base u.base ∙ sym (together-base v u))
     (together-meta (together v u) v
-    ∙ above_base-cong (higher (together v u).base v.base) (higher (higher v.base u.base) v.base) (later (together v u).meta v.meta) (later (above_base (higher v.base u.base) (later v.meta u.meta)) v.meta)
+    ∙ above_base-cong (higher (together v u).base v.base) (higher (higher v.base u.base) v.base) (later (together v u).meta v.meta)
+    (later (above_base (higher v.base u.base) (later v.meta u.meta)) v.meta)
     (ap (λ b. higher b v.base) (together-base v u)) (ap (λ m. later m v.meta) (together-meta v u))
     ∙ cut_left (higher v.base u.base) v.base (later v.meta u.meta) v.meta
-    ∙ above_base-cong (higher (higher v.base u.base) v.base) (higher v.base u.base) (later (later v.meta u.meta) v.meta) (later v.meta u.meta) (higher-again v.base u.base) (later-again v.meta u.meta)
+    ∙ above_base-cong (higher (higher v.base u.base) v.base) (higher v.base u.base) (later (later v.meta u.meta) v.meta) (later v.meta u.meta)
+    (higher-again v.base u.base) (later-again v.meta u.meta)
     ∙ sym (together-meta v u))
 
 pub join_is_at_least : (v u : State) → IsAtLeast (together v u) v × IsAtLeast (together v u) u

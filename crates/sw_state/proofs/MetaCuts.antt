@@ -38,7 +38,8 @@ cut_left_at : (a h : Option Base) (x : Meta) (n : Option Meta) (p : Bool) → af
 cut_left_at a h x n true is lower = refl
 cut_left_at a h x n false is lower = skip_left h x n (lower is)
 
-cut_left_below : (a h : Option Base) (m n : Option Meta) → ((t : ℕ) → after a t ≡ false → after h t ≡ false) → above_base h (later (above_base a m) n) ≡ above_base h (later m n)
+cut_left_below : (a h : Option Base) (m n : Option Meta) → ((t : ℕ) → after a t ≡ false → after h t ≡ false) →
+    above_base h (later (above_base a m) n) ≡ above_base h (later m n)
 cut_left_below a h None n lower = rw (above_base-none a) refl
 cut_left_below a h (Some x) n lower = rw (above_base-some a x) (cut_left_at a h x n (after a x.0) refl (lower x.0))
 
@@ -61,7 +62,8 @@ cut_right_at : (b h : Option Base) (m : Option Meta) (y : Meta) (p : Bool) → a
 cut_right_at b h m y true is lower = refl
 cut_right_at b h m y false is lower = skip_right h m y (lower is)
 
-cut_right_below : (b h : Option Base) (m n : Option Meta) → ((t : ℕ) → after b t ≡ false → after h t ≡ false) → above_base h (later m (above_base b n)) ≡ above_base h (later m n)
+cut_right_below : (b h : Option Base) (m n : Option Meta) → ((t : ℕ) → after b t ≡ false → after h t ≡ false) →
+    above_base h (later m (above_base b n)) ≡ above_base h (later m n)
 cut_right_below b h m None lower = rw (above_base-none b) refl
 cut_right_below b h m (Some y) lower = rw (above_base-some b y) (cut_right_at b h m y (after b y.0) refl (lower y.0))
 

@@ -1,5 +1,6 @@
 -- Where an item is put.
-use Rattle.std.proofs.Common.{◌≡◌, ℕ, ◌+◌, ◌<◌, zero, suc, Bool, true, false, cond, ◌&&◌, List, [], ◌∷◌, ◌++◌, length, take, drop, set, refl, ◌∙◌, ap, arith, subst}
+use Rattle.std.proofs.Common.{◌≡◌, ℕ, ◌+◌, ◌<◌, zero, suc, Bool, true, false, cond, ◌&&◌, List, [], ◌∷◌, ◌++◌, length, take, drop, set, refl, ◌∙◌, ap, arith}
+use Rattle.std.proofs.Common.{subst}
 use Rattle.std.specs.List.{list_all, filter, prefix_len}
 use Rattle.std.specs.Str.{bytes_eq}
 use Rattle.std.specs.Prelude.{insert}
@@ -30,12 +31,14 @@ none_below name h (x ∷ xs) not_below all =
     let none : below name x ≡ false = not_below_later name h x not_below parts.0 (below name x) refl in
     rw none (none_below name h xs not_below parts.1)
   where
-    not_below_later : (name : List ℕ) (h x : Head) → below name h ≡ false → is_before h.name x.name ≡ true → (b : Bool) → below name x ≡ b → below name x ≡ false
+    not_below_later : (name : List ℕ) (h x : Head) → below name h ≡ false → is_before h.name x.name ≡ true → (b : Bool) → below name x ≡ b →
+        below name x ≡ false
     not_below_later name h x not_below later true is = absurd (let so : is_before h.name name ≡ true = before-trans h.name x.name name later is in cc)
     not_below_later name h x not_below later false is = is
 
 -- the items below a name stand in front
-front_at : (name : List ℕ) (h : Head) (hs : List Head) (b : Bool) → below name h ≡ b → list_all (above h.name) hs ≡ true → filter (below name) hs ≡ take (prefix_len (below name) hs) hs
+front_at : (name : List ℕ) (h : Head) (hs : List Head) (b : Bool) → below name h ≡ b → list_all (above h.name) hs ≡ true →
+    filter (below name) hs ≡ take (prefix_len (below name) hs) hs
     → cond b (h ∷ filter (below name) hs) (filter (below name) hs) ≡ take (cond b (1 + prefix_len (below name) hs) 0) (h ∷ hs)
 front_at name h hs true is all front =
     let next : 1 + prefix_len (below name) hs ≡ suc (prefix_len (below name) hs) = omega arith in
@@ -67,7 +70,8 @@ same_at name h hs false is all rest found =
     let P : List ℕ → Type 0 = λ n. list_all (above n) hs ≡ true in
     rw apart (filter-all (above name) hs (subst P same all))
 
-pub rest_same : (name : List ℕ) (hs : List Head) → are_heads hs ≡ true → is_name_at hs (prefix_len (below name) hs) name ≡ true → filter (above name) hs ≡ drop (1 + prefix_len (below name) hs) hs
+pub rest_same : (name : List ℕ) (hs : List Head) → are_heads hs ≡ true → is_name_at hs (prefix_len (below name) hs) name ≡ true →
+    filter (above name) hs ≡ drop (1 + prefix_len (below name) hs) hs
 rest_same name [] heads found = refl
 rest_same name (h ∷ hs) heads found =
     let parts = both (is_name h.name) (list_all (above h.name) hs && are_heads hs) heads in
@@ -85,7 +89,8 @@ other_at name h hs false is all rest found =
     let after : above name h ≡ true = before-other h.name name is found in
     rw (after, filter-all (above name) hs (all_after-trans name h.name hs after all)) refl
 
-pub rest_other : (name : List ℕ) (hs : List Head) → are_heads hs ≡ true → is_name_at hs (prefix_len (below name) hs) name ≡ false → filter (above name) hs ≡ drop (prefix_len (below name) hs) hs
+pub rest_other : (name : List ℕ) (hs : List Head) → are_heads hs ≡ true → is_name_at hs (prefix_len (below name) hs) name ≡ false →
+    filter (above name) hs ≡ drop (prefix_len (below name) hs) hs
 rest_other name [] heads found = refl
 rest_other name (h ∷ hs) heads found =
     let parts = both (is_name h.name) (list_all (above h.name) hs && are_heads hs) heads in
@@ -100,12 +105,14 @@ set_parts (x ∷ xs) (suc n) h inside =
     rw (next, set_parts xs n h (omega arith)) refl
 
 -- so a put in the place of an item of that name, or between the others, gives the list with the item
-pub put_over : (hs : List Head) (h : Head) (at : ℕ) → are_heads hs ≡ true → at ≡ prefix_len (below h.name) hs → at < length hs → is_name_at hs at h.name ≡ true → set hs at h ≡ with_head hs h
+pub put_over : (hs : List Head) (h : Head) (at : ℕ) → are_heads hs ≡ true → at ≡ prefix_len (below h.name) hs → at < length hs →
+    is_name_at hs at h.name ≡ true → set hs at h ≡ with_head hs h
 put_over hs h at heads place inside found =
     let here : is_name_at hs (prefix_len (below h.name) hs) h.name ≡ true = rw place at found in
     set_parts hs at h inside ∙ rw (place, front h.name hs heads, rest_same h.name hs heads here) refl
 
-pub put_between : (hs : List Head) (h : Head) (at : ℕ) → are_heads hs ≡ true → at ≡ prefix_len (below h.name) hs → is_name_at hs at h.name ≡ false → insert hs at h ≡ with_head hs h
+pub put_between : (hs : List Head) (h : Head) (at : ℕ) → are_heads hs ≡ true → at ≡ prefix_len (below h.name) hs → is_name_at hs at h.name ≡ false →
+    insert hs at h ≡ with_head hs h
 put_between hs h at heads place found =
     let here : is_name_at hs (prefix_len (below h.name) hs) h.name ≡ false = rw place at found in
     rw (place, front h.name hs heads, rest_other h.name hs heads here) refl

@@ -82,7 +82,8 @@ above_base-cong b c m n same_base same_meta =
 
 pub together-meta : (v u : State) → (together v u).meta ≡ above_base (higher v.base u.base) (later v.meta u.meta)
 together-meta v u =
-    above_base-cong (base_of (writes_of v ++ writes_of u)) (higher v.base u.base) (latest_meta (writes_of v ++ writes_of u)) (later v.meta u.meta) (together-base v u) (together-latest v u)
+    above_base-cong (base_of (writes_of v ++ writes_of u)) (higher v.base u.base) (latest_meta (writes_of v ++ writes_of u)) (later v.meta u.meta)
+    (together-base v u) (together-latest v u)
 
 higher-one : (a : Option Base) → higher a None ≡ a
 higher-one a = refl
@@ -97,7 +98,8 @@ joined-latest s w =
 
 pub joined-meta : (s : State) (w : Write) → (joined s w).meta ≡ above_base (higher s.base (base_at w.time w.kind)) (later s.meta (meta_at w.time w.kind))
 joined-meta s w =
-    above_base-cong (base_of (writes_of s ++ w ∷ [])) (higher s.base (base_at w.time w.kind)) (latest_meta (writes_of s ++ w ∷ [])) (later s.meta (meta_at w.time w.kind)) (joined-base s w) (joined-latest s w)
+    above_base-cong (base_of (writes_of s ++ w ∷ [])) (higher s.base (base_at w.time w.kind)) (latest_meta (writes_of s ++ w ∷ []))
+    (later s.meta (meta_at w.time w.kind)) (joined-base s w) (joined-latest s w)
 
 -- the state of more writes is that of the states of fewer
 pub joins_one_more : (ws : List Write) (w : Write) → joined (state_of ws) w ≡ state_of (ws ++ w ∷ [])
@@ -106,7 +108,8 @@ joins_one_more ws w =
     (joined-base (state_of ws) w ∙ sym (base_of-append ws (w ∷ [])))
     (joined-meta (state_of ws) w
     ∙ cut_left (base_of ws) (base_at w.time w.kind) (latest_meta ws) (meta_at w.time w.kind)
-    ∙ sym (above_base-cong (base_of (ws ++ w ∷ [])) (higher (base_of ws) (base_at w.time w.kind)) (latest_meta (ws ++ w ∷ [])) (later (latest_meta ws) (meta_at w.time w.kind)) (base_of-append ws (w ∷ [])) (latest_meta-append ws (w ∷ []))))
+    ∙ sym (above_base-cong (base_of (ws ++ w ∷ [])) (higher (base_of ws) (base_at w.time w.kind)) (latest_meta (ws ++ w ∷ []))
+    (later (latest_meta ws) (meta_at w.time w.kind)) (base_of-append ws (w ∷ [])) (latest_meta-append ws (w ∷ []))))
 
 pub joins_lists : (ws vs : List Write) → together (state_of ws) (state_of vs) ≡ state_of (ws ++ vs)
 joins_lists ws vs =
@@ -114,7 +117,8 @@ joins_lists ws vs =
     (together-base (state_of ws) (state_of vs) ∙ sym (base_of-append ws vs))
     (together-meta (state_of ws) (state_of vs)
     ∙ cut_both (base_of ws) (base_of vs) (latest_meta ws) (latest_meta vs)
-    ∙ sym (above_base-cong (base_of (ws ++ vs)) (higher (base_of ws) (base_of vs)) (latest_meta (ws ++ vs)) (later (latest_meta ws) (latest_meta vs)) (base_of-append ws vs) (latest_meta-append ws vs)))
+    ∙ sym (above_base-cong (base_of (ws ++ vs)) (higher (base_of ws) (base_of vs)) (latest_meta (ws ++ vs)) (later (latest_meta ws) (latest_meta vs))
+    (base_of-append ws vs) (latest_meta-append ws vs)))
 
 -- a state is that of its own writes
 pub above_base-own : (b : Option Base) (m : Option Meta) → is_later b m ≡ true → above_base b m ≡ m

@@ -1,5 +1,6 @@
 -- The state of writes is the highest base and the latest meta above it, and there is only one.
-use Rattle.std.proofs.Common.{length, get_or, zero, suc, ◌≡◌, ℕ, ◌<◌, ◌⊎◌, inl, inr, Bool, true, false, cond, List, [], ◌∷◌, refl, sym, ◌∙◌, subst, arith, Option, None, Some, nat_lt}
+use Rattle.std.proofs.Common.{length, get_or, zero, suc, ◌≡◌, ℕ, ◌<◌, ◌⊎◌, inl, inr, Bool, true, false, cond, List, [], ◌∷◌, refl, sym, ◌∙◌, subst, arith}
+use Rattle.std.proofs.Common.{Option, None, Some, nat_lt}
 use Rattle.std.specs.Prelude.{Contains}
 use Rattle.std.proofs.lemmas.Bool.Decides.{nat_tests}
 use Rattle.std.proofs.lemmas.List.Elements.{Contains-append_left, Contains-append_right}
@@ -36,7 +37,8 @@ not_none o x none some = cc
 same_above : (a d : Base) → let x : Option Base = Some a in let y : Option Base = Some d in x ≡ y → is_above d a ≡ false
 same_above a d same = let e : a ≡ d = cc in rw (← e) (above-itself a)
 
-base-chosen : (w : Write) (ws : List Write) (a b : Base) (p : Bool) → is_above b a ≡ p → base_at w.time w.kind ≡ Some a → IsBaseOf ws (Some b) → IsBaseOf (w ∷ ws) (Some (cond p b a))
+base-chosen : (w : Write) (ws : List Write) (a b : Base) (p : Bool) → is_above b a ≡ p → base_at w.time w.kind ≡ Some a → IsBaseOf ws (Some b) →
+    IsBaseOf (w ∷ ws) (Some (cond p b a))
 base-chosen w ws a b true above is rest = (
   (rest.0.0, behind w ws rest.0.0 rest.0.1, rest.0.2),
   λ x c in_it at. each (λ y. (d : Base) → base_at y.time y.kind ≡ Some d → is_above d b ≡ false) w ws
@@ -83,7 +85,8 @@ IsLatest ws (Some m) =
 not_later_itself : (a d : Meta) → let x : Option Meta = Some a in let y : Option Meta = Some d in x ≡ y → nat_lt a.0 d.0 ≡ false
 not_later_itself a d same = let e : a ≡ d = cc in rw (← e) (grind (arith, nat_tests))
 
-latest-chosen : (w : Write) (ws : List Write) (m n : Meta) (p : Bool) → nat_lt m.0 n.0 ≡ p → meta_at w.time w.kind ≡ Some m → IsLatest ws (Some n) → IsLatest (w ∷ ws) (Some (cond p n m))
+latest-chosen : (w : Write) (ws : List Write) (m n : Meta) (p : Bool) → nat_lt m.0 n.0 ≡ p → meta_at w.time w.kind ≡ Some m → IsLatest ws (Some n) →
+    IsLatest (w ∷ ws) (Some (cond p n m))
 latest-chosen w ws m n true order is rest = (
   (rest.0.0, behind w ws rest.0.0 rest.0.1, rest.0.2),
   λ x o in_it at. each (λ y. (o : Meta) → meta_at y.time y.kind ≡ Some o → nat_lt n.0 o.0 ≡ false) w ws

@@ -68,17 +68,20 @@ not_before_itself t = grind (arith, nat_tests)
 after_itself : (m : Option Meta) (x : Meta) → m ≡ Some x → is_after_meta m x.0 ≡ false
 after_itself m x is = ap (λ (o : Option Meta). is_after_meta o x.0) is ∙ not_before_itself x.0
 
-pub above-new : (b : Option Base) (m : Option Meta) (x : Meta) → is_after_base b x.0 ≡ true → is_after_meta m x.0 ≡ true → above_base b (later m (Some x)) ≡ Some x
+pub above-new : (b : Option Base) (m : Option Meta) (x : Meta) → is_after_base b x.0 ≡ true → is_after_meta m x.0 ≡ true →
+    above_base b (later m (Some x)) ≡ Some x
 above-new b m x base_is meta_is =
     ap (above_base b) (later-new m x meta_is) ∙ above_base-some b x ∙ rw (← is_after_base-after b x.0, base_is) refl
 
-meta_kept : (b : Option Base) (m : Option Meta) (x : Meta) (p q : Bool) → is_later b m ≡ true → is_after_base b x.0 ≡ p → is_after_meta m x.0 ≡ q → (p && q) ≡ false → above_base b (later m (Some x)) ≡ m
+meta_kept : (b : Option Base) (m : Option Meta) (x : Meta) (p q : Bool) → is_later b m ≡ true → is_after_base b x.0 ≡ p → is_after_meta m x.0 ≡ q →
+    (p && q) ≡ false → above_base b (later m (Some x)) ≡ m
 meta_kept b m x true true own base_is meta_is old = cc
 meta_kept b m x true false own base_is meta_is old = ap (above_base b) (later-old m x meta_is) ∙ above_base-own b m own
 meta_kept b m x false q own base_is meta_is old =
     sym (skip_right b m x (sym (is_after_base-after b x.0) ∙ base_is)) ∙ above_base-own b m own
 
-meta_old : (b : Option Base) (m : Option Meta) (x : Meta) (p q : Bool) → is_after_base b x.0 ≡ p → is_after_meta m x.0 ≡ q → above_base b (later m (Some x)) ≡ m → (p && q) ≡ false
+meta_old : (b : Option Base) (m : Option Meta) (x : Meta) (p q : Bool) → is_after_base b x.0 ≡ p → is_after_meta m x.0 ≡ q →
+    above_base b (later m (Some x)) ≡ m → (p && q) ≡ false
 meta_old b m x true true base_is meta_is stays =
     sym meta_is ∙ after_itself m x (sym stays ∙ above-new b m x base_is meta_is)
 meta_old b m x true false base_is meta_is stays = refl
@@ -103,7 +106,8 @@ at_least_parts v u = (
   λ same.
       let base : higher v.base u.base ≡ v.base = sym (together-base v u) ∙ ap (λ (s : State). s.base) same in
       let meta : above_base v.base (later v.meta u.meta) ≡ v.meta =
-      sym (together-meta v u ∙ above_base-cong (higher v.base u.base) v.base (later v.meta u.meta) (later v.meta u.meta) base refl) ∙ ap (λ (s : State). s.meta) same in
+      sym (together-meta v u ∙ above_base-cong (higher v.base u.base) v.base (later v.meta u.meta) (later v.meta u.meta) base refl) ∙ ap (λ (s : State). s.meta)
+      same in
       ((base_stays v.base u.base).1 base, (meta_stays v.base v.meta u.meta v.meta_is_later).1 meta),
 )
 
@@ -119,7 +123,8 @@ at_least_test v u p q base_is meta_is = (
 )
 
 -- a write as its parts
-joined_parts : (s : State) (w : Write) → ((wants_base s.base (base_at w.time w.kind) ≡ false) × (wants_meta s.base s.meta (meta_at w.time w.kind) ≡ false)) ↔ (joined s w ≡ s)
+joined_parts : (s : State) (w : Write) → ((wants_base s.base (base_at w.time w.kind) ≡ false) × (wants_meta s.base s.meta (meta_at w.time w.kind) ≡ false)) ↔
+    (joined s w ≡ s)
 joined_parts s w = (
   λ old.
       let base : higher s.base (base_at w.time w.kind) ≡ s.base = (base_stays s.base (base_at w.time w.kind)).0 old.0 in
@@ -130,11 +135,13 @@ joined_parts s w = (
   λ same.
       let base : higher s.base (base_at w.time w.kind) ≡ s.base = sym (joined-base s w) ∙ ap (λ (s : State). s.base) same in
       let meta : above_base s.base (later s.meta (meta_at w.time w.kind)) ≡ s.meta =
-      sym (joined-meta s w ∙ above_base-cong (higher s.base (base_at w.time w.kind)) s.base (later s.meta (meta_at w.time w.kind)) (later s.meta (meta_at w.time w.kind)) base refl) ∙ ap (λ (s : State). s.meta) same in
+      sym (joined-meta s w ∙ above_base-cong (higher s.base (base_at w.time w.kind)) s.base (later s.meta (meta_at w.time w.kind))
+      (later s.meta (meta_at w.time w.kind)) base refl) ∙ ap (λ (s : State). s.meta) same in
       ((base_stays s.base (base_at w.time w.kind)).1 base, (meta_stays s.base s.meta (meta_at w.time w.kind) s.meta_is_later).1 meta),
 )
 
-new_parts : (s : State) (t : ℕ) (k : Kind) → (is_new s t (tag_of k) ≡ false) ↔ ((wants_base s.base (base_at t k) ≡ false) × (wants_meta s.base s.meta (meta_at t k) ≡ false))
+new_parts : (s : State) (t : ℕ) (k : Kind) → (is_new s t (tag_of k) ≡ false) ↔
+    ((wants_base s.base (base_at t k) ≡ false) × (wants_meta s.base s.meta (meta_at t k) ≡ false))
 new_parts s t (kinds.Put content) = (λ is. (is, refl), λ is. is.0)
 new_parts s t kinds.Del = (λ is. (is, refl), λ is. is.0)
 new_parts s t (kinds.Meta heads) = (λ is. (refl, is), λ is. is.1)
@@ -144,14 +151,16 @@ new_changes s w =
     (λ is. (joined_parts s w).0 ((new_parts s w.time w.kind).0 is), λ same. (new_parts s w.time w.kind).1 ((joined_parts s w).1 same))
 
 -- a base that is new put in the place of what is there
-pub rebased : (s : State) (w : Write) (b : Base) → base_at w.time w.kind ≡ Some b → meta_at w.time w.kind ≡ None → is_new_base s.base (base_time b) (is_deletion b) ≡ true → state_with (Some b) s.meta ≡ joined s w
+pub rebased : (s : State) (w : Write) (b : Base) → base_at w.time w.kind ≡ Some b → meta_at w.time w.kind ≡ None →
+    is_new_base s.base (base_time b) (is_deletion b) ≡ true → state_with (Some b) s.meta ≡ joined s w
 rebased s w b base_is meta_is new =
     let base : higher s.base (base_at w.time w.kind) ≡ Some b = ap (higher s.base) base_is ∙ higher-new s.base b new in
     let meta : later s.meta (meta_at w.time w.kind) ≡ s.meta = ap (later s.meta) meta_is in
     sym (same_state (joined s w) (state_with (Some b) s.meta) (joined-base s w ∙ base)
     (joined-meta s w ∙ above_base-cong (higher s.base (base_at w.time w.kind)) (Some b) (later s.meta (meta_at w.time w.kind)) s.meta base meta))
 
-pub joined_put : (s new : State) (w : Write) (tag : Tag) (content used : Content) → used ≡ content → w.kind ≡ kinds.Put content → tag ≡ tag_of w.kind → true ≡ is_new s w.time tag
+pub joined_put : (s new : State) (w : Write) (tag : Tag) (content used : Content) → used ≡ content → w.kind ≡ kinds.Put content → tag ≡ tag_of w.kind →
+    true ≡ is_new s w.time tag
     → new ≡ state_with (Some (bases.Put w.time used)) s.meta → new ≡ joined s w
 joined_put s new w tag content used same kind tagged is_fresh is =
     let put : tag ≡ tags.Put = tagged ∙ ap tag_of kind in

@@ -1,6 +1,8 @@
 //! Laws of states and of their join. Each function does nothing: its clause is the law.
 
-ghost use Rattle.sw_state.specs.Laws.{AtLeastAntisymmetric, AtLeastItself, AtLeastOneWrite, AtLeastTransitive, ComesAgain, EitherOrder, JoinAssociates, JoinCommutes, JoinIsAtLeast, JoinIsIdempotent, JoinsLists, JoinsOneMore, NewChanges, OneState, StateIsState, StateOfItsWrites, StateOfSet};
+ghost use Rattle.sw_state.specs.Laws.{AtLeastAntisymmetric, AtLeastItself, AtLeastOneWrite, AtLeastTransitive, ComesAgain, EitherOrder, JoinAssociates};
+ghost use Rattle.sw_state.specs.Laws.{JoinCommutes, JoinIsAtLeast, JoinIsIdempotent, JoinsLists, JoinsOneMore, NewChanges, OneState, StateIsState};
+ghost use Rattle.sw_state.specs.Laws.{StateOfItsWrites, StateOfSet};
 
 /// The state of writes has the highest base and the latest meta above it.
 pub fn state_is_state()

@@ -9,7 +9,11 @@ fresh = record { source = record { left = None; calls = 0; faults = 0 }; sink = 
 
 -- one that was finished
 abbrev pub told : TcpFinished → Finished
-told f = record { source = record { left = None; calls = f.reads; faults = f.failed_reads }; sink = record { taken = None; calls = f.puts; faults = f.failed_puts }; status = f.status }
+told f = record {
+  source = record { left = None; calls = f.reads; faults = f.failed_reads };
+  sink = record { taken = None; calls = f.puts; faults = f.failed_puts };
+  status = f.status;
+}
 
 -- so many that were accepted
 abbrev pub accepts_of : ℕ → List Accepted

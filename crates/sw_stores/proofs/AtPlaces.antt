@@ -1,5 +1,6 @@
 -- What the clauses on ranges say of one place, for the crates above.
-use Rattle.std.proofs.Common.{◌≡◌, ◌∙◌, ℕ, zero, suc, ◌+◌, ◌-◌, ◌*◌, ◌/◌, ◌%◌, ◌<◌, ◌≤◌, Bool, true, false, not, List, [], ◌∷◌, Option, Some, ap, subst, inl, inr, arith, ⊎_elim, ◌⊎◌}
+use Rattle.std.proofs.Common.{◌≡◌, ◌∙◌, ℕ, zero, suc, ◌+◌, ◌-◌, ◌*◌, ◌/◌, ◌%◌, ◌<◌, ◌≤◌, Bool, true, false, not, List, [], ◌∷◌, Option, Some, ap, subst, inl}
+use Rattle.std.proofs.Common.{inr, arith, ⊎_elim, ◌⊎◌}
 use Rattle.std.specs.Prelude.{slice_get, ◌&&◌, ◌||◌}
 use Rattle.std.proofs.lemmas.Bool.{or_cases, or_left, or_right}
 use Rattle.std.proofs.lemmas.Nat.{div-mul-add, mod-mul-add}
@@ -12,24 +13,30 @@ module _ {T : Type 0} (old new : ℕ → ℕ → T) (stripes place : ℕ) where
   same-everywhere same = same (place / stripes) (place % stripes)
 
   -- a place outside of the range is what it was
-  pub same-outside : (first count : ℕ) → IsSameBut (is_among stripes first count) old new → (first ≤ place → place < first + count → ⊥) → at_place new stripes place ≡ at_place old stripes place
+  pub same-outside : (first count : ℕ) → IsSameBut (is_among stripes first count) old new → (first ≤ place → place < first + count → ⊥) →
+      at_place new stripes place ≡ at_place old stripes place
   same-outside first count same apart = same (place / stripes) (place % stripes) (not-among stripes first count place apart)
 
 module _ (old new : ℕ → ℕ → Bool) (stripes place first count : ℕ) where
   pub out-inside : 0 < stripes → GoOut (is_among stripes first count) old new → first ≤ place → place < first + count → at_place new stripes place ≡ true
-  out-inside some gone from below = gone (place / stripes) (place % stripes) ∙ ap (λ b. b || at_place old stripes place) (among-place stripes first count place some from below)
+  out-inside some gone from below = gone (place / stripes) (place % stripes) ∙ ap (λ b. b || at_place old stripes place)
+      (among-place stripes first count place some from below)
 
-  pub out-outside : GoOut (is_among stripes first count) old new → (first ≤ place → place < first + count → ⊥) → at_place new stripes place ≡ at_place old stripes place
+  pub out-outside : GoOut (is_among stripes first count) old new → (first ≤ place → place < first + count → ⊥) →
+      at_place new stripes place ≡ at_place old stripes place
   out-outside gone apart = gone (place / stripes) (place % stripes) ∙ ap (λ b. b || at_place old stripes place) (not-among stripes first count place apart)
 
   pub home-inside : 0 < stripes → ComeHome (is_among stripes first count) old new → first ≤ place → place < first + count → at_place new stripes place ≡ false
-  home-inside some home from below = home (place / stripes) (place % stripes) ∙ ap (λ b. not b && at_place old stripes place) (among-place stripes first count place some from below)
+  home-inside some home from below = home (place / stripes) (place % stripes) ∙ ap (λ b. not b && at_place old stripes place)
+      (among-place stripes first count place some from below)
 
-  pub home-outside : ComeHome (is_among stripes first count) old new → (first ≤ place → place < first + count → ⊥) → at_place new stripes place ≡ at_place old stripes place
+  pub home-outside : ComeHome (is_among stripes first count) old new → (first ≤ place → place < first + count → ⊥) →
+      at_place new stripes place ≡ at_place old stripes place
   home-outside home apart = home (place / stripes) (place % stripes) ∙ ap (λ b. not b && at_place old stripes place) (not-among stripes first count place apart)
 
 module _ (out : ℕ → ℕ → Bool) (stripes first count : ℕ) where
-  each-place : (b : Bool) → ((place : ℕ) → first ≤ place → place < first + count → at_place out stripes place ≡ b) → (d s : ℕ) → is_among stripes first count d s ≡ true → out d s ≡ b
+  each-place : (b : Bool) → ((place : ℕ) → first ≤ place → place < first + count → at_place out stripes place ≡ b) → (d s : ℕ) →
+      is_among stripes first count d s ≡ true → out d s ≡ b
   each-place b each d s is =
       let parts = among-parts stripes first count d s is in
       subst (λ x. out d x ≡ b) (mod-mul-add d stripes s parts.0)
@@ -59,7 +66,8 @@ module _ (stripes first past count place : ℕ) where
       not-among stripes past (count - past) place (λ reached under. absurd (omega arith)) in
       ap (λ b. b || is_among stripes past (count - past) (place / stripes) (place % stripes)) before ∙ behind
 
-  pub home-around : (old new : ℕ → ℕ → Bool) → 0 < stripes → ComeHome (is_around stripes first past count) old new → place < count → (place < first) ⊎ (past ≤ place)
+  pub home-around : (old new : ℕ → ℕ → Bool) → 0 < stripes → ComeHome (is_around stripes first past count) old new → place < count →
+      (place < first) ⊎ (past ≤ place)
       → at_place new stripes place ≡ false
   home-around old new some home below where_is =
       home (place / stripes) (place % stripes) ∙ ap (λ b. not b && at_place old stripes place) (around-inside some below where_is)
@@ -83,7 +91,8 @@ out-around out stripes first past count apart within each d s is =
 
 module _ {V : Type 0} where
   -- the volume of a number
-  pub started-at : (first_is : V → Type 0) (rests : ℕ → ℕ → Option V) (stripes first : ℕ) (volumes : List V) (i : ℕ) (v : V) → AreStarted first_is rests stripes first volumes
+  pub started-at : (first_is : V → Type 0) (rests : ℕ → ℕ → Option V) (stripes first : ℕ) (volumes : List V) (i : ℕ) (v : V) →
+      AreStarted first_is rests stripes first volumes
       → slice_get volumes i ≡ Some v → StartsFrom first_is (at_place rests stripes (first + i)) v
   started-at first_is rests stripes first [] i v started at = cc
   started-at first_is rests stripes first (u ∷ volumes) zero v started at =

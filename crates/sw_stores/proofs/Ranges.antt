@@ -1,5 +1,6 @@
 -- The volumes of a range of places, started from the front and given back from the end.
-use Rattle.std.proofs.Common.{◌≡◌, ◌∙◌, ℕ, suc, ◌+◌, ◌/◌, ◌%◌, ◌<◌, ◌≤◌, inl, inr, Bool, true, false, not, List, [], ◌∷◌, ◌++◌, length, Option, None, Some, refl, sym, ap, subst, arith, ⊎_elim, append_assoc, length-append, Result, Ok, Err, IfOk, OnErr, Vec, Global}
+use Rattle.std.proofs.Common.{◌≡◌, ◌∙◌, ℕ, suc, ◌+◌, ◌/◌, ◌%◌, ◌<◌, ◌≤◌, inl, inr, Bool, true, false, not, List, [], ◌∷◌, ◌++◌, length, Option, None, Some}
+use Rattle.std.proofs.Common.{refl, sym, ap, subst, arith, ⊎_elim, append_assoc, length-append, Result, Ok, Err, IfOk, OnErr, Vec, Global}
 use Rattle.std.proofs.lemmas.List.{append-nil}
 use Rattle.std.specs.Prelude.{◌&&◌, ◌||◌}
 use Rattle.std.proofs.lemmas.Bool.{cases_Bool, false_from_ne_true, or_cases, or_parts, or_right}
@@ -10,7 +11,8 @@ use Rattle.sw_stores.proofs.Slots.{pair-is}
 
 module _ {V : Type 0} where
   -- some volumes were started, from the front of the range on
-  pub record IsBegun (first_is : V → Type 0) (rests rests_now : ℕ → ℕ → Option V) (out out_now : ℕ → ℕ → Bool) (stripes first count : ℕ) (volumes : List V) : Type 0 where
+  pub record IsBegun (first_is : V → Type 0) (rests rests_now : ℕ → ℕ → Option V) (out out_now : ℕ → ℕ → Bool) (stripes first count : ℕ) (volumes : List V) :
+      Type 0 where
     pub each : AreStarted first_is rests stripes first volumes
     pub length_is : length volumes ≡ count
     pub others : IsSameBut (is_among stripes first count) rests rests_now
@@ -29,7 +31,8 @@ module _ {V : Type 0} where
     pub long : length given + index ≡ count
     pub returned : IsReturned rests rests_now out out_now stripes (first + index) given
 
-  pub begun-none : (first_is : V → Type 0) (rests : ℕ → ℕ → Option V) (out : ℕ → ℕ → Bool) (stripes first : ℕ) → IsBegun first_is rests rests out out stripes first 0 []
+  pub begun-none : (first_is : V → Type 0) (rests : ℕ → ℕ → Option V) (out : ℕ → ℕ → Bool) (stripes first : ℕ) →
+      IsBegun first_is rests rests out out stripes first 0 []
   begun-none first_is rests out stripes first = record {
     each = tt;
     length_is = refl;
@@ -38,7 +41,8 @@ module _ {V : Type 0} where
   }
 
   started-more : (first_is : V → Type 0) (rests : ℕ → ℕ → Option V) (stripes first : ℕ) (volumes : List V) (v : V)
-      → AreStarted first_is rests stripes first volumes → StartsFrom first_is (at_place rests stripes (first + length volumes)) v → AreStarted first_is rests stripes first (volumes ++ v ∷ [])
+      → AreStarted first_is rests stripes first volumes → StartsFrom first_is (at_place rests stripes (first + length volumes)) v →
+      AreStarted first_is rests stripes first (volumes ++ v ∷ [])
   started-more first_is rests stripes first [] v each last =
       let at : first + 0 ≡ first = omega arith in (subst (λ p. StartsFrom first_is (at_place rests stripes p) v) at last, tt)
   started-more first_is rests stripes first (u ∷ volumes) v each last =
@@ -46,7 +50,8 @@ module _ {V : Type 0} where
       (each.0, started-more first_is rests stripes (first + 1) volumes v each.1 (subst (λ p. StartsFrom first_is (at_place rests stripes p) v) at last))
 
   -- one volume more was started
-  pub begun-more : (first_is : V → Type 0) (rests mid new : ℕ → ℕ → Option V) (out out_mid out_new : ℕ → ℕ → Bool) (stripes first count : ℕ) (volumes : List V) (v : V) → 0 < stripes
+  pub begun-more : (first_is : V → Type 0) (rests mid new : ℕ → ℕ → Option V) (out out_mid out_new : ℕ → ℕ → Bool) (stripes first count : ℕ) (volumes : List V)
+      (v : V) → 0 < stripes
       → IsBegun first_is rests mid out out_mid stripes first count volumes
       → StartsFrom first_is (at_place mid stripes (first + count)) v
       → IsSameBut (is_pair ((first + count) / stripes) ((first + count) % stripes)) mid new
@@ -78,7 +83,8 @@ module _ {V : Type 0} where
   }
 
   -- what rests at later places still does
-  still-resting : (mid new : ℕ → ℕ → Option V) (stripes place from : ℕ) (volumes : List V) → place < from → IsSameBut (is_pair (place / stripes) (place % stripes)) mid new
+  still-resting : (mid new : ℕ → ℕ → Option V) (stripes place from : ℕ) (volumes : List V) → place < from →
+      IsSameBut (is_pair (place / stripes) (place % stripes)) mid new
       → AreResting mid stripes from volumes → AreResting new stripes from volumes
   still-resting mid new stripes place from [] later others each = tt
   still-resting mid new stripes place from (v ∷ volumes) later others each = (
@@ -101,7 +107,9 @@ module _ {V : Type 0} where
     home = λ d s.
         home d s ∙ ap (λ b. not (is_pair (place / stripes) (place % stripes) d s) && b) (returned.home d s)
         ∙ neither (is_pair (place / stripes) (place % stripes) d s) (is_among stripes (place + 1) (length volumes) d s) (out d s)
-        ∙ sym (ap (λ b. not b && out d s) (subst (λ n. is_among stripes place n d s ≡ (is_pair (place / stripes) (place % stripes) d s || is_among stripes (place + 1) (length volumes) d s)) (sym one) (among-front stripes place (length volumes) d s some)));
+        ∙ sym (ap (λ b. not b && out d s) (subst (λ n. is_among stripes place n d s ≡
+        (is_pair (place / stripes) (place % stripes) d s || is_among stripes (place + 1) (length volumes) d s)) (sym one)
+        (among-front stripes place (length volumes) d s some)));
   }
     where
       one : suc (length volumes) ≡ 1 + length volumes
@@ -111,7 +119,8 @@ module _ {V : Type 0} where
       neither true b c = refl
       neither false b c = refl
 
-  pub giving-none : (rests : ℕ → ℕ → Option V) (out : ℕ → ℕ → Bool) (stripes first count : ℕ) (all : List V) → IsGiving rests rests out out stripes first count count all all
+  pub giving-none : (rests : ℕ → ℕ → Option V) (out : ℕ → ℕ → Bool) (stripes first count : ℕ) (all : List V) →
+      IsGiving rests rests out out stripes first count count all all
   giving-none rests out stripes first count all =
       record { given = []; all_are = sym (append-nil all); long = omega arith; returned = returned-none rests out stripes (first + count) }
 
@@ -123,15 +132,18 @@ module _ {V : Type 0} where
       let before : is_among stripes (first + from) (length giving.given) (place / stripes) (place % stripes) ≡ false =
       not-among stripes (first + from) (length giving.given) place (λ reached below. absurd (omega arith)) in
       let long = giving.long in
-      let was : at_place out stripes place ≡ true = are (place / stripes) (place % stripes) (among-place stripes first count place some (omega arith) (omega arith)) in
+      let was : at_place out stripes place ≡ true = are (place / stripes) (place % stripes)
+      (among-place stripes first count place some (omega arith) (omega arith)) in
       giving.returned.home (place / stripes) (place % stripes) ∙ ap (λ b. not b && at_place out stripes place) before ∙ was
 
-  pub giving-more : (rests mid new : ℕ → ℕ → Option V) (out out_mid out_new : ℕ → ℕ → Bool) (stripes first count from index place device stripe : ℕ) (all left rest : List V) (v : V)
+  pub giving-more : (rests mid new : ℕ → ℕ → Option V) (out out_mid out_new : ℕ → ℕ → Bool) (stripes first count from index place device stripe : ℕ)
+      (all left rest : List V) (v : V)
       → 0 < stripes → IsGiving rests mid out out_mid stripes first count from all left → from ≡ index + 1 → left ≡ rest ++ v ∷ [] → place ≡ first + index
       → device ≡ place / stripes → stripe ≡ place % stripes
       → new device stripe ≡ Some v → IsSameBut (is_pair device stripe) mid new → ComeHome (is_pair device stripe) out_mid out_new
       → IsGiving rests new out out_new stripes first count index all rest
-  giving-more rests mid new out out_mid out_new stripes first count from index place device stripe all left rest v some giving next is at is_device is_stripe there others home =
+  giving-more rests mid new out out_mid out_new stripes first count from index place device stripe all left rest v some giving next is at is_device is_stripe
+      there others home =
       let after : first + from ≡ place + 1 = omega arith in
       let long = giving.long in
       record {
@@ -143,7 +155,8 @@ module _ {V : Type 0} where
             (subst (λ p. IsReturned rests mid out out_mid stripes p giving.given) after giving.returned)
             (subst (λ x. new (place / stripes) x ≡ Some v) is_stripe (subst (λ x. new x stripe ≡ Some v) is_device there))
             (subst (λ x. IsSameBut (is_pair (place / stripes) x) mid new) is_stripe (subst (λ x. IsSameBut (is_pair x stripe) mid new) is_device others))
-            (subst (λ x. ComeHome (is_pair (place / stripes) x) out_mid out_new) is_stripe (subst (λ x. ComeHome (is_pair x stripe) out_mid out_new) is_device home)));
+            (subst (λ x. ComeHome (is_pair (place / stripes) x) out_mid out_new) is_stripe
+            (subst (λ x. ComeHome (is_pair x stripe) out_mid out_new) is_device home)));
       }
 
   -- all were given back
@@ -165,14 +178,16 @@ module _ {V : Type 0} where
     given-home = subst (λ n. ComeHome (is_among stripes first n) out out_new) whole returned-all.home
 
   -- as many as there were are all
-  pub each-rests : (new : ℕ → ℕ → Option V) (stripes first : ℕ) (all left : List V) → (given : List V) × (all ≡ left ++ given) × (length given ≡ length all) × AreResting new stripes first given
+  pub each-rests : (new : ℕ → ℕ → Option V) (stripes first : ℕ) (all left : List V) →
+      (given : List V) × (all ≡ left ++ given) × (length given ≡ length all) × AreResting new stripes first given
       → AreResting new stripes first all
   each-rests new stripes first all [] given = subst (λ l. AreResting new stripes first l) (sym given.1) given.3
   each-rests new stripes first all (v ∷ left) given =
       let long = ap length given.1 in let split = length-append left given.0 in let same = given.2 in absurd (omega arith)
 
   -- what rests behind a range still does
-  behind-resting : (mid new : ℕ → ℕ → Option V) (stripes first count from : ℕ) (volumes : List V) → first + count ≤ from → IsSameBut (is_among stripes first count) mid new
+  behind-resting : (mid new : ℕ → ℕ → Option V) (stripes first count from : ℕ) (volumes : List V) → first + count ≤ from →
+      IsSameBut (is_among stripes first count) mid new
       → AreResting mid stripes from volumes → AreResting new stripes from volumes
   behind-resting mid new stripes first count from [] behind others each = tt
   behind-resting mid new stripes first count from (v ∷ volumes) behind others each = (
@@ -206,7 +221,8 @@ module _ {V : Type 0} where
 
   -- volumes that were started and given back
   pub rest-again : (first_is : V → Type 0) (rests new : ℕ → ℕ → Option V) (stripes place : ℕ) (volumes : List V) → 0 < stripes
-      → AreStarted first_is rests stripes place volumes → AreResting new stripes place volumes → AllRestAgain first_is (is_among stripes place (length volumes)) rests new
+      → AreStarted first_is rests stripes place volumes → AreResting new stripes place volumes →
+      AllRestAgain first_is (is_among stripes place (length volumes)) rests new
   rest-again first_is rests new stripes place [] some started resting = λ d s is. absurd (let none = among-none stripes place d s in cc)
   rest-again first_is rests new stripes place (v ∷ volumes) some started resting = λ d s is.
       let one : suc (length volumes) ≡ 1 + length volumes = omega arith in
@@ -218,8 +234,10 @@ module _ {V : Type 0} where
       (or_cases _ _ (sym (among-front stripes place (length volumes) d s some) ∙ subst (λ n. is_among stripes place n d s ≡ true) one is))
 
   -- a start in the middle failed, and those before it were given back
-  pub undone-out : (first_is : V → Type 0) (rests mid new : ℕ → ℕ → Option V) (out out_mid out_new : ℕ → ℕ → Bool) (stripes first count all : ℕ) (volumes : List V) → count ≤ all
-      → AreHome (is_among stripes first all) out → IsBegun first_is rests mid out out_mid stripes first count volumes → ComeHome (is_among stripes first (length volumes)) out_mid out_new
+  pub undone-out : (first_is : V → Type 0) (rests mid new : ℕ → ℕ → Option V) (out out_mid out_new : ℕ → ℕ → Bool) (stripes first count all : ℕ)
+      (volumes : List V) → count ≤ all
+      → AreHome (is_among stripes first all) out → IsBegun first_is rests mid out out_mid stripes first count volumes →
+      ComeHome (is_among stripes first (length volumes)) out_mid out_new
       → IsAsItWas out out_new
   undone-out first_is rests mid new out out_mid out_new stripes first count all volumes within are begun home = λ d s.
       let back = subst (λ n. ComeHome (is_among stripes first n) out_mid out_new) begun.length_is home d s in
@@ -230,15 +248,19 @@ module _ {V : Type 0} where
       neither true o home = sym (home refl)
       neither false o home = refl
 
-  pub undone-others : (first_is : V → Type 0) (rests mid new : ℕ → ℕ → Option V) (out out_mid : ℕ → ℕ → Bool) (stripes first count all : ℕ) (volumes : List V) → count ≤ all
+  pub undone-others : (first_is : V → Type 0) (rests mid new : ℕ → ℕ → Option V) (out out_mid : ℕ → ℕ → Bool) (stripes first count all : ℕ) (volumes : List V) →
+      count ≤ all
       → IsBegun first_is rests mid out out_mid stripes first count volumes → IsSameBut (is_among stripes first (length volumes)) mid new
       → IsSameBut (is_among stripes first all) rests new
   undone-others first_is rests mid new out out_mid stripes first count all volumes within begun others = λ d s apart.
-      let shorter : is_among stripes first count d s ≡ false = false_from_ne_true (is_among stripes first count d s) (λ is. let longer = among-more stripes first count all d s within is in cc) in
+      let shorter : is_among stripes first count d s ≡ false = false_from_ne_true (is_among stripes first count d s)
+      (λ is. let longer = among-more stripes first count all d s within is in cc) in
       others d s (subst (λ n. is_among stripes first n d s ≡ false) (sym begun.length_is) shorter) ∙ begun.others d s shorter
 
-  pub undone-rests : (first_is : V → Type 0) (rests mid new : ℕ → ℕ → Option V) (out out_mid : ℕ → ℕ → Bool) (stripes first count all : ℕ) (volumes : List V) → 0 < stripes
-      → IsBegun first_is rests mid out out_mid stripes first count volumes → IsSameBut (is_among stripes first (length volumes)) mid new → AreResting new stripes first volumes
+  pub undone-rests : (first_is : V → Type 0) (rests mid new : ℕ → ℕ → Option V) (out out_mid : ℕ → ℕ → Bool) (stripes first count all : ℕ) (volumes : List V) →
+      0 < stripes
+      → IsBegun first_is rests mid out out_mid stripes first count volumes → IsSameBut (is_among stripes first (length volumes)) mid new →
+      AreResting new stripes first volumes
       → AllRestAgain first_is (is_among stripes first all) rests new
   undone-rests first_is rests mid new out out_mid stripes first count all volumes some begun others resting = λ d s is.
       ⊎_elim
@@ -254,7 +276,8 @@ module _ {V : Type 0} where
       begun.others (place / stripes) (place % stripes) (not-among stripes first count place (λ from below. absurd (omega arith)))
 
   -- one volume more was started
-  pub begun-next : (first_is : V → Type 0) (rests mid new : ℕ → ℕ → Option V) (out out_mid out_new : ℕ → ℕ → Bool) (stripes first count device stripe : ℕ) (volumes more : List V) (v : V)
+  pub begun-next : (first_is : V → Type 0) (rests mid new : ℕ → ℕ → Option V) (out out_mid out_new : ℕ → ℕ → Bool) (stripes first count device stripe : ℕ)
+      (volumes more : List V) (v : V)
       → 0 < stripes → IsBegun first_is rests mid out out_mid stripes first count volumes
       → device ≡ (first + count) / stripes → stripe ≡ (first + count) % stripes
       → StartsFrom first_is (mid device stripe) v → IsSameBut (is_pair device stripe) mid new → GoOut (is_pair device stripe) out_mid out_new
@@ -270,12 +293,14 @@ module _ {V : Type 0} where
       (next-rests first_is rests mid out out_mid stripes first count volumes begun))
 
   -- and isn't out
-  pub next-home : (first_is : V → Type 0) (rests mid : ℕ → ℕ → Option V) (out out_mid : ℕ → ℕ → Bool) (stripes first count all : ℕ) (volumes : List V) → 0 < stripes → count < all
+  pub next-home : (first_is : V → Type 0) (rests mid : ℕ → ℕ → Option V) (out out_mid : ℕ → ℕ → Bool) (stripes first count all : ℕ) (volumes : List V) →
+      0 < stripes → count < all
       → AreHome (is_among stripes first all) out → IsBegun first_is rests mid out out_mid stripes first count volumes
       → at_place out_mid stripes (first + count) ≡ false
   next-home first_is rests mid out out_mid stripes first count all volumes some within are begun =
       let place = first + count in
-      let off : is_among stripes first count (place / stripes) (place % stripes) ≡ false = not-among stripes first count place (λ from below. absurd (omega arith)) in
+      let off : is_among stripes first count (place / stripes) (place % stripes) ≡ false =
+      not-among stripes first count place (λ from below. absurd (omega arith)) in
       begun.gone (place / stripes) (place % stripes) ∙ ap (λ b. b || at_place out stripes place) off
       ∙ are (place / stripes) (place % stripes) (among-place stripes first all place some (omega arith) (omega arith))
 
@@ -285,9 +310,11 @@ module _ {V : Type 0} where
   resting-again first_is mid new stripes place [] some each again = tt
   resting-again first_is mid new stripes place (v ∷ volumes) some each again =
       let one : suc (length volumes) ≡ 1 + length volumes = omega arith in (
-        same (at_place mid stripes place) (at_place new stripes place) each.0 (again (place / stripes) (place % stripes) (among-place stripes place (suc (length volumes)) place some (omega arith) (omega arith))),
+        same (at_place mid stripes place) (at_place new stripes place) each.0
+            (again (place / stripes) (place % stripes) (among-place stripes place (suc (length volumes)) place some (omega arith) (omega arith))),
         resting-again first_is mid new stripes (place + 1) volumes some each.1
-            (λ d s later. again d s (subst (λ n. is_among stripes place n d s ≡ true) (sym one) (among-front stripes place (length volumes) d s some ∙ or_right (is_pair (place / stripes) (place % stripes) d s) _ later))),
+            (λ d s later. again d s (subst (λ n. is_among stripes place n d s ≡ true) (sym one)
+            (among-front stripes place (length volumes) d s some ∙ or_right (is_pair (place / stripes) (place % stripes) d s) _ later))),
       )
     where
       same : (old new : Option V) → old ≡ Some v → RestsAgain first_is old new → new ≡ Some v
@@ -310,13 +337,17 @@ module _ {V : Type 0} where
       from (Some u) is starts = let it : u ≡ v = cc in starts ∙ it
 
   -- so it is of all volumes that are restarted
-  pub restarted-same : {E : Type 0} (first_is : V → Type 0) (mid : ℕ → ℕ → Option V) (stripes place count : ℕ) (volumes : List V) (result : Result (Vec V Global) E) → count ≡ length volumes
-      → AreResting mid stripes place volumes → IfOk result (λ anew. length anew.items ≡ count) → IfOk result (λ anew. AreStarted first_is mid stripes place anew.items)
+  pub restarted-same : {E : Type 0} (first_is : V → Type 0) (mid : ℕ → ℕ → Option V) (stripes place count : ℕ) (volumes : List V)
+      (result : Result (Vec V Global) E) → count ≡ length volumes
+      → AreResting mid stripes place volumes → IfOk result (λ anew. length anew.items ≡ count) →
+      IfOk result (λ anew. AreStarted first_is mid stripes place anew.items)
       → IfOk result (λ anew. anew.items ≡ volumes)
-  restarted-same first_is mid stripes place count volumes (Ok anew) same resting long started = started-same first_is mid stripes place volumes anew.items (long ∙ same) resting started
+  restarted-same first_is mid stripes place count volumes (Ok anew) same resting long started =
+      started-same first_is mid stripes place volumes anew.items (long ∙ same) resting started
   restarted-same first_is mid stripes place count volumes (Err _) same resting long started = tt
 
-  pub restarted-rests : {T E : Type 0} (first_is : V → Type 0) (mid new : ℕ → ℕ → Option V) (stripes place count : ℕ) (volumes : List V) (result : Result T E) → 0 < stripes → count ≡ length volumes
+  pub restarted-rests : {T E : Type 0} (first_is : V → Type 0) (mid new : ℕ → ℕ → Option V) (stripes place count : ℕ) (volumes : List V) (result : Result T E) →
+      0 < stripes → count ≡ length volumes
       → AreResting mid stripes place volumes → OnErr result (AllRestAgain first_is (is_among stripes place count) mid new)
       → OnErr result (AreResting new stripes place volumes)
   restarted-rests first_is mid new stripes place count volumes (Ok _) some same resting again = tt

@@ -1,5 +1,6 @@
 -- The first slot of a pair in a list of slots that changes.
-use Rattle.std.proofs.Common.{◌≡◌, ◌∙◌, ℕ, zero, suc, ◌<◌, Bool, true, false, cond, List, [], ◌∷◌, ◌++◌, length, get_or, set, Option, None, Some, refl, sym, ap, subst, arith, ⊎_elim, Result, Ok, Err, OnErr}
+use Rattle.std.proofs.Common.{◌≡◌, ◌∙◌, ℕ, zero, suc, ◌<◌, Bool, true, false, cond, List, [], ◌∷◌, ◌++◌, length, get_or, set, Option, None, Some, refl, sym, ap}
+use Rattle.std.proofs.Common.{subst, arith, ⊎_elim, Result, Ok, Err, OnErr}
 use Rattle.std.specs.List.{position, position_or_len, slice_get}
 use Rattle.std.specs.Option.{is_none, option_and_then, option_map, unwrap_or}
 use Rattle.std.specs.Prelude.{nat_eq}
@@ -39,23 +40,30 @@ module _ {V : Type 0} where
       let at = pair-is device stripe slot.device slot.stripe here in
       ⊎_elim
       (λ is. let same = pair-is device stripe d s is in
-      cond-true (is_pair d s slot.device slot.stripe) _ _ (pair-itself d s slot.device slot.stripe (at.0 ∙ sym same.0) (at.1 ∙ sym same.1)) ∙ sym (cond-true (is_pair device stripe d s) _ _ is))
+      cond-true (is_pair d s slot.device slot.stripe) _ _ (pair-itself d s slot.device slot.stripe (at.0 ∙ sym same.0) (at.1 ∙ sym same.1)) ∙ sym
+      (cond-true (is_pair device stripe d s) _ _ is))
       (λ no.
-      let off : is_pair d s slot.device slot.stripe ≡ false = pair-other d s slot.device slot.stripe (λ e. let lie = pair-itself device stripe d s (sym e.0 ∙ at.0) (sym e.1 ∙ at.1) in cc) in
-      cond-false (is_pair d s slot.device slot.stripe) _ _ off ∙ sym (cond-false (is_pair device stripe d s) _ _ no ∙ cond-false (is_pair d s slot.device slot.stripe) _ _ off))
+      let off : is_pair d s slot.device slot.stripe ≡ false = pair-other d s slot.device slot.stripe
+      (λ e. let lie = pair-itself device stripe d s (sym e.0 ∙ at.0) (sym e.1 ∙ at.1) in cc) in
+      cond-false (is_pair d s slot.device slot.stripe) _ _ off ∙ sym (cond-false (is_pair device stripe d s) _ _ no ∙ cond-false
+      (is_pair d s slot.device slot.stripe) _ _ off))
       (cases_Bool (is_pair device stripe d s))
   holds-set (slot ∷ slots) (suc i) device stripe w x inside here before = λ d s.
       let rest = holds-set slots i device stripe w x (omega arith) here (λ k less. before (suc k) (omega arith)) d s in
       let front : is_pair device stripe slot.device slot.stripe ≡ false = before 0 (omega arith) in
       ⊎_elim
       (λ is. let same = pair-is d s slot.device slot.stripe is in
-      let no : is_pair device stripe d s ≡ false = pair-other device stripe d s (λ e. let lie = pair-itself device stripe slot.device slot.stripe (same.0 ∙ e.0) (same.1 ∙ e.1) in cc) in
-      cond-true (is_pair d s slot.device slot.stripe) _ _ is ∙ sym (cond-false (is_pair device stripe d s) _ _ no ∙ cond-true (is_pair d s slot.device slot.stripe) _ _ is))
+      let no : is_pair device stripe d s ≡ false = pair-other device stripe d s
+      (λ e. let lie = pair-itself device stripe slot.device slot.stripe (same.0 ∙ e.0) (same.1 ∙ e.1) in cc) in
+      cond-true (is_pair d s slot.device slot.stripe) _ _ is ∙ sym (cond-false (is_pair device stripe d s) _ _ no ∙ cond-true
+      (is_pair d s slot.device slot.stripe) _ _ is))
       (λ off. cond-false (is_pair d s slot.device slot.stripe) _ _ off ∙ rest
-      ∙ ap (λ o. cond (is_pair device stripe d s) (Some (record (get_or slots i x) { volume = w })) o) (sym (cond-false (is_pair d s slot.device slot.stripe) (Some slot) (slot_at slots d s) off)))
+      ∙ ap (λ o. cond (is_pair device stripe d s) (Some (record (get_or slots i x) { volume = w })) o)
+      (sym (cond-false (is_pair d s slot.device slot.stripe) (Some slot) (slot_at slots d s) off)))
       (cases_Bool (is_pair d s slot.device slot.stripe))
 
-  holds-push : (slots : List (Slot V)) (slot : Slot V) → slot_at slots slot.device slot.stripe ≡ None → Holds slots (slots ++ slot ∷ []) slot.device slot.stripe slot
+  holds-push : (slots : List (Slot V)) (slot : Slot V) → slot_at slots slot.device slot.stripe ≡ None →
+      Holds slots (slots ++ slot ∷ []) slot.device slot.stripe slot
   holds-push [] slot none = λ d s.
       ap (λ b. cond b (Some slot) None) (turned d s)
     where
@@ -67,27 +75,36 @@ module _ {V : Type 0} where
           (cases_Bool (is_pair d s slot.device slot.stripe))
   holds-push (front ∷ slots) slot none = λ d s.
       let off : is_pair slot.device slot.stripe front.device front.stripe ≡ false =
-      false_from_ne_true (is_pair slot.device slot.stripe front.device front.stripe) (λ is. let lie = sym (cond-true (is_pair slot.device slot.stripe front.device front.stripe) (Some front) (slot_at slots slot.device slot.stripe) is) ∙ none in cc) in
-      let rest = holds-push slots slot (sym (cond-false (is_pair slot.device slot.stripe front.device front.stripe) (Some front) (slot_at slots slot.device slot.stripe) off) ∙ none) d s in
+      false_from_ne_true (is_pair slot.device slot.stripe front.device front.stripe)
+      (λ is. let lie = sym (cond-true (is_pair slot.device slot.stripe front.device front.stripe) (Some front) (slot_at slots slot.device slot.stripe) is) ∙
+      none in cc) in
+      let rest = holds-push slots slot (sym (cond-false (is_pair slot.device slot.stripe front.device front.stripe) (Some front)
+      (slot_at slots slot.device slot.stripe) off) ∙ none) d s in
       ⊎_elim
       (λ is. let same = pair-is d s front.device front.stripe is in
-      let no : is_pair slot.device slot.stripe d s ≡ false = pair-other slot.device slot.stripe d s (λ e. let lie = pair-itself slot.device slot.stripe front.device front.stripe (same.0 ∙ e.0) (same.1 ∙ e.1) in cc) in
-      cond-true (is_pair d s front.device front.stripe) _ _ is ∙ sym (cond-false (is_pair slot.device slot.stripe d s) _ _ no ∙ cond-true (is_pair d s front.device front.stripe) _ _ is))
+      let no : is_pair slot.device slot.stripe d s ≡ false = pair-other slot.device slot.stripe d s
+      (λ e. let lie = pair-itself slot.device slot.stripe front.device front.stripe (same.0 ∙ e.0) (same.1 ∙ e.1) in cc) in
+      cond-true (is_pair d s front.device front.stripe) _ _ is ∙ sym (cond-false (is_pair slot.device slot.stripe d s) _ _ no ∙ cond-true
+      (is_pair d s front.device front.stripe) _ _ is))
       (λ out. cond-false (is_pair d s front.device front.stripe) _ _ out ∙ rest
-      ∙ ap (λ o. cond (is_pair slot.device slot.stripe d s) (Some slot) o) (sym (cond-false (is_pair d s front.device front.stripe) (Some front) (slot_at slots d s) out)))
+      ∙ ap (λ o. cond (is_pair slot.device slot.stripe d s) (Some slot) o)
+      (sym (cond-false (is_pair d s front.device front.stripe) (Some front) (slot_at slots d s) out)))
       (cases_Bool (is_pair d s front.device front.stripe))
 
   pub fills : (old new : List (Slot V)) (device stripe : ℕ) (slot : Slot V) → Holds old new device stripe slot → Fills old new device stripe slot.volume
   fills old new device stripe slot holds = record {
     rests = λ d s. ap (λ o. option_and_then (λ (slot : Slot V). slot.volume) o) (holds d s) ∙ volume (is_pair device stripe d s) (slot_at old d s);
-    out = λ d s. ap (λ o. unwrap_or (option_map (λ (slot : Slot V). is_none slot.volume) o) false) (holds d s) ∙ empty (is_pair device stripe d s) (slot_at old d s);
+    out = λ d s. ap (λ o. unwrap_or (option_map (λ (slot : Slot V). is_none slot.volume) o) false) (holds d s) ∙ empty (is_pair device stripe d s)
+        (slot_at old d s);
   }
     where
-      volume : (b : Bool) (o : Option (Slot V)) → option_and_then (λ (slot : Slot V). slot.volume) (cond b (Some slot) o) ≡ cond b slot.volume (option_and_then (λ (slot : Slot V). slot.volume) o)
+      volume : (b : Bool) (o : Option (Slot V)) → option_and_then (λ (slot : Slot V). slot.volume) (cond b (Some slot) o) ≡ cond b slot.volume
+          (option_and_then (λ (slot : Slot V). slot.volume) o)
       volume true o = refl
       volume false o = refl
 
-      empty : (b : Bool) (o : Option (Slot V)) → unwrap_or (option_map (λ (slot : Slot V). is_none slot.volume) (cond b (Some slot) o)) false ≡ cond b (is_none slot.volume) (unwrap_or (option_map (λ (slot : Slot V). is_none slot.volume) o) false)
+      empty : (b : Bool) (o : Option (Slot V)) → unwrap_or (option_map (λ (slot : Slot V). is_none slot.volume) (cond b (Some slot) o)) false ≡ cond b
+          (is_none slot.volume) (unwrap_or (option_map (λ (slot : Slot V). is_none slot.volume) o) false)
       empty true o = refl
       empty false o = refl
 
@@ -104,7 +121,8 @@ module _ {V : Type 0} where
       (cases_lt (position_or_len p slots) (length slots)) in
       find_at p slots ∙ ap (λ k. slice_get slots k) same ∙ slice_get-get_or slots i x first.0
 
-  pub not_found : (slots : List (Slot V)) (device stripe : ℕ) → position (λ slot. is_pair device stripe slot.device slot.stripe) slots ≡ None → slot_at slots device stripe ≡ None
+  pub not_found : (slots : List (Slot V)) (device stripe : ℕ) → position (λ slot. is_pair device stripe slot.device slot.stripe) slots ≡ None →
+      slot_at slots device stripe ≡ None
   not_found slots device stripe is =
       let p = λ (slot : Slot V). is_pair device stripe slot.device slot.stripe in
       ⊎_elim
@@ -112,7 +130,8 @@ module _ {V : Type 0} where
       (λ past. find_at p slots ∙ slice_get_past slots (position_or_len p slots) past)
       (cases_lt (position_or_len p slots) (length slots))
 
-  pub fills-set : (slots : List (Slot V)) (device stripe i : ℕ) (w : Option V) (x : Slot V) → position (λ slot. is_pair device stripe slot.device slot.stripe) slots ≡ Some i
+  pub fills-set : (slots : List (Slot V)) (device stripe i : ℕ) (w : Option V) (x : Slot V) →
+      position (λ slot. is_pair device stripe slot.device slot.stripe) slots ≡ Some i
       → Fills slots (set slots i (record (get_or slots i x) { volume = w })) device stripe w
   fills-set slots device stripe i w x is =
       let first = position-Some (λ (slot : Slot V). is_pair device stripe slot.device slot.stripe) slots i x is in
@@ -121,9 +140,12 @@ module _ {V : Type 0} where
   pub fills-push : (slots : List (Slot V)) (device stripe : ℕ) (w : Option V) → position (λ slot. is_pair device stripe slot.device slot.stripe) slots ≡ None
       → Fills slots (slots ++ record { device = device; stripe = stripe; volume = w } ∷ []) device stripe w
   fills-push slots device stripe w is =
-      fills slots _ device stripe (record { device = device; stripe = stripe; volume = w }) (holds-push slots (record { device = device; stripe = stripe; volume = w }) (not_found slots device stripe is))
+      fills slots _ device stripe (record { device = device; stripe = stripe; volume = w })
+      (holds-push slots (record { device = device; stripe = stripe; volume = w }) (not_found slots device stripe is))
 
   -- what was found in the same list
-  pub looked_up : (slots at : List (Slot V)) (device stripe : ℕ) (o : Option ℕ) → at ≡ slots → o ≡ position (λ slot. is_pair device stripe slot.device slot.stripe) at
+  pub looked_up : (slots at : List (Slot V)) (device stripe : ℕ) (o : Option ℕ) → at ≡ slots →
+      o ≡ position (λ slot. is_pair device stripe slot.device slot.stripe) at
       → position (λ slot. is_pair device stripe slot.device slot.stripe) slots ≡ o
-  looked_up slots at device stripe o same is = sym (subst (λ (xs : List (Slot V)). o ≡ position (λ slot. is_pair device stripe slot.device slot.stripe) xs) same is)
+  looked_up slots at device stripe o same is = sym (subst (λ (xs : List (Slot V)). o ≡ position (λ slot. is_pair device stripe slot.device slot.stripe) xs) same
+      is)

@@ -36,4 +36,5 @@ IsGiven stores name result = MatchBool (is_failing stores.failing stores.calls) 
 abbrev pub IsStart : StoresState → ℕ → ℕ → Result MemState StoreError → Type 0
 IsStart stores device stripe result =
     MatchBool (is_failing stores.failing stores.calls) (result ≡ Err errors.Failed)
-    (MatchResult result (StartsFrom IsFresh (rests_in stores.volumes device stripe)) (λ error. (error ≡ errors.NoMemory) × (rests_in stores.volumes device stripe ≡ None)))
+    (MatchResult result (StartsFrom IsFresh (rests_in stores.volumes device stripe))
+    (λ error. (error ≡ errors.NoMemory) × (rests_in stores.volumes device stripe ≡ None)))

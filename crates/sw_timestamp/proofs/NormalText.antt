@@ -24,7 +24,8 @@ pub AllDigits-last_digits : (count n : ℕ) → AllDigits 10 (last_digits count 
 unfolding last_digits
 AllDigits-last_digits zero n = tt
 AllDigits-last_digits (suc count) n =
-    digits_push 10 (last_digits count (n / 10)) (48 + n % 10) (AllDigits-last_digits count (n / 10)) (rw (digit_value-digit (n % 10) (omega arith)) (omega arith))
+    digits_push 10 (last_digits count (n / 10)) (48 + n % 10) (AllDigits-last_digits count (n / 10))
+    (rw (digit_value-digit (n % 10) (omega arith)) (omega arith))
 
 pub digits_value-last_digits : (count n : ℕ) → n < 10 ^ count → digits_value 10 (last_digits count n) ≡ n
 unfolding last_digits
@@ -43,7 +44,8 @@ unfolding last_digits
 last_digits-zero n = refl
 
 -- what two writes of digits round a point leave
-written_round : (whole part tail : List ℕ) → length whole ≡ 10 → length part ≡ 5 → length tail ≡ 6 → put_mid 11 5 (set (whole ++ tail) 10 46) part ≡ whole ++ 46 ∷ part
+written_round : (whole part tail : List ℕ) → length whole ≡ 10 → length part ≡ 5 → length tail ≡ 6 →
+    put_mid 11 5 (set (whole ++ tail) 10 46) part ≡ whole ++ 46 ∷ part
 written_round whole part [] ten five six = absurd (omega arith)
 written_round whole part (x ∷ r) ten five six =
     let pointed : set (whole ++ x ∷ r) 10 46 ≡ (whole ++ 46 ∷ []) ++ r = set_at whole x r 46 10 ten ∙ sym (append_assoc whole (46 ∷ []) r) in
@@ -52,7 +54,8 @@ written_round whole part (x ∷ r) ten five six =
     let back : drop 5 r ≡ [] = drop_all 5 r (omega arith) in
     rw (pointed, front, middle, back, append-nil, append_assoc) refl
 
-pub written : (whole part old : List ℕ) → length whole ≡ 10 → length part ≡ 5 → length old ≡ 16 → put_mid 11 5 (set (whole ++ drop 10 old) 10 46) part ≡ whole ++ 46 ∷ part
+pub written : (whole part old : List ℕ) → length whole ≡ 10 → length part ≡ 5 → length old ≡ 16 →
+    put_mid 11 5 (set (whole ++ drop 10 old) 10 46) part ≡ whole ++ 46 ∷ part
 written whole part old ten five sixteen = written_round whole part (drop 10 old) ten five (grind (arith, common_steps))
 
 -- as `write_normal` writes them
@@ -64,8 +67,10 @@ normal_written units old whole part sixteen is_whole is_part =
     let ten : length (take 10 old) ≡ 10 = length-take-le 10 old (omega arith) in
     let length_whole : length whole ≡ 10 = ap length is_whole ∙ length-last_digits (length (take 10 old)) (units / 100000) ∙ ten in
     let all : length (set (whole ++ drop 10 old) 10 46) ≡ 16 = length-set (whole ++ drop 10 old) 10 46 ∙ grind (arith, common_steps) in
-    let five : length (mid_of 11 5 (set (whole ++ drop 10 old) 10 46)) ≡ 5 = length-take-le 5 (drop 11 (set (whole ++ drop 10 old) 10 46)) (rw length-drop (omega arith)) in
-    let length_part : length part ≡ 5 = ap length is_part ∙ length-last_digits (length (mid_of 11 5 (set (whole ++ drop 10 old) 10 46))) (units % 100000) ∙ five in
+    let five : length (mid_of 11 5 (set (whole ++ drop 10 old) 10 46)) ≡ 5 =
+    length-take-le 5 (drop 11 (set (whole ++ drop 10 old) 10 46)) (rw length-drop (omega arith)) in
+    let length_part : length part ≡ 5 = ap length is_part ∙ length-last_digits (length (mid_of 11 5 (set (whole ++ drop 10 old) 10 46))) (units % 100000) ∙ five
+    in
     let ten_digits : whole ≡ last_digits 10 (units / 100000) = is_whole ∙ ap (λ (n : ℕ). last_digits n (units / 100000)) ten in
     let five_digits : part ≡ last_digits 5 (units % 100000) = is_part ∙ ap (λ (n : ℕ). last_digits n (units % 100000)) five in
     written whole part old length_whole length_part sixteen ∙ rw (ten_digits, five_digits) refl

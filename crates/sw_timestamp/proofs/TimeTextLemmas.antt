@@ -50,13 +50,15 @@ with_point-injective : (ds es : List ℕ) → with_point ds ≡ with_point es �
 with_point-injective ds es same = sym (drop-with_point ds) ∙ ap (drop 1) same ∙ drop-with_point es
 
 -- so the digits at its front are those of a time's seconds
-pub are_seconds : (text : List ℕ) (t : ℕ) → IsTimeText text t → AllDigits 10 (take (digit_count text) text) × (1 ≤ length (take (digit_count text) text)) × (length (take (digit_count text) text) ≤ 10)
+pub are_seconds : (text : List ℕ) (t : ℕ) → IsTimeText text t → AllDigits 10 (take (digit_count text) text) × (1 ≤ length (take (digit_count text) text)) ×
+    (length (take (digit_count text) text) ≤ 10)
 are_seconds text t is =
     let P : List ℕ → Type 0 = λ s. AllDigits 10 s × (1 ≤ length s) × (length s ≤ 10) in
     subst P (seconds_are text t is) (is.are_seconds.1, omega arith, is.seconds_fit)
 
 -- and what follows them, but for a point, are decimals
-pub are_decimals : (text decimals : List ℕ) (t : ℕ) → drop (digit_count text) text ≡ with_point decimals → IsTimeText text t → AllDigits 10 decimals × (0 ≤ length decimals) × (length decimals ≤ 5)
+pub are_decimals : (text decimals : List ℕ) (t : ℕ) → drop (digit_count text) text ≡ with_point decimals → IsTimeText text t →
+    AllDigits 10 decimals × (0 ≤ length decimals) × (length decimals ≤ 5)
 are_decimals text decimals t rest is =
     let P : List ℕ → Type 0 = λ s. AllDigits 10 s × (0 ≤ length s) × (length s ≤ 5) in
     subst P (with_point-injective is.decimals decimals (rest_is text t is ∙ rest)) (is.are_decimals, omega arith, is.decimals_fit)
@@ -81,14 +83,17 @@ reads text decimals rest some fit are_decimals decimals_fit = record {
 }
 
 -- so a text is no time's where a part is none
-pub refuses_rest : (text rest : List ℕ) (n t : ℕ) → n ≡ digit_count text → rest ≡ drop n text → ((decimals : List ℕ) → rest ≡ with_point decimals → ⊥) → IsTimeText text t → ⊥
+pub refuses_rest : (text rest : List ℕ) (n t : ℕ) → n ≡ digit_count text → rest ≡ drop n text → ((decimals : List ℕ) → rest ≡ with_point decimals → ⊥) →
+    IsTimeText text t → ⊥
 refuses_rest text rest n t count is_rest none is =
     none is.decimals (is_rest ∙ ap (λ (k : ℕ). drop k text) count ∙ sym (rest_is text t is))
 
-pub refuses_seconds : (text seconds : List ℕ) (n t : ℕ) → n ≡ digit_count text → seconds ≡ take n text → (AllDigits 10 seconds × (1 ≤ length seconds) × (length seconds ≤ 10) → ⊥) → IsTimeText text t → ⊥
+pub refuses_seconds : (text seconds : List ℕ) (n t : ℕ) → n ≡ digit_count text → seconds ≡ take n text →
+    (AllDigits 10 seconds × (1 ≤ length seconds) × (length seconds ≤ 10) → ⊥) → IsTimeText text t → ⊥
 refuses_seconds text seconds n t count are none is =
     none (rw (are, count) (are_seconds text t is))
 
-pub refuses_decimals : (text rest decimals : List ℕ) (n t : ℕ) → n ≡ digit_count text → rest ≡ drop n text → rest ≡ with_point decimals → (AllDigits 10 decimals × (0 ≤ length decimals) × (length decimals ≤ 5) → ⊥) → IsTimeText text t → ⊥
+pub refuses_decimals : (text rest decimals : List ℕ) (n t : ℕ) → n ≡ digit_count text → rest ≡ drop n text → rest ≡ with_point decimals →
+    (AllDigits 10 decimals × (0 ≤ length decimals) × (length decimals ≤ 5) → ⊥) → IsTimeText text t → ⊥
 refuses_decimals text rest decimals n t count is_rest pointed none is =
     none (are_decimals text decimals t (ap (λ (k : ℕ). drop k text) (sym count) ∙ sym is_rest ∙ pointed) is)

@@ -32,7 +32,8 @@ pub scaled_decimals : (decimals : List ℕ) → AllDigits 10 decimals → length
 scaled_decimals decimals are_decimals fit =
     scaled_lt (length decimals) (digits_value 10 decimals) fit (digits_value-lt 10 decimals are_decimals)
 
-pub units_bound : (seconds decimals : List ℕ) → AllDigits 10 seconds → length seconds ≤ 10 → AllDigits 10 decimals → length decimals ≤ 5 → units_of_digits seconds decimals ≤ 999999999999999
+pub units_bound : (seconds decimals : List ℕ) → AllDigits 10 seconds → length seconds ≤ 10 → AllDigits 10 decimals → length decimals ≤ 5 →
+    units_of_digits seconds decimals ≤ 999999999999999
 units_bound seconds decimals are_seconds seconds_fit are_decimals decimals_fit =
     let whole : digits_value 10 seconds < 10000000000 = ten_digits seconds are_seconds seconds_fit in
     let part : digits_value 10 decimals * 10 ^ (5 - length decimals) < 100000 =

@@ -131,7 +131,8 @@ impl Volume for MemVolume {
         ensures lists { self.new.lists ≡ self.old.lists }
         ensures fails { IsSome (failure_at self.old.failing self.old.calls) → IsErr result }
         ensures unmade { failure_at self.old.failing self.old.calls ≡ Some false → result ≡ Err VolumeError.Failed }
-        ensures made { OnFailed result (GoesAs (failure_at self.old.failing self.old.calls) (contents self.old.folders) (contents self.new.folders) dir.now file.now (Some bytes.now)) }
+        ensures made { OnFailed result (GoesAs (failure_at self.old.failing self.old.calls) (contents self.old.folders) (contents self.new.folders) dir.now
+            file.now (Some bytes.now)) }
         ensures plan { self.new.failing ≡ self.old.failing }
     {
         match self.begin() {
@@ -155,7 +156,8 @@ impl Volume for MemVolume {
         ensures calls { self.new.calls ≡ raised self.old.calls }
         ensures lists { self.new.lists ≡ self.old.lists }
         ensures fails { IsSome (failure_at self.old.failing self.old.calls) ↔ IsErr result }
-        ensures made { OnErr result (GoesAs (failure_at self.old.failing self.old.calls) (contents self.old.folders) (contents self.new.folders) dir.now file.now None) }
+        ensures made { OnErr result (GoesAs (failure_at self.old.failing self.old.calls) (contents self.old.folders) (contents self.new.folders) dir.now
+            file.now None) }
         ensures plan { self.new.failing ≡ self.old.failing }
     {
         match self.begin() {

@@ -87,7 +87,8 @@ pub trait Volume {
         bytes: &[u8],
     ) -> Result<(), VolumeError>
         ensures ok { OnOk result (tells self.old ≡ true → Sets (contents (holds self.old)) (contents (holds self.new)) dir.now file.now (Some bytes.now)) }
-        ensures failed { OnFailed result (tells self.old ≡ true → MaySet (contents (holds self.old)) (contents (holds self.new)) dir.now file.now (Some bytes.now)) }
+        ensures failed { OnFailed result (tells self.old ≡ true → MaySet (contents (holds self.old)) (contents (holds self.new)) dir.now file.now
+            (Some bytes.now)) }
         ensures no_memory { OnNoMemory result (tells self.old ≡ true → IsSame (contents (holds self.old)) (contents (holds self.new))) }
         ensures told { tells self.new ≡ tells self.old }
         ensures cause { HasCause (faults self.old) (faults self.new) result }

@@ -12,7 +12,9 @@ returns-in-Some-time_before-clause-is c =
 
 pub returns-in-Some-time_before-2-clause-is : goal.returns-in-Some-time_before-2-clause-is
 returns-in-Some-time_before-2-clause-is c =
-    read_named c.args.text.now (record { time = c.in-Some-time_before-2.time; tag = Meta }) c.in-Some-time_before-2.ensures.bound c.in-Some-time_before-2.ensures.some
+    read_named c.args.text.now (record { time = c.in-Some-time_before-2.time; tag = Meta }) c.in-Some-time_before-2.ensures.bound
+    c.in-Some-time_before-2.ensures.some
 
 pub returns-clause-is : goal.returns-clause-is
-returns-clause-is c = refused_unnamed c.args.text.now (c.in_default.ensures.none refl) (c.in_default-time_before.ensures.none refl) (c.in_default-time_before-2.ensures.none refl)
+returns-clause-is c = refused_unnamed c.args.text.now (c.in_default.ensures.none refl) (c.in_default-time_before.ensures.none refl)
+    (c.in_default-time_before-2.ensures.none refl)

@@ -9,6 +9,8 @@ pub loop-name-preserved : goal.loop-name-preserved
 loop-name-preserved c =
     let front = c.args.names.now in
     let more : take (c.loop-name.name-index + 1) front ≡ take c.loop-name.name-index front ++ c.name-item.result ∷ [] =
-    take_more front c.loop-name.name-index c.name-item.result c.loop-name-test.true ∙ ap (λ x. take c.loop-name.name-index front ++ x ∷ []) (sym c.name-item.is) in
+    take_more front c.loop-name.name-index c.name-item.result c.loop-name-test.true ∙ ap (λ x. take c.loop-name.name-index front ++ x ∷ []) (sym c.name-item.is)
+    in
     subst (λ (l : List FileName). IsGreatestOf l is_base c.greater-greatest.result) (sym more)
-    (IsGreatestOf-push (take c.loop-name.name-index front) is_base c.name-item.result c.loop-name.greatest c.greater-greatest.result c.is_base.result c.is_base.ensures c.greater-greatest.ensures c.loop-name.invariant)
+    (IsGreatestOf-push (take c.loop-name.name-index front) is_base c.name-item.result c.loop-name.greatest c.greater-greatest.result c.is_base.result
+    c.is_base.ensures c.greater-greatest.ensures c.loop-name.invariant)

@@ -12,7 +12,8 @@ use Rattle.sw_hashdir.specs.Partitions.{line_with}
 use Rattle.sw_hashdir.specs.Places.{dir_text}
 use Rattle.sw_hashdir.proofs.Lines.{line-none, line-there, picked-kinds, picked-times}
 use Rattle.sw_hashdir.proofs.comparing.add_line.Goals as goal
-use Rattle.sw_hashdir.proofs.comparing.add_line.Goals.{then-is_some+in_ok-push, then-is_some-via-then-is_some, then-is_some-via-else-is_some+then-is_some-2, else-is_some+else-is_some-2}
+use Rattle.sw_hashdir.proofs.comparing.add_line.Goals.{then-is_some+in_ok-push, then-is_some-via-then-is_some, then-is_some-via-else-is_some+then-is_some-2}
+use Rattle.sw_hashdir.proofs.comparing.add_line.Goals.{else-is_some+else-is_some-2}
 
 pub returns-in_err-picked-clause-only_lists : goal.returns-in_err-picked-clause-only_lists
 returns-in_err-picked-clause-only_lists g c = (1, c.look.ensures.calls, c.look.ensures.lists)

@@ -100,6 +100,7 @@ returns-clause-hashes g c = λ secrets.
     c.into_iter-suffix-iterator.ensures.into_iter_gives.0)
     (subst (λ (left : List ℕ). HashesSoFar c.args.power c.args.part T old keys left c.loop-suffix.hashes.items) c.in-None.ensures.steps.0
     c.loop-suffix.invariant.hashes)
-    (λ told. subst (λ (dir : List ℕ). ListsAll folders (IsFolderIn old dir)) (c.deref.ensures.value ∙ c.in_ok-dir.ensures) (c.in_ok-listing.ensures.folders told))
+    (λ told. subst (λ (dir : List ℕ). ListsAll folders (IsFolderIn old dir)) (c.deref.ensures.value ∙ c.in_ok-dir.ensures)
+    (c.in_ok-listing.ensures.folders told))
     secrets (v.holds c.args.volume.now) (v.tells c.args.volume.now && in_order secrets c.args.power (v.holds c.args.volume.now)) refl
     (λ told. let both = and_parts (v.tells c.args.volume.now) (in_order secrets c.args.power (v.holds c.args.volume.now)) told in (both.1, both.0))

@@ -18,7 +18,8 @@ loop-hash-init g c =
     let v = g.V.Volume in
     let keys : List (List ℕ) = c.into_iter-hash-iterator.result in
     let gives = c.into_iter-hash-iterator.ensures.into_iter_gives in
-    let sorted : IsStrictlySortedBy (slice_cmp nat_cmp) keys = subst (λ (ks : List (List ℕ)). IsStrictlySortedBy (slice_cmp nat_cmp) ks) (sym gives.0) gives.4 in
+    let sorted : IsStrictlySortedBy (slice_cmp nat_cmp) keys = subst (λ (ks : List (List ℕ)). IsStrictlySortedBy (slice_cmp nat_cmp) ks) (sym gives.0) gives.4
+    in
     record {
       lines = subst (λ (l : List DirLine). LinesSoFar c.args.power (v.tells c.args.volume.now ≡ true) (contents (v.holds c.args.volume.now)) keys keys l)
           (sym c.new-lines.ensures.items)

@@ -8,7 +8,8 @@ use Rattle.sw_hashdir.proofs.comparing.lines_of.Given as goal
 -- the lines of the hashes so far
 abbrev pub invariant-loop-hash : goal.invariant-loop-hash
 invariant-loop-hash g l = record {
-  lines : LinesSoFar l.power (g.V.Volume.tells l.fn.volume ≡ true) (contents (g.V.Volume.holds l.fn.volume)) l.initial.hash-iterator l.hash-iterator l.lines.items;
+  lines : LinesSoFar l.power (g.V.Volume.tells l.fn.volume ≡ true) (contents (g.V.Volume.holds l.fn.volume)) l.initial.hash-iterator l.hash-iterator
+      l.lines.items;
   same : g.V.Volume.tells l.fn.volume ≡ true → IsSame (contents (g.V.Volume.holds l.fn.volume)) (contents (g.V.Volume.holds l.volume));
   told : g.V.Volume.tells l.volume ≡ g.V.Volume.tells l.fn.volume;
   faults : g.V.Volume.faults l.volume ≡ g.V.Volume.faults l.fn.volume;

@@ -4,7 +4,8 @@ use Rattle.hex.specs.Hex.{encode_lower}
 use Rattle.sw_hashpath.specs.HashParts.{partition_of, suffix_of}
 use Rattle.sw_hashdir.proofs.Digits.{hash-is, hash-reads}
 use Rattle.sw_hashdir.proofs.folder.hash_named.Goals as goal
-use Rattle.sw_hashdir.proofs.folder.hash_named.Goals.{else-is_written-via-then-is_written+then-partition-part+else-suffix, else-is_written-via-then-is_written+else-partition-part, else-is_written-via-else-is_written}
+use Rattle.sw_hashdir.proofs.folder.hash_named.Goals.{else-is_written-via-then-is_written+then-partition-part+else-suffix}
+use Rattle.sw_hashdir.proofs.folder.hash_named.Goals.{else-is_written-via-then-is_written+else-partition-part, else-is_written-via-else-is_written}
 
 pub returns-in_default-clause-none : goal.returns-in_default-clause-none
 returns-in_default-clause-none c = λ e hash is.

@@ -17,21 +17,27 @@ loop-folder-preserved c =
     let folder : List ℕ = c.folder-item.result in
     let more : take (c.loop-folder.folder-index + 1) folders ≡ front ++ folder ∷ [] =
     take_more folders c.loop-folder.folder-index folder c.loop-folder-test.true ∙ ap (λ x. front ++ x ∷ []) (sym c.folder-item.is) in
-    λ key. subst (λ (names : List (List ℕ)). Contains c.match-hash_named.set.keys key ↔ HasFolder (IsHashName c.args.power c.args.part c.args.suffix) names key) (sym more)
+    λ key. subst (λ (names : List (List ℕ)). Contains c.match-hash_named.set.keys key ↔ HasFolder (IsHashName c.args.power c.args.part c.args.suffix) names key)
+    (sym more)
     (elim c.match-hash_named.branch [
       | in-Some+in_ok-insert w ↦
-          let named : IsHashName c.args.power c.args.part c.args.suffix folder w.in-Some.hash = subst (λ (n : List ℕ). IsHashName c.args.power c.args.part c.args.suffix n w.in-Some.hash) c.as_slice.ensures w.in-Some.ensures.some in
+          let named : IsHashName c.args.power c.args.part c.args.suffix folder w.in-Some.hash =
+          subst (λ (n : List ℕ). IsHashName c.args.power c.args.part c.args.suffix n w.in-Some.hash) c.as_slice.ensures w.in-Some.ensures.some in
           subst (λ (ks : List (List ℕ)). Contains ks key ↔ HasFolder (IsHashName c.args.power c.args.part c.args.suffix) (front ++ folder ∷ []) key)
           (sym (ap (λ s. s.keys) w.set-is ∙ w.in_ok-insert.ensures.keys))
-          (keys-more (IsHashName c.args.power c.args.part c.args.suffix) front folder (slice_cmp nat_cmp) list_same c.loop-folder.set.keys w.in-Some.hash c.loop-folder.invariant named
+          (keys-more (IsHashName c.args.power c.args.part c.args.suffix) front folder (slice_cmp nat_cmp) list_same c.loop-folder.set.keys w.in-Some.hash
+          c.loop-folder.invariant named
           (λ other is. one-hash c.args.power c.args.part c.args.suffix folder w.in-Some.hash other named is) key)
       | in_default w ↦
-          subst (λ (ks : List (List ℕ)). Contains ks key ↔ HasFolder (IsHashName c.args.power c.args.part c.args.suffix) (front ++ folder ∷ []) key) (sym (ap (λ s. s.keys) w.set-is))
+          subst (λ (ks : List (List ℕ)). Contains ks key ↔ HasFolder (IsHashName c.args.power c.args.part c.args.suffix) (front ++ folder ∷ []) key)
+          (sym (ap (λ s. s.keys) w.set-is))
           (keys-same (IsHashName c.args.power c.args.part c.args.suffix) front folder c.loop-folder.set.keys c.loop-folder.invariant
-          (λ other is. w.in_default.ensures.none refl other (subst (λ (n : List ℕ). IsHashName c.args.power c.args.part c.args.suffix n other) (sym c.as_slice.ensures) is)) key)
+          (λ other is. w.in_default.ensures.none refl other (subst (λ (n : List ℕ). IsHashName c.args.power c.args.part c.args.suffix n other)
+          (sym c.as_slice.ensures) is)) key)
     ])
 
 pub returns : goal.returns
 returns c =
-    subst (λ (names : List (List ℕ)). (key : (List ℕ)) → Contains c.loop-folder.set.keys key ↔ HasFolder (IsHashName c.args.power c.args.part c.args.suffix) names key)
+    subst (λ (names : List (List ℕ)). (key : (List ℕ)) → Contains c.loop-folder.set.keys key ↔ HasFolder (IsHashName c.args.power c.args.part c.args.suffix)
+    names key)
     (take_all c.loop-folder.folder-index c.args.folders.now c.loop-folder-test.false) c.loop-folder.invariant

@@ -19,7 +19,8 @@ loop-folder-preserved c =
     λ key. subst (λ (names : List (List ℕ)). Contains c.match-suffix_named.set.keys key ↔ HasFolder IsSuffixName names key) (sym more)
     (elim c.match-suffix_named.branch [
       | in-Some+in_ok-insert w ↦
-          let named : IsSuffixName folder w.in-Some.suffix = subst (λ (n : List ℕ). IsSuffixName n w.in-Some.suffix) c.as_slice.ensures w.in-Some.ensures.some in
+          let named : IsSuffixName folder w.in-Some.suffix = subst (λ (n : List ℕ). IsSuffixName n w.in-Some.suffix) c.as_slice.ensures w.in-Some.ensures.some
+          in
           subst (λ (ks : List ℕ). Contains ks key ↔ HasFolder IsSuffixName (front ++ folder ∷ []) key)
           (sym (ap (λ s. s.keys) w.set-is ∙ w.in_ok-insert.ensures.keys))
           (keys-more IsSuffixName front folder nat_cmp nat_same c.loop-folder.set.keys w.in-Some.suffix c.loop-folder.invariant named

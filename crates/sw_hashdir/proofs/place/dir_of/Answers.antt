@@ -16,7 +16,8 @@ returns-clause-text c =
     let hash : List ℕ = c.args.hash.now in
     let part : ℕ = partition_of hash c.args.power in
     let is : IsOfPart c.args.power part hash = record { digest = c.hex_text.ensures.rule; part_is = refl } in
-    let front : c.in_ok-dir.dir.items ≡ suffix_dir_text part (suffix_of hash) = c.in_ok-dir.ensures ∙ rw (c.partition.ensures.value, c.suffix.ensures.value) refl in
+    let front : c.in_ok-dir.dir.items ≡ suffix_dir_text part (suffix_of hash) =
+    c.in_ok-dir.ensures ∙ rw (c.partition.ensures.value, c.suffix.ensures.value) refl in
     c.in_ok-extend_from_slice.ensures.items
     ∙ (ap (λ (l : List ℕ). l ++ c.hex_text.result) (c.in_ok-push.ensures.items ∙ ap (λ (l : List ℕ). l ++ 47 ∷ []) front)
     ∙ (ap (λ (l : List ℕ). (suffix_dir_text part (suffix_of hash) ++ 47 ∷ []) ++ l) c.hex_text.ensures.text

@@ -12,9 +12,11 @@ returns-then-branch-clause-taken g c =
 
 pub returns-else-branch-clause-none : goal.returns-else-branch-clause-none
 returns-else-branch-clause-none g c _ =
-    if_some_map _ (HasNoChunked c.args.room) (HasNoBody (Some Chunked) c.args.room) (no_chunks c.args.room) (c.in_ok-take_chunked.ensures.none (ap Ok c.if-branch.false))
+    if_some_map _ (HasNoChunked c.args.room) (HasNoBody (Some Chunked) c.args.room) (no_chunks c.args.room)
+    (c.in_ok-take_chunked.ensures.none (ap Ok c.if-branch.false))
 
 pub returns-in_err-take_chunked-clause-cut : goal.returns-in_err-take_chunked-clause-cut
 returns-in_err-take_chunked-clause-cut g c e =
-    let exit = err_from_is_err_and c.from_residual-in_err-take_chunked.result c.from_residual-in_err-take_chunked.ensures.1 in let given = exit.1 in let same = exit.2 in
+    let exit = err_from_is_err_and c.from_residual-in_err-take_chunked.result c.from_residual-in_err-take_chunked.ensures.1 in let given = exit.1 in let same =
+    exit.2 in
     chunks_body_cut _ _ _ (c.in_err-take_chunked.ensures.cut (cc))

@@ -17,5 +17,6 @@ returns-else-branch-clause-none g c _ =
 
 pub returns-in_err-take_content-clause-cut : goal.returns-in_err-take_content-clause-cut
 returns-in_err-take_content-clause-cut g c e =
-    let exit = err_from_is_err_and c.from_residual-in_err-take_content.result c.from_residual-in_err-take_content.ensures.1 in let given = exit.1 in let same = exit.2 in
+    let exit = err_from_is_err_and c.from_residual-in_err-take_content.result c.from_residual-in_err-take_content.ensures.1 in let given = exit.1 in let same =
+    exit.2 in
     plain_cut _ _ _ _ (c.in_err-take_content.ensures.cut (cc))

@@ -16,8 +16,11 @@ returns-else-line-room-clause-step g c =
 pub returns-then-branch-clause-step : goal.returns-then-branch-clause-step
 returns-then-branch-clause-step g c =
     let some : 0 < c.in-Some.line.size = omega arith in
-    let taken = c.in_ok-take_sized.ensures.taken (ap Ok c.if-branch.true) in
-    (chunk_taken _ _ _ _ _ c.in-Some.line (rw c.in-Some.is at c.in_ok-line.ensures.taken) some taken, omega arith, c.in_ok-take_sized.ensures.fits (ap Ok c.if-branch.true))
+    let taken = c.in_ok-take_sized.ensures.taken (ap Ok c.if-branch.true) in (
+      chunk_taken _ _ _ _ _ c.in-Some.line (rw c.in-Some.is at c.in_ok-line.ensures.taken) some taken,
+      omega arith,
+      c.in_ok-take_sized.ensures.fits (ap Ok c.if-branch.true),
+    )
 
 pub returns-else-branch-clause-step : goal.returns-else-branch-clause-step
 returns-else-branch-clause-step g c =
@@ -35,6 +38,7 @@ returns-in_err-line-clause-cut g c e =
 
 pub returns-in_err-take_sized-clause-cut : goal.returns-in_err-take_sized-clause-cut
 returns-in_err-take_sized-clause-cut g c e =
-    let exit = err_from_is_err_and c.from_residual-in_err-take_sized.result c.from_residual-in_err-take_sized.ensures.1 in let given = exit.1 in let same = exit.2 in
+    let exit = err_from_is_err_and c.from_residual-in_err-take_sized.result c.from_residual-in_err-take_sized.ensures.1 in let given = exit.1 in let same =
+    exit.2 in
     let some : 0 < c.in-Some.line.size = omega arith in
     chunk_cut_data _ _ _ _ _ (rw c.in-Some.is at c.in_ok-line.ensures.taken) some (c.in_err-take_sized.ensures.cut (cc))

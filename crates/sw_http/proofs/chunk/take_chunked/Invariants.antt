@@ -9,7 +9,8 @@ abbrev pub invariant-loop-len : goal.invariant-loop-len
 invariant-loop-len g l = record {
   few : l.left ≤ l.room;
   within : IsWithinLimit l.body;
-  takes : TakesChunks (prepend_known l.initial.held (g.R.Source.left l.initial.source)) (prepend_known l.held (g.R.Source.left l.source)) l.initial.body l.body l.room l.left;
+  takes : TakesChunks (prepend_known l.initial.held (g.R.Source.left l.initial.source)) (prepend_known l.held (g.R.Source.left l.source)) l.initial.body l.body
+      l.room l.left;
   sound : g.R.Source.faults l.source ≡ g.R.Source.faults l.initial.source;
 }
 

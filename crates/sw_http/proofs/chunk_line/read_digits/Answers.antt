@@ -30,7 +30,8 @@ returns-then-branch-eq0-clause-none g c _ =
     let all = subst (λ (l : List ℕ). length l ≤ c.digit_run-run.result) c.rest-in-loop-run.ensures (omega arith) in
     let read = c.in_ok-read_more.ensures.read in
     let none_there = subst HasNoLine (sym (read_none _ _ _ _ _ read c.if-branch-eq0.true)) (no_line_ended _ _ is all) in
-    if_kept _ _ HasNoLine (Keeps-trans _ _ _ c.loop-run.invariant.kept (kept_read _ _ _ _ _ read)) (if_ended _ _ HasNoLine none_there (read.at_end c.if-branch-eq0.true))
+    if_kept _ _ HasNoLine (Keeps-trans _ _ _ c.loop-run.invariant.kept (kept_read _ _ _ _ _ read))
+    (if_ended _ _ HasNoLine none_there (read.at_end c.if-branch-eq0.true))
 
 pub returns-in_err-read_more-clause-cut : goal.returns-in_err-read_more-clause-cut
 returns-in_err-read_more-clause-cut g c _ =

@@ -16,7 +16,8 @@ returns-clause-taken g c =
     let held : List ℕ = c.read_digits.new.held in
     let left = g.R.Source.left c.read_digits.new.source in
     let front = kept_consumes _ _ _ _ c.in_ok-digits.ensures.kept
-    (subst (λ (l : List ℕ). Consumes (prepend_known held left) (prepend_known l left) (take c.in-Some.digits held)) (sym c.advance.ensures) (front_taken held left c.in-Some.digits)) in
+    (subst (λ (l : List ℕ). Consumes (prepend_known held left) (prepend_known l left) (take c.in-Some.digits held)) (sym c.advance.ensures)
+    (front_taken held left c.in-Some.digits)) in
     let size = c.size_of-size.ensures ∙ ap (λ (l : List ℕ). digits_value 16 (take c.in-Some.digits l)) c.rest.ensures in
     line_taken _ _ _ _ _ _ _ (rw c.in-Some.is at c.in_ok-digits.ensures.found) front (rw c.in-Some-2.is at c.in_ok-tail.ensures.taken) size refl
 

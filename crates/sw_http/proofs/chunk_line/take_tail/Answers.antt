@@ -15,11 +15,13 @@ returns-else-branch-clause-none g c _ =
 
 pub returns-in_err-extension-clause-cut : goal.returns-in_err-extension-clause-cut
 returns-in_err-extension-clause-cut g c e =
-    let exit = err_from_is_err_and c.from_residual-in_err-extension.result c.from_residual-in_err-extension.ensures.1 in let given = exit.1 in let same = exit.2 in
+    let exit = err_from_is_err_and c.from_residual-in_err-extension.result c.from_residual-in_err-extension.ensures.1 in let given = exit.1 in let same =
+    exit.2 in
     tail_cut_extension _ _ _ _ _ (rw c.in-Some.is at c.in_ok-pad.ensures.taken) (c.in_err-extension.ensures.cut (cc))
 
 pub returns-in_err-take_line_end-clause-cut : goal.returns-in_err-take_line_end-clause-cut
 returns-in_err-take_line_end-clause-cut g c e =
-    let exit = err_from_is_err_and c.from_residual-in_err-take_line_end.result c.from_residual-in_err-take_line_end.ensures.1 in let given = exit.1 in let same = exit.2 in
+    let exit = err_from_is_err_and c.from_residual-in_err-take_line_end.result c.from_residual-in_err-take_line_end.ensures.1 in let given = exit.1 in
+    let same = exit.2 in
     tail_cut_end _ _ _ _ _ _ _ _ _ (rw c.in-Some.is at c.in_ok-pad.ensures.taken) (rw c.in-Some.is at c.in_ok-pad.ensures.stops)
     (rw c.in-Some-2.is at c.in_ok-extension.ensures.taken) (c.in_err-take_line_end.ensures.cut (cc))

@@ -7,7 +7,8 @@ use Rattle.sw_http.proofs.content.take_content.Given as goal
 abbrev pub invariant-loop-taken : goal.invariant-loop-taken
 invariant-loop-taken g l = record {
   few : l.taken ≤ l.len;
-  takes : TakesBytes (prepend_known l.initial.held (g.R.Source.left l.initial.source)) (prepend_known l.held (g.R.Source.left l.source)) l.initial.body l.body l.taken;
+  takes : TakesBytes (prepend_known l.initial.held (g.R.Source.left l.initial.source)) (prepend_known l.held (g.R.Source.left l.source)) l.initial.body l.body
+      l.taken;
   sound : g.R.Source.faults l.source ≡ g.R.Source.faults l.initial.source;
 }
 

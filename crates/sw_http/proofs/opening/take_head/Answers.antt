@@ -10,5 +10,6 @@ returns-clause-taken g c =
       query = c.in_ok-open.ensures.query;
       fields = c.in_ok-open.ensures.fields;
     } in
-    head_taken _ _ _ _ c.read_head.new.headers c.in-Some.spans c.in_ok-open.open c.read_head.ensures.kept (rw c.in-Some.is at c.in_ok-spans.ensures.found) c.advance.ensures
+    head_taken _ _ _ _ c.read_head.new.headers c.in-Some.spans c.in_ok-open.open c.read_head.ensures.kept (rw c.in-Some.is at c.in_ok-spans.ensures.found)
+    c.advance.ensures
     (subst (λ (b : List ℕ). AreCopied b c.read_head.new.headers c.in-Some.spans c.in_ok-open.open) c.rest.ensures copied)

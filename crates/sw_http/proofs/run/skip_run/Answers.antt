@@ -3,7 +3,8 @@ use Rattle.std.proofs.lemmas.Bool.Decides.{nat_tests}
 use Rattle.std.proofs.lemmas.Result.{err_from_is_err_and}
 use Rattle.std.specs.List.{prefix_len}
 use Rattle.sw_http.specs.Input.{test_of}
-use Rattle.sw_http.proofs.InputLemmas.{run_step, run_step_stops, run_within, run_kept, run_few, run_too_long, run_is_all, all_at_end, kept_read, kept_unread, read_none, no_bytes, run_cut}
+use Rattle.sw_http.proofs.InputLemmas.{run_step, run_step_stops, run_within, run_kept, run_few, run_too_long, run_is_all, all_at_end, kept_read, kept_unread}
+use Rattle.sw_http.proofs.InputLemmas.{read_none, no_bytes, run_cut}
 use Rattle.sw_http.proofs.run.skip_run.Goals as goal
 
 pub returns-then-run-limit-clause-run : goal.returns-then-run-limit-clause-run

@@ -7,7 +7,8 @@ use Rattle.sw_http.proofs.run.skip_run.Given as goal
 abbrev pub invariant-loop-skipped : goal.invariant-loop-skipped
 invariant-loop-skipped g l = record {
   few : l.skipped ≤ l.limit;
-  taken : TakesRun (test_of l.class) (prepend_known l.initial.held (g.R.Source.left l.initial.source)) (prepend_known l.held (g.R.Source.left l.source)) l.skipped;
+  taken : TakesRun (test_of l.class) (prepend_known l.initial.held (g.R.Source.left l.initial.source)) (prepend_known l.held (g.R.Source.left l.source))
+      l.skipped;
   sound : g.R.Source.faults l.source ≡ g.R.Source.faults l.initial.source;
 }
 

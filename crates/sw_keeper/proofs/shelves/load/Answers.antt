@@ -10,4 +10,5 @@ returns-in_ok-tables c =
 
 pub returns-else-is_place_at : goal.returns-else-is_place_at
 returns-else-is_place_at c =
-    sym (absent_tables c.args.shelves.now c.args.place.now c.place_of-index.result c.requires c.place_of-index.ensures.place (sym c.is_place_at.ensures.there ∙ c.if-is_place_at.false))
+    sym (absent_tables c.args.shelves.now c.args.place.now c.place_of-index.result c.requires c.place_of-index.ensures.place
+    (sym c.is_place_at.ensures.there ∙ c.if-is_place_at.false))

@@ -19,7 +19,8 @@ returns-then-is_empty c = elim c.then-is_empty.branch [
 
 pub returns-then-not-is_ascii_digit : goal.returns-then-not-is_ascii_digit
 returns-then-not-is_ascii_digit c =
-    no_length_by_digit _ (list_all_at is_ascii_digit c.args.value.now c.loop-digit.digit-index 0 c.loop-digit-test.true (sym c.if-not-is_ascii_digit.ensures.value))
+    no_length_by_digit _ (list_all_at is_ascii_digit c.args.value.now c.loop-digit.digit-index 0 c.loop-digit-test.true
+    (sym c.if-not-is_ascii_digit.ensures.value))
 
 pub loop-digit-preserved : goal.loop-digit-preserved
 loop-digit-preserved c =
@@ -43,13 +44,15 @@ returns c =
 
 pub overflow_mul-number : goal.overflow_mul-number
 overflow_mul-number c =
-    let few : length (take c.loop-digit.digit-index c.args.value.now) ≤ 17 = omega (arith, length-take-le c.loop-digit.digit-index c.args.value.now (omega arith)) in
+    let few : length (take c.loop-digit.digit-index c.args.value.now) ≤ 17 =
+    omega (arith, length-take-le c.loop-digit.digit-index c.args.value.now (omega arith)) in
     let small = short_number (take c.loop-digit.digit-index c.args.value.now) c.loop-digit.invariant.numeral few in
     omega (arith, small, c.loop-digit.invariant.value)
 
 pub overflow_add-number : goal.overflow_add-number
 overflow_add-number c =
-    let few : length (take c.loop-digit.digit-index c.args.value.now) ≤ 17 = omega (arith, length-take-le c.loop-digit.digit-index c.args.value.now (omega arith)) in
+    let few : length (take c.loop-digit.digit-index c.args.value.now) ≤ 17 =
+    omega (arith, length-take-le c.loop-digit.digit-index c.args.value.now (omega arith)) in
     let small = short_number (take c.loop-digit.digit-index c.args.value.now) c.loop-digit.invariant.numeral few in
     let digit : digit_value (get_or c.args.value.now c.loop-digit.digit-index 0) ≡ c.from.result = grind (arith, nat_tests) in
     let less : digit_value (get_or c.args.value.now c.loop-digit.digit-index 0) < 10 = grind (arith, nat_tests) in

@@ -15,7 +15,8 @@ loop-suffix-preserved g c =
     record {
       nodes = nodes-on c.args.device c.args.part (get_or items i 0) (s c.args.door.now) (s c.loop-suffix.door) (Ok c.in-Ok.more) (s c.read_suffix.new.door)
           c.loop-suffix.invariant.nodes c.in-Ok.ensures;
-      read = subst (λ (l : List DirLine). AreFilesRead c.args.device c.args.part (take (i + 1) items) (s c.args.door.now) l (s c.read_suffix.new.door)) (sym found)
+      read = subst (λ (l : List DirLine). AreFilesRead c.args.device c.args.part (take (i + 1) items) (s c.args.door.now) l (s c.read_suffix.new.door))
+          (sym found)
           (read-next c.args.device c.args.part items i c.loop-suffix-test.true (s c.args.door.now) c.loop-suffix.lines.items (s c.loop-suffix.door)
           c.loop-suffix.invariant.read (s c.read_suffix.new.door) c.in-Ok.more c.in-Ok.ensures);
     }
@@ -26,7 +27,8 @@ returns-in_err-extend_from_slice-in-Ok-clause-err g c =
     let s = g.D.Door.sight in
     let items = c.as_slice-suffix-items.result.now in
     told c.from_residual.result
-    (subst (λ (suffixes : List ℕ). AreSomeRead c.args.device c.args.part suffixes (s c.args.door.now) (s c.read_suffix.new.door)) c.as_slice-suffix-items.ensures.value
+    (subst (λ (suffixes : List ℕ). AreSomeRead c.args.device c.args.part suffixes (s c.args.door.now) (s c.read_suffix.new.door))
+    c.as_slice-suffix-items.ensures.value
     (some-read c.args.device c.args.part items c.loop-suffix.suffix-index c.loop-suffix-test.true (s c.args.door.now) c.loop-suffix.lines.items
     (s c.loop-suffix.door) c.loop-suffix.invariant.read (s c.read_suffix.new.door) c.in-Ok.more c.in-Ok.ensures))
 
@@ -35,6 +37,7 @@ pub returns-in-Err-clause-ok : goal.returns-in-Err-clause-ok
 returns-in-Err-clause-ok g c =
     let s = g.D.Door.sight in
     let items = c.as_slice-suffix-items.result.now in
-    subst (λ (suffixes : List ℕ). IsStopped c.args.device c.args.part suffixes (s c.args.door.now) c.in-Err.fault (s c.read_suffix.new.door)) c.as_slice-suffix-items.ensures.value
+    subst (λ (suffixes : List ℕ). IsStopped c.args.device c.args.part suffixes (s c.args.door.now) c.in-Err.fault (s c.read_suffix.new.door))
+    c.as_slice-suffix-items.ensures.value
     (stopped c.args.device c.args.part items c.loop-suffix.suffix-index c.loop-suffix-test.true (s c.args.door.now) c.loop-suffix.lines.items
     (s c.loop-suffix.door) c.loop-suffix.invariant.read (s c.read_suffix.new.door) c.in-Err.fault c.in-Err.ensures)

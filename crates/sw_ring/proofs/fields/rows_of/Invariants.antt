@@ -5,4 +5,5 @@ use Rattle.sw_ring.specs.Shapes.{items_in, row_in}
 use Rattle.sw_ring.proofs.fields.rows_of.Given as goal
 
 abbrev pub invariant-loop-item : goal.invariant-loop-item
-invariant-loop-item l = option_map (λ rest. l.rows.items ++ rest) (items_in row_in (items_view (drop l.item-index l.items))) ≡ items_in row_in (items_view l.items)
+invariant-loop-item l = option_map (λ rest. l.rows.items ++ rest) (items_in row_in (items_view (drop l.item-index l.items))) ≡ items_in row_in
+    (items_view l.items)

@@ -13,5 +13,6 @@ pub returns-clause-rests : goal.returns-clause-rests
 returns-clause-rests g c =
     let s = g.S.Stores in
     let count : c.len-count.result ≡ length c.args.volumes.items = omega (arith, c.len-count.ensures) in
-    restarted-rests s.first (s.rests c.give_range.new.stores) (s.rests c.start_range.new.stores) c.args.stripes c.args.first c.len-count.result c.args.volumes.items c.start_range.result
+    restarted-rests s.first (s.rests c.give_range.new.stores) (s.rests c.start_range.new.stores) c.args.stripes c.args.first c.len-count.result
+    c.args.volumes.items c.start_range.result
     (omega arith) count c.give_range.ensures.rests c.start_range.ensures.rests

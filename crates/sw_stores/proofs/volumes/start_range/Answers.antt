@@ -8,20 +8,26 @@ start-requires g c =
     let s = g.S.Stores in
     let place = c.args.first + c.loop-index.index in
     let home = next-home s.first (s.rests c.args.stores.now) (s.rests c.loop-index.stores) (s.out c.args.stores.now) (s.out c.loop-index.stores)
-    c.args.stripes c.args.first c.loop-index.index c.args.count c.loop-index.volumes.items (omega arith) (omega arith) c.requires.home c.loop-index.invariant.begun in
+    c.args.stripes c.args.first c.loop-index.index c.args.count c.loop-index.volumes.items (omega arith) (omega arith) c.requires.home
+    c.loop-index.invariant.begun in
     subst (λ x. s.out c.loop-index.stores c.pair_of-device.result.0 x ≡ false) (sym c.pair_of-device.ensures.stripe)
     (subst (λ x. s.out c.loop-index.stores x (place % c.args.stripes) ≡ false) (sym c.pair_of-device.ensures.device) home)
 
 pub returns-in-Err-clause-rests : goal.returns-in-Err-clause-rests
 returns-in-Err-clause-rests g c =
     let s = g.S.Stores in
-    undone-rests s.first (s.rests c.args.stores.now) (s.rests c.loop-index.stores) (s.rests c.give_range.new.stores) (s.out c.args.stores.now) (s.out c.loop-index.stores)
+    undone-rests s.first (s.rests c.args.stores.now) (s.rests c.loop-index.stores) (s.rests c.give_range.new.stores) (s.out c.args.stores.now)
+    (s.out c.loop-index.stores)
     c.args.stripes c.args.first c.loop-index.index c.args.count c.loop-index.volumes.items (omega arith) c.loop-index.invariant.begun
     (λ d t apart. c.give_range.ensures.others d t apart ∙ c.in-Err.ensures.rests d t) c.give_range.ensures.rests
 
 pub returns-in-Err-clause-tried : goal.returns-in-Err-clause-tried
-returns-in-Err-clause-tried g c =
-    (c.loop-index.index + 1, omega arith, c.give_range.ensures.calls ∙ c.in-Err.ensures.calls ∙ one_more_call c.loop-index.index _ _ c.loop-index.invariant.calls)
+returns-in-Err-clause-tried g c = (
+  c.loop-index.index + 1,
+  omega arith,
+  c.give_range.ensures.calls ∙ c.in-Err.ensures.calls ∙ one_more_call c.loop-index.index _ _
+      c.loop-index.invariant.calls,
+)
 
 pub loop-index-preserved : goal.loop-index-preserved
 loop-index-preserved g c =

@@ -5,7 +5,8 @@ use Rattle.sw_timestamp.proofs.NormalText.{last_digits-suc, last_digits-zero}
 use Rattle.sw_timestamp.proofs.writing.write_last_digits.Goals as goal
 
 -- one digit more is written
-step : (all out : List ℕ) (at left : ℕ) → 1 ≤ at → at ≤ length out → all ≡ last_digits at left ++ drop at out → all ≡ last_digits (at - 1) (left / 10) ++ drop (at - 1) (set out (at - 1) (48 + left % 10))
+step : (all out : List ℕ) (at left : ℕ) → 1 ≤ at → at ≤ length out → all ≡ last_digits at left ++ drop at out →
+    all ≡ last_digits (at - 1) (left / 10) ++ drop (at - 1) (set out (at - 1) (48 + left % 10))
 step all out zero left some inside before = absurd (omega arith)
 step all out (suc n) left some inside before =
     let here : suc n - 1 ≡ n = omega arith in

@@ -11,7 +11,8 @@ invariant_of-self-in-None c =
 
 pub invariant_of-self-in-Some-true : goal.invariant_of-self-in-Some-true
 invariant_of-self-in-Some-true c =
-    rw c.in_ok-change-in-Some-true.ensures.ok (sorted-batch c.self-in-Some-true.inside.shelves.items c.args.place.now c.args.batch.now c.self-in-Some-true.invariant)
+    rw c.in_ok-change-in-Some-true.ensures.ok (sorted-batch c.self-in-Some-true.inside.shelves.items c.args.place.now c.args.batch.now
+    c.self-in-Some-true.invariant)
 
 pub returns-in_ok-change-in-None-clause-ok : goal.returns-in_ok-change-in-None-clause-ok
 returns-in_ok-change-in-None-clause-ok c =
@@ -20,11 +21,14 @@ returns-in_ok-change-in-None-clause-ok c =
 
 pub returns-in_ok-change-in-Some-true-clause-failed : goal.returns-in_ok-change-in-Some-true-clause-failed
 returns-in_ok-change-in-Some-true-clause-failed c =
-    let shelves : c.self-in-Some-true.inside.shelves.items ≡ c.args.self.now.shelves = ap (λ (s : MemState). s.shelves) (c.self-in-Some-true.view_is ∙ c.begin.ensures.after) in
+    let shelves : c.self-in-Some-true.inside.shelves.items ≡ c.args.self.now.shelves =
+    ap (λ (s : MemState). s.shelves) (c.self-in-Some-true.view_is ∙ c.begin.ensures.after) in
     let now = ap (λ (s : MemState). s.shelves) c.fail.ensures.after ∙ c.in_ok-change-in-Some-true.ensures.ok in
     rw c.into.ensures (λ _. rw (now, shelves) (inr (changes-batch c.args.self.now.shelves c.args.place.now c.args.batch.now (c.requires.fits refl))))
 
 pub returns-in-Some-false-clause-cause : goal.returns-in-Some-false-clause-cause
 returns-in-Some-false-clause-cause c =
     let same : c.begin.new.self.faults ≡ c.args.self.now.faults = ap (λ (s : MemState). s.faults) c.begin.ensures.after in
-    cause_failed c.args.self.now.faults c.fail-in-Some-false.new.self.faults c.into-in-Some-false.result c.into-in-Some-false.ensures (ap (λ (s : MemState). s.faults) c.fail-in-Some-false.ensures.after ∙ ap raised same) (rw same at c.fail-in-Some-false.ensures.later) (rw same at c.fail-in-Some-false.ensures.risen)
+    cause_failed c.args.self.now.faults c.fail-in-Some-false.new.self.faults c.into-in-Some-false.result c.into-in-Some-false.ensures
+    (ap (λ (s : MemState). s.faults) c.fail-in-Some-false.ensures.after ∙ ap raised same) (rw same at c.fail-in-Some-false.ensures.later)
+    (rw same at c.fail-in-Some-false.ensures.risen)

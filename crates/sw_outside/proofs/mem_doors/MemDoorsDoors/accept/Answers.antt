@@ -10,7 +10,8 @@ returns-in_ok-promise-in-Some-clause-accepted c =
     let connection = c.in-Some.connection.now in
     let ends = c.in_ok-ends-in-Some.ends in
     let Comes : MemDoorsState → Type 0 = λ d. next_of d ≡ Some connection in
-    let Grows : MemDoorsState → Type 0 = λ d. accepts_of (record d { accepted = d.accepted + 1 }) ≡ accepts_of c.args.self.now ++ record { source = giving ends.0; sink = taking ends.1 } ∷ [] in
+    let Grows : MemDoorsState → Type 0 = λ d. accepts_of (record d { accepted = d.accepted + 1 }) ≡ accepts_of c.args.self.now ++ record
+    { source = giving ends.0; sink = taking ends.1 } ∷ [] in
     let next : Comes c.args.self.now = subst Comes c.begin.ensures.after (sym c.in-Some.ensures) in
     let grows = accepts-more c.args.self.now connection ends next c.in_ok-ends-in-Some.ensures.0 c.in_ok-ends-in-Some.ensures.1 in
     rw c.in_ok-promise-in-Some.ensures.ok (subst Grows (sym c.self.view_is) (subst Grows (sym c.begin.ensures.after) grows))

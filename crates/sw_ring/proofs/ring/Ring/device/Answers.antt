@@ -10,5 +10,6 @@ returns-in_err-place-clause-known c =
 
 pub returns-clause-known : goal.returns-clause-known
 returns-clause-known c =
-    let at : slice_get c.args.self.now.devices c.in_ok-place.place ≡ Some c.args.name.now = rw (← c.as_slice.ensures) (at_index _ _ _ c.in_ok-place.ensures.here.0 c.in_ok-place.ensures.here.1) in
+    let at : slice_get c.args.self.now.devices c.in_ok-place.place ≡ Some c.args.name.now =
+    rw (← c.as_slice.ensures) (at_index _ _ _ c.in_ok-place.ensures.here.0 c.in_ok-place.ensures.here.1) in
     at_one_place _ _ _ c.args.self.now.distinct_names at

@@ -8,10 +8,13 @@ use Rattle.sw_stores.proofs.volume_shelf.VolumeShelf.rests.Goals as goal
 
 pub returns-in-Some : goal.returns-in-Some
 returns-in-Some g c =
-    let at = found c.self.inside.slots.items c.args.device c.args.stripe c.in-Some.place c.index.result.now (looked_up c.self.inside.slots.items c.deref.result.now c.args.device c.args.stripe (Some c.in-Some.place) c.deref.ensures.value c.in-Some.ensures) in
-    rw (← c.self.view_is) (c.is_some.ensures ∙ sym (ap (λ o. is_some (option_and_then (λ (slot : Slot _). slot.volume) o)) (at ∙ ap Some (sym c.index.ensures))))
+    let at = found c.self.inside.slots.items c.args.device c.args.stripe c.in-Some.place c.index.result.now
+    (looked_up c.self.inside.slots.items c.deref.result.now c.args.device c.args.stripe (Some c.in-Some.place) c.deref.ensures.value c.in-Some.ensures) in
+    rw (← c.self.view_is) (c.is_some.ensures ∙ sym (ap (λ o. is_some (option_and_then (λ (slot : Slot _). slot.volume) o))
+    (at ∙ ap Some (sym c.index.ensures))))
 
 pub returns-in-None : goal.returns-in-None
 returns-in-None g c =
-    let none = not_found c.self.inside.slots.items c.args.device c.args.stripe (looked_up c.self.inside.slots.items c.deref.result.now c.args.device c.args.stripe None c.deref.ensures.value c.in-None.ensures) in
+    let none = not_found c.self.inside.slots.items c.args.device c.args.stripe
+    (looked_up c.self.inside.slots.items c.deref.result.now c.args.device c.args.stripe None c.deref.ensures.value c.in-None.ensures) in
     rw (← c.self.view_is) (sym (ap (λ o. is_some (option_and_then (λ (slot : Slot _). slot.volume) o)) none))

@@ -11,8 +11,13 @@ overflow_mul-units-2 c =
 
 pub overflow_add-units : goal.overflow_add-units
 overflow_add-units c =
-    rw (c.number.ensures, c.number-2.ensures, c.pow.ensures) (omega (arith, ten_digits c.args.seconds.now c.requires.are_seconds.1 c.requires.seconds_fit, scaled_decimals c.args.decimals.now c.requires.are_decimals c.requires.decimals_fit))
+    rw (c.number.ensures, c.number-2.ensures, c.pow.ensures) (omega (
+      arith,
+      ten_digits c.args.seconds.now c.requires.are_seconds.1 c.requires.seconds_fit,
+      scaled_decimals c.args.decimals.now c.requires.are_decimals c.requires.decimals_fit,
+    ))
 
 pub invariant_of-result : goal.invariant_of-result
 invariant_of-result c =
-    rw (c.number.ensures, c.number-2.ensures, c.pow.ensures) (units_bound c.args.seconds.now c.args.decimals.now c.requires.are_seconds.1 c.requires.seconds_fit c.requires.are_decimals c.requires.decimals_fit)
+    rw (c.number.ensures, c.number-2.ensures, c.pow.ensures) (units_bound c.args.seconds.now c.args.decimals.now c.requires.are_seconds.1 c.requires.seconds_fit
+    c.requires.are_decimals c.requires.decimals_fit)
