@@ -1,11 +1,8 @@
 -- The words of the command line. (This project's own.)
-use Rattle.std.specs.Prelude.{ℕ, Bool, false, List, [], ◌∷◌, length, codes, not, ◌&&◌, nat_eq, nat_le, Option, None, Some}
+use Rattle.std.specs.Prelude.{ℕ, Bool, false, List, [], ◌∷◌, length, codes, ◌&&◌, nat_le, Option, None, Some}
 use Rattle.std.specs.Str.{bytes_eq}
-use Rattle.std.specs.List.{list_all, starts_with}
-
--- whether a word names something: it begins with no `-`
-abbrev pub is_plain_word : List ℕ → Bool
-is_plain_word word = not (starts_with nat_eq word (codes "-"))
+use Rattle.std.specs.List.{list_all}
+use Rattle.sw_words.specs.Words.{is_plain_word}
 
 -- whether the words are `run` and a ring
 abbrev pub are_run_words : List (List ℕ) → Bool

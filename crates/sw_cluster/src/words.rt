@@ -1,7 +1,9 @@
 ghost use Rattle.std.specs.Prelude.{◌≡◌, map, IsSome};
 ghost use Rattle.std.specs.Option.{option_copied};
 ghost use Rattle.std.specs.String.{string_bytes};
-ghost use Rattle.sw_cluster.specs.Words.{account_word, are_run_words, are_where_words, container_word, is_plain_word, object_word, ring_word};
+ghost use Rattle.sw_cluster.specs.Words.{account_word, are_run_words, are_where_words, container_word, object_word, ring_word};
+
+use sw_words::is_plain;
 
 /// Whether the words of the command line are those of `run`: the command and a ring.
 pub fn is_run(words: &[String]) -> bool
@@ -34,13 +36,6 @@ pub fn is_where(words: &[String]) -> bool
         }
         _ => false,
     }
-}
-
-/// Whether a word names something: it begins with no `-`.
-fn is_plain(word: &String) -> bool
-    ensures { result ≡ is_plain_word (string_bytes word.now) }
-{
-    !word.as_bytes().starts_with(b"-")
 }
 
 /// The ring that the words of a command name.

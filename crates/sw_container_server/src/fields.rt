@@ -1,41 +1,23 @@
 ghost use Rattle.std.specs.Prelude.{◌≡◌, ◌<◌, ℕ, true, false, IfSome};
 ghost use Rattle.std.specs.Option.{option_copied};
 ghost use Rattle.sw_fields.specs.Fields.{is_type as is_type_text};
-ghost use Rattle.sw_message.specs.Framing.{length_of};
 ghost use Rattle.sw_container_server.specs.RowFields.{IsNumberBelow, IsReplica, etag_in as etag_in_text, etag_of as etag_of_fields, size_of as size_of_fields};
 ghost use Rattle.sw_container_server.specs.RowFields.{type_of as type_of_fields};
 
 use hex::FromHex;
-use sw_message::FieldList;
+use sw_message::{FieldList, length_of};
 use sw_object_server::has_number;
 use sw_outside::is_utf8;
 use sw_ring::Ring;
-
-/// A size has at most so many digits.
-const MAX_SIZE_DIGITS: usize = 18;
 
 /// How many bytes the object of a row has, by X-Size: 1 to 18 digits.
 pub(crate) fn size_of(fields: &FieldList) -> Option<u64>
     ensures { result ≡ size_of_fields fields.now }
 {
-    size_in(fields.value_of(b"x-size")?)
-}
-
-/// The number that 1 to 18 digits write.
-fn size_in(value: &[u8]) -> Option<u64>
-    ensures { result ≡ length_of value.now }
-{
-    if value.is_empty() || value.len() > MAX_SIZE_DIGITS {
-        return None;
+    match length_of(fields.value_of(b"x-size")?) {
+        Some(size) => Some(size as u64),
+        None => None,
     }
-    let mut number: u64 = 0;
-    for digit in value {
-        if !digit.is_ascii_digit() {
-            return None;
-        }
-        number = number * 10 + u64::from(*digit - b'0');
-    }
-    Some(number)
 }
 
 /// The media type of the object of a row, by X-Content-Type: UTF-8, and not empty.

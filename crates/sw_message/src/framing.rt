@@ -64,8 +64,8 @@ pub fn says(name: &[u8], word: &[u8], fields: &FieldList) -> bool
     is_word(word, fields.value_of(name))
 }
 
-/// The number that a Content-Length writes, where it has 1 to 18 digits.
-fn length_of(value: &[u8]) -> Option<usize>
+/// The number that a text writes, where it has 1 to 18 digits, as that of a Content-Length.
+pub fn length_of(value: &[u8]) -> Option<usize>
     ensures { result ≡ length_of value.now }
 {
     if value.is_empty() || value.len() > MAX_LENGTH_DIGITS {

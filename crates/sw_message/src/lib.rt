@@ -21,7 +21,7 @@ mod text;
 mod writer;
 
 pub use fields::{Field, FieldList};
-pub use framing::{Framing, framing_of, is_framed, says};
+pub use framing::{Framing, framing_of, is_framed, length_of, says};
 pub use head::find_head;
 pub use limits::{MAX_FIELDS, MAX_HEAD, MAX_LENGTH_DIGITS};
 pub use look::Look;

@@ -8,4 +8,4 @@ pub mod laws;
 mod number;
 mod serve;
 
-pub use serve::{ServeOptions, serve_options};
+pub use serve::{ServeOptions, is_plain, serve_options};

@@ -57,7 +57,7 @@ fn options_of(words: &[String]) -> Option<ServeOptions>
 }
 
 /// Whether a word names something: it begins with no `-`.
-fn is_plain(word: &String) -> bool
+pub fn is_plain(word: &String) -> bool
     ensures { result ≡ is_plain_word (string_bytes word.now) }
 {
     !word.as_bytes().starts_with(b"-")
