@@ -1,6 +1,9 @@
-use crate::row_list::RowList;
+use sw_outside::Sequence;
 use sw_rows::Row;
 use sw_timestamp::Timestamp;
+
+/// Rows in order.
+pub type RowList = Sequence<Row>;
 
 /// A step that may change a container.
 #[derive(Debug, Drop)]

@@ -1,9 +1,8 @@
 ghost use Rattle.std.specs.Prelude.{◌≡◌, IfOk};
 
 use std::alloc::Global;
-use std::marker::Model;
 use sw_hashpath::Place;
-use sw_outside::NoMemory;
+use sw_outside::{NoMemory, Sequence};
 use sw_rows::Row;
 use sw_timestamp::Timestamp;
 
@@ -34,43 +33,5 @@ impl ContEntry {
     }
 }
 
-/// Entries in order. Contracts see the list of them.
-#[derive(Debug, Drop)]
-pub struct ContEntryList {
-    vec: Vec<ContEntry>,
-}
-
-impl Model for ContEntryList {
-    ghost use Rattle.std.specs.Prelude.{List};
-    ghost use Rattle.sw_container_steps.specs.declared.cont_entry.ContEntry.{ContEntry};
-
-    ghost Value = { List ContEntry };
-
-    ghost view = { λ l. l.vec.items };
-}
-
-impl ContEntryList {
-    pub fn as_slice(&self) -> &[ContEntry]
-        ensures { result.now ≡ self.now }
-    {
-        &self.vec
-    }
-}
-
-/// Moves the entries: no memory is taken.
-impl From<Vec<ContEntry>> for ContEntryList {
-    ghost from_gives = { λ vec entries. entries ≡ vec.items };
-
-    fn from(vec: Vec<ContEntry>) -> ContEntryList {
-        ContEntryList { vec }
-    }
-}
-
-/// Gives the entries back: no memory is taken.
-impl From<ContEntryList> for Vec<ContEntry> {
-    ghost from_gives = { λ entries vec. vec.items ≡ entries };
-
-    fn from(entries: ContEntryList) -> Vec<ContEntry> {
-        entries.vec
-    }
-}
+/// Entries in order.
+pub type ContEntryList = Sequence<ContEntry>;

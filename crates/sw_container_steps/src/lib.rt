@@ -22,15 +22,13 @@ mod merging;
 mod presence;
 mod reading;
 mod refusing;
-mod row_list;
 
 pub use batching::{Entered, batch_of};
 pub use cont_answer::ContAnswer;
-pub use cont_change::ContChange;
+pub use cont_change::{ContChange, RowList};
 pub use cont_entry::{ContEntry, ContEntryList};
 pub use counting::has_numbers;
 pub use deciding::{Decision, decide, made_answer};
 pub use info::Info;
 pub use presence::is_present;
 pub use reading::{info_of, list, times_of};
-pub use row_list::RowList;

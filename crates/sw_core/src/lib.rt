@@ -18,14 +18,12 @@
 
 pub mod laws;
 mod limits;
-mod lines;
 mod making;
 mod parts;
 mod slot;
 mod trail;
 mod world;
 
-pub use lines::LineList;
 pub use parts::Parts;
-pub use trail::{MomentList, Trail};
+pub use trail::{LineList, MomentList, Trail};
 pub use world::World;

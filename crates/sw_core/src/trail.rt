@@ -1,57 +1,14 @@
 ghost use Rattle.std.specs.Prelude.{◌≡◌, []};
 
-use crate::lines::LineList;
 use std::alloc::Global;
-use std::marker::Model;
+use sw_outside::Sequence;
+use sw_peer::KeptLine;
 
-/// Readings of a clock, in seconds since the epoch. Contracts see the list of them.
-#[derive(Drop)]
-pub struct MomentList {
-    vec: Vec<u64>,
-}
+/// What came to the devices, in order: steps, listings of all files and restarts. Contracts see the lines themselves.
+pub type LineList = Sequence<KeptLine>;
 
-impl Model for MomentList {
-    ghost use Rattle.std.specs.Prelude.{ℕ, List};
-
-    ghost Value = { List ℕ };
-
-    ghost view = { λ l. l.vec.items };
-}
-
-impl MomentList {
-    /// A list of no readings. It takes no memory.
-    pub fn new(alloc: Global) -> MomentList
-        ensures { result ≡ [] }
-    {
-        MomentList {
-            vec: Vec::new(alloc),
-        }
-    }
-
-    pub fn as_slice(&self) -> &[u64]
-        ensures { result.now ≡ self.now }
-    {
-        &self.vec
-    }
-}
-
-/// Moves the readings: no memory is taken.
-impl From<Vec<u64>> for MomentList {
-    ghost from_gives = { λ vec list. list ≡ vec.items };
-
-    fn from(vec: Vec<u64>) -> MomentList {
-        MomentList { vec }
-    }
-}
-
-/// Gives the readings back: no memory is taken.
-impl From<MomentList> for Vec<u64> {
-    ghost from_gives = { λ list vec. vec.items ≡ list };
-
-    fn from(list: MomentList) -> Vec<u64> {
-        list.vec
-    }
-}
+/// Readings of a clock, in seconds since the epoch.
+pub type MomentList = Sequence<u64>;
 
 /// What happened in a run: the steps that were made, and the clock's reading for each request, in order.
 #[derive(Drop)]

@@ -10,9 +10,9 @@ mod door;
 mod listing;
 mod slots;
 
-use crate::lines::LineList;
 use crate::parts::Parts;
 use crate::slot::Slot;
+use crate::trail::LineList;
 use crate::world::containers::empty_locks;
 use crate::world::listing::files_in;
 use crate::world::slots::{

@@ -1,8 +1,7 @@
 ghost use Rattle.std.specs.Prelude.{◌≡◌, IfOk};
 
 use std::alloc::Global;
-use std::marker::Model;
-use sw_outside::NoMemory;
+use sw_outside::{NoMemory, Sequence, TryCopy};
 use sw_rows::Row;
 use sw_timestamp::Timestamp;
 
@@ -39,63 +38,11 @@ impl Change {
     }
 }
 
-/// Changes that are made together, in their order. Contracts see the list of them.
-#[derive(Debug, Drop)]
-pub struct Batch {
-    changes: Vec<Change>,
-}
-
-impl Model for Batch {
-    ghost use Rattle.std.specs.Prelude.{List};
-    ghost use Rattle.sw_keeper.specs.declared.batch.Change.{Change};
-
-    ghost Value = { List Change };
-
-    ghost view = { λ b. b.changes.items };
-}
-
-impl Batch {
-    pub fn as_slice(&self) -> &[Change]
-        ensures { result.now ≡ self.now }
-    {
-        &self.changes
-    }
-
-    /// A batch that is equal to this one, or [`NoMemory`].
-    pub fn copy(&self, alloc: Global) -> Result<Batch, NoMemory>
-        ensures { IfOk result (λ copy. copy ≡ self.now) }
-    {
-        Ok(Batch {
-            changes: copy_each(alloc, &self.changes)?,
-        })
+impl TryCopy for Change {
+    fn try_copy(&self, alloc: Global) -> Result<Change, NoMemory> {
+        self.copy(alloc)
     }
 }
 
-/// Copies of these changes, in their order.
-pub(crate) fn copy_each(alloc: Global, changes: &[Change]) -> Result<Vec<Change>, NoMemory>
-    ensures { IfOk result (λ copies. copies.items ≡ changes.now) }
-{
-    let mut copies = Vec::with_capacity(alloc, changes.len())?;
-    for change in changes {
-        copies.push(change.copy(alloc)?)?;
-    }
-    Ok(copies)
-}
-
-/// Moves the changes: no memory is taken.
-impl From<Vec<Change>> for Batch {
-    ghost from_gives = { λ vec batch. batch ≡ vec.items };
-
-    fn from(changes: Vec<Change>) -> Batch {
-        Batch { changes }
-    }
-}
-
-/// Gives the changes back: no memory is taken.
-impl From<Batch> for Vec<Change> {
-    ghost from_gives = { λ batch vec. vec.items ≡ batch };
-
-    fn from(batch: Batch) -> Vec<Change> {
-        batch.changes
-    }
-}
+/// Changes that are made together, in their order.
+pub type Batch = Sequence<Change>;

@@ -1,7 +1,7 @@
 ghost use Rattle.std.specs.Prelude.{◌≡◌, Some, None, IfOk, OnOk, OnErr};
 ghost use Rattle.sw_keeper.specs.Changes.{IsBatch, all_changed, begun};
 
-use crate::batch::{Batch, copy_each};
+use crate::batch::Batch;
 use crate::ledger::{Ledger, make_all};
 use std::alloc::Global;
 use std::marker::Model;
@@ -70,7 +70,7 @@ impl Shelf {
         ensures tables { OnOk result (Some self.new.1 ≡ all_changed (Some self.old.1) batch.now) }
         ensures err { OnErr result (self.new ≡ self.old) }
     {
-        let changes = copy_each(alloc, batch.as_slice())?;
+        let changes = Vec::from(batch.copy(alloc)?);
         self.ledger.list.reserve(changes.len())?;
         make_all(&mut self.ledger, changes);
         Ok(())

@@ -3,8 +3,7 @@ ghost use Rattle.sw_listing.specs.Entries.{entry_text};
 
 use crate::text::Text;
 use std::alloc::Global;
-use std::marker::Model;
-use sw_outside::NoMemory;
+use sw_outside::{NoMemory, Sequence, TryCopy};
 use sw_rows::Row;
 
 /// An entry of a listing.
@@ -38,63 +37,11 @@ impl Entry {
     }
 }
 
-/// A list of entries. Contracts see the list.
-#[derive(Debug, Drop)]
-pub struct Entries {
-    vec: Vec<Entry>,
-}
-
-impl Model for Entries {
-    ghost use Rattle.std.specs.Prelude.{List};
-    ghost use Rattle.sw_listing.specs.declared.entry.Entry.{Entry};
-
-    ghost Value = { List Entry };
-
-    ghost view = { λ e. e.vec.items };
-}
-
-impl Entries {
-    pub fn as_slice(&self) -> &[Entry]
-        ensures { result.now ≡ self.now }
-    {
-        &self.vec
-    }
-
-    /// A list that is equal to this one, or [`NoMemory`].
-    pub fn copy(&self, alloc: Global) -> Result<Entries, NoMemory>
-        ensures { IfOk result (λ copy. copy ≡ self.now) }
-    {
-        Ok(Entries {
-            vec: copy_each(alloc, &self.vec)?,
-        })
+impl TryCopy for Entry {
+    fn try_copy(&self, alloc: Global) -> Result<Entry, NoMemory> {
+        self.copy(alloc)
     }
 }
 
-/// Copies of these entries, in their order.
-fn copy_each(alloc: Global, entries: &[Entry]) -> Result<Vec<Entry>, NoMemory>
-    ensures { IfOk result (λ copies. copies.items ≡ entries.now) }
-{
-    let mut copies = Vec::with_capacity(alloc, entries.len())?;
-    for entry in entries {
-        copies.push(entry.copy(alloc)?)?;
-    }
-    Ok(copies)
-}
-
-/// Moves the list: no memory is taken.
-impl From<Vec<Entry>> for Entries {
-    ghost from_gives = { λ vec entries. entries ≡ vec.items };
-
-    fn from(vec: Vec<Entry>) -> Entries {
-        Entries { vec }
-    }
-}
-
-/// Gives the list back: no memory is taken.
-impl From<Entries> for Vec<Entry> {
-    ghost from_gives = { λ entries vec. vec.items ≡ entries };
-
-    fn from(entries: Entries) -> Vec<Entry> {
-        entries.vec
-    }
-}
+/// A list of entries.
+pub type Entries = Sequence<Entry>;

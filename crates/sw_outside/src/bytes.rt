@@ -1,6 +1,7 @@
 ghost use Rattle.std.specs.Prelude.{◌≡◌, IfOk};
 
 use crate::errors::NoMemory;
+use crate::sequence::TryCopy;
 use std::alloc::Global;
 use std::marker::Model;
 
@@ -50,5 +51,11 @@ impl From<Bytes> for Vec<u8> {
 
     fn from(bytes: Bytes) -> Vec<u8> {
         bytes.vec
+    }
+}
+
+impl TryCopy for Bytes {
+    fn try_copy(&self, alloc: Global) -> Result<Bytes, NoMemory> {
+        Bytes::copy(alloc, self.as_slice())
     }
 }

@@ -7,13 +7,12 @@
 //! counts holds everywhere, since generic code can't raise a count by itself. A [`Clock`] is where the present moment
 //! comes from: its meaning is the list of its readings to come, and it can't fail.
 //!
-//! The same crate has the byte string [`Bytes`] and the list [`BytesList`] of such, the errors [`NoMemory`] and
-//! [`Failed`], the ends in memory that tests use, the plan of calls that fail ([`FailingCall`]), and the adapters over std's
-//! reader, writer and clock. The next layer up is `sw_http`, which reads requests from a source.
+//! The same crate has the byte string [`Bytes`], the list [`Sequence`] of any items, the errors [`NoMemory`] and [`Failed`],
+//! the ends in memory that tests use, the plan of calls that fail ([`FailingCall`]), and the adapters over std's reader,
+//! writer and clock. The next layer up is `sw_http`, which reads requests from a source.
 #![tactic(auto)]
 
 mod bytes;
-mod bytes_list;
 mod clock;
 mod doors;
 mod errors;
@@ -25,6 +24,7 @@ mod mem_sink;
 mod mem_source;
 mod reader_source;
 mod roll;
+mod sequence;
 mod sink;
 mod sound_sink;
 mod sound_source;
@@ -34,7 +34,6 @@ mod text;
 mod writer_sink;
 
 pub use bytes::Bytes;
-pub use bytes_list::BytesList;
 pub use clock::Clock;
 pub use doors::Doors;
 pub use errors::{Failed, NoMemory};
@@ -46,6 +45,7 @@ pub use mem_sink::{FailingPut, MemSink};
 pub use mem_source::MemSource;
 pub use reader_source::ReaderSource;
 pub use roll::Roll;
+pub use sequence::{Sequence, TryCopy};
 pub use sink::Sink;
 pub use sound_sink::SoundSink;
 pub use sound_source::SoundSource;
@@ -53,3 +53,6 @@ pub use source::Source;
 pub use store_error::StoreError;
 pub use text::is_utf8;
 pub use writer_sink::WriterSink;
+
+/// A list of byte strings.
+pub type BytesList = Sequence<Bytes>;

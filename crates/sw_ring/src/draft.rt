@@ -4,10 +4,10 @@ ghost use Rattle.sw_ring.specs.Faults.{first_fault};
 ghost use Rattle.sw_ring.specs.Shapes.{is_sound, ring_in};
 ghost use Rattle.sw_ring.specs.Tables.{data_of};
 
+use crate::NumberRow;
 use crate::bad_ring::BadRing;
 use crate::fields::{has_key_count, names_at, number_at, secrets_of, table_at};
 use crate::narrowing::narrow_table;
-use crate::number_row::NumberRow;
 use crate::ring::Ring;
 use crate::row_checks::{has_equal_names, has_row_with_repeat, has_unknown_device, have_length};
 use serde_json::Value;

@@ -5,7 +5,7 @@ ghost use Rattle.serde_json.specs.Find.{as_array, as_str};
 ghost use Rattle.serde_json.specs.View.{items_view, view};
 ghost use Rattle.sw_ring.specs.Shapes.{field, has_keys, is_device_name, is_name_byte, items_in, list_in, name_in, number_in, row_in, secrets_from};
 
-use crate::number_row::NumberRow;
+use crate::NumberRow;
 use serde_json::Value;
 use std::alloc::Global;
 use sw_hashpath::Secrets;
@@ -156,5 +156,5 @@ fn numbers_of(alloc: Global, items: &[Value]) -> Result<Option<NumberRow>, NoMem
         };
         numbers.push(number)?;
     }
-    Ok(Some(NumberRow::new(numbers)))
+    Ok(Some(NumberRow::from(numbers)))
 }

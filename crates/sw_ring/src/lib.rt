@@ -7,18 +7,23 @@
 #![tactic(auto)]
 
 mod bad_ring;
-mod device_list;
 mod draft;
 mod fields;
 mod narrowing;
-mod number_row;
 mod reading;
 mod ring;
 mod row_checks;
-mod row_table;
 
 pub use bad_ring::{BadRing, RingError};
-pub use device_list::DeviceList;
 pub use reading::read;
 pub use ring::{Ring, Which};
-pub use row_table::RowTable;
+use sw_outside::Sequence;
+
+/// A list of devices, each as its place in the ring's list of devices.
+pub type DeviceList = Sequence<u8>;
+
+/// A table of a ring: for each partition the devices that keep it.
+pub type RowTable = Sequence<DeviceList>;
+
+/// A row as its text has it, with numbers of devices that may be too large.
+pub(crate) type NumberRow = Sequence<u64>;

@@ -2,9 +2,7 @@ ghost use Rattle.std.specs.Prelude.{◌≡◌, ◌≤◌, false, IfOk};
 ghost use Rattle.std.specs.List.{list_any};
 ghost use Rattle.sw_ring.specs.Faults.{has_unknown};
 
-use crate::device_list::DeviceList;
-use crate::number_row::NumberRow;
-use crate::row_table::RowTable;
+use crate::{DeviceList, NumberRow, RowTable};
 use std::alloc::Global;
 use sw_outside::NoMemory;
 

@@ -2,7 +2,7 @@ ghost use Rattle.std.specs.Prelude.{◌≡◌, ℕ, ◌^◌, ◌≤◌, ◌<◌,
 ghost use Rattle.sw_ring.specs.Faults.{has_repeat};
 ghost use Rattle.sw_ring.specs.Rows.{AreGood};
 
-use crate::row_table::RowTable;
+use crate::RowTable;
 use std::alloc::Global;
 use sw_hashpath::Secrets;
 use sw_outside::{Bytes, BytesList, NoMemory};

@@ -2,7 +2,7 @@ ghost use Rattle.std.specs.Prelude.{◌≡◌, length, nat_eq, bytes_eq};
 ghost use Rattle.std.specs.List.{list_all, list_any};
 ghost use Rattle.sw_ring.specs.Faults.{has_repeat, has_unknown};
 
-use crate::number_row::NumberRow;
+use crate::NumberRow;
 use sw_outside::Bytes;
 
 /// Whether each row of a table has this length.
