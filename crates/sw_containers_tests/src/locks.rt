@@ -14,7 +14,8 @@ type Told = Option<(u64, u64)>;
 
 /// Calls of the keeper that fail: which one, and whether it is made all the same. Then what a creation and the merging of a
 /// row are answered, what is told twice after these, and what is told of it once it is opened again; none where the container
-/// is absent, or a call fails.
+/// is absent, or a call fails. The calls are the load and the commit of the creation (0 and 1), the commit of the row over the
+/// tables that stay loaded (2), and the load once it is opened again (3); behind a commit that failed come the loads that settle it.
 const RUNS: [(&[(u64, bool)], &str, u64, &str, u64, Told, Told, Told); 11] = [
     (
         &[],
@@ -53,14 +54,14 @@ const RUNS: [(&[(u64, bool)], &str, u64, &str, u64, Told, Told, Told); 11] = [
         &[(3, false)],
         "New",
         1,
-        "Failed",
-        0,
-        Some((0, 1)),
-        Some((0, 1)),
-        Some((0, 0)),
+        "Done",
+        2,
+        Some((1, 2)),
+        Some((1, 2)),
+        None,
     ),
     (
-        &[(3, true)],
+        &[(2, true)],
         "New",
         1,
         "Failed",
@@ -70,7 +71,7 @@ const RUNS: [(&[(u64, bool)], &str, u64, &str, u64, Told, Told, Told); 11] = [
         Some((1, 0)),
     ),
     (
-        &[(3, true), (4, false)],
+        &[(2, true), (3, false)],
         "New",
         1,
         "Failed",
@@ -90,14 +91,14 @@ const RUNS: [(&[(u64, bool)], &str, u64, &str, u64, Told, Told, Told); 11] = [
         Some((0, 0)),
     ),
     (
-        &[(4, true)],
+        &[(2, false), (3, false)],
         "New",
         1,
-        "Done",
-        2,
+        "Failed",
+        0,
         None,
-        Some((1, 2)),
-        Some((1, 0)),
+        Some((0, 1)),
+        Some((0, 0)),
     ),
 ];
 
