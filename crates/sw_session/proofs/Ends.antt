@@ -1,6 +1,6 @@
 -- How the turns of a session's loop make up a session.
 use Rattle.std.proofs.Common.{◌≡◌, ℕ, ◌+◌, ◌<◌, Bool, List, [], ◌∷◌, ◌++◌, length, Option, Some, None, refl, sym, ap, ◌∙◌, subst}
-use Rattle.std.proofs.Common.{append_assoc, append-nil, length-append, inl, inr, Ok, Err, true, false, ◌⊎◌}
+use Rattle.std.proofs.Common.{append_assoc, append-nil, arith, length-append, inl, inr, Ok, Err, true, false, ◌⊎◌, ◌-◌}
 use Rattle.std.specs.List.{flat_map}
 use Rattle.std.specs.Io.KnownBytes.{Appends, Consumes, IsAtEnd, prepend_known}
 use Rattle.std.proofs.KnownBytes.{Appends-trans, Appends-nil, Consumes-nil, Consumes-trans}
@@ -8,6 +8,7 @@ use Rattle.std.proofs.lemmas.Grind.{flat_map-append}
 use Rattle.std.proofs.lemmas.List.{map-append}
 use Rattle.std.proofs.lemmas.List.Elements.{All-nil, All-push}
 use Rattle.sw_outside.specs.Counts.{raised}
+use Rattle.sw_http.specs.Continue.{puts_after}
 use Rattle.sw_http.specs.Request.{Parts, AreParts, request_of, text_of}
 use Rattle.sw_http.specs.Reading.{BeginsWith}
 use Rattle.sw_message.specs.declared.request.Request.{Request}
@@ -15,6 +16,8 @@ use Rattle.sw_message.specs.declared.response.Response.{Response}
 use Rattle.sw_session.specs.Passages.{Passage}
 use Rattle.sw_session.specs.Replies.{Halts, Serves, Replies, written_for}
 use Rattle.sw_session.specs.Session.{SoFar, Closed, Complete, Full, Broken, HaltedAt, IsSession, IsSound, IsWhole, most_requests}
+use Rattle.sw_session.specs.Session.{PutsBehind, PutsForSession, puts_for}
+use Rattle.sw_session.specs.Turn.{AnswersOne, MayTell, MayTellAndPuts, PutsForTurn, TakesAndPuts, TakesAndTells}
 use Rattle.sw_session.specs.Turn.{CutsReply, HaltsTurn, Idles, IsCounted, IsTurn, Replied, StopsBetween}
 use Rattle.sw_session.specs.declared.server.ServerFault.{ServerFault}
 use Rattle.sw_session.specs.declared.server.ServerFault.TheVariants as servers
@@ -322,3 +325,107 @@ whole may halts start source sink moments after s = by s.0
         → Complete (λ request. false) may start source.before sink.before sink.now moments after × IsAtEnd source.now × IsSound source × IsSound sink
     by (inl complete) = (complete.0, complete.1, s.1, s.2)
     by (inr closed) = let no : false ≡ true = closed.end.1 in cc
+
+-- ---- counts of the sink's calls
+
+-- the loop has come so far: this many requests were answered, and so many calls of the sink there were for them
+pub record PutsSoFar (input rest : Option (List ℕ)) (count calls now : ℕ) : Type 0 where
+  pub requests : List Request
+  pub count_is : length requests ≡ count
+  pub begins : BeginsWith input requests rest
+  pub called : now ≡ puts_for requests calls
+
+-- none, as it begins
+pub none_put : (left : Option (List ℕ)) (calls : ℕ) → PutsSoFar left (prepend_known [] left) 0 calls calls
+none_put None calls = record { requests = []; count_is = refl; begins = begins_with_none None; called = refl }
+none_put (Some bytes) calls = record { requests = []; count_is = refl; begins = begins_with_none (Some bytes); called = refl }
+
+-- the calls for one request more
+puts_for-one : (requests : List Request) (request : Request) (calls : ℕ)
+    → puts_for (requests ++ request ∷ []) calls ≡ raised (puts_after request.fields (puts_for requests calls))
+puts_for-one [] request calls = refl
+puts_for-one (r ∷ requests) request calls = puts_for-one requests request (raised (puts_after r.fields calls))
+
+-- a turn kept one moment more
+one_longer : (moments moments_now : List ℕ) (moment : ℕ) → moments_now ≡ moments ++ moment ∷ [] → length moments_now ≡ length moments + 1
+one_longer moments moments_now moment is = ap length is ∙ length-append moments (moment ∷ [])
+
+-- without the last one there are as many as there were before the turn that kept it
+one_fewer : (moments moments_now : List ℕ) (moment : ℕ) → moments_now ≡ moments ++ moment ∷ [] → length moments ≡ length moments_now - 1
+one_fewer moments moments_now moment is = let longer = one_longer moments moments_now moment is in omega arith
+
+-- the calls of one turn more
+one_put : (input left rest : Option (List ℕ)) (count calls then now : ℕ)
+    → PutsSoFar input left count calls then → TakesAndPuts left rest then now → PutsSoFar input rest (count + 1) calls now
+one_put input left rest count calls then now so_far puts =
+    let one = request_of puts.1.parts in record {
+      requests = so_far.requests ++ one ∷ [];
+      count_is = length-append so_far.requests (one ∷ []) ∙ ap (λ n. n + 1) so_far.count_is;
+      begins = begins_with_more input left rest so_far.requests puts.1.parts so_far.begins puts.1.are_parts puts.1.consumed;
+      called = puts.2 ∙ ap raised (puts.1.told ∙ ap (puts_after one.fields) so_far.called) ∙ sym (puts_for-one so_far.requests one calls);
+    }
+
+-- one request more was answered
+pub turn_put : {S : Type 0} (last : Request → Bool) (may : Serves S) (mid after : S)
+    (input left rest then_taken now_taken : Option (List ℕ)) (moments moments_now : List ℕ) (is_last : Bool) (calls then now : ℕ)
+    → PutsSoFar input left (length moments) calls then → TakesAndPuts left rest then now
+    → AnswersOne last may mid after moments moments_now left rest then_taken now_taken is_last
+    → PutsSoFar input rest (length moments_now) calls now
+turn_put last may mid after input left rest then_taken now_taken moments moments_now is_last calls then now so_far puts turn =
+    subst (λ (n : ℕ). PutsSoFar input rest n calls now) (sym (one_longer moments moments_now turn.0 turn.1))
+    (one_put input left rest (length moments) calls then now so_far puts)
+
+-- behind the requests that were answered, the session ended so
+ends_behind : (input left : Option (List ℕ)) (count same calls then : ℕ) (ends : Option (List ℕ) → ℕ → Type 0)
+    → PutsSoFar input left count calls then → count ≡ same → ends left then → PutsBehind input same calls ends
+ends_behind input left count same calls then ends so_far is end = record {
+  requests = so_far.requests;
+  count_is = so_far.count_is ∙ is;
+  rest = left;
+  begins = so_far.begins;
+  end = subst (ends left) so_far.called end;
+}
+
+-- as many requests were answered as a session has at most
+pub full_put : (input left : Option (List ℕ)) (moments : List ℕ) (calls now : ℕ)
+    → PutsSoFar input left (length moments) calls now → PutsForSession input moments calls now (Err faults.TooLong)
+full_put input left moments calls now so_far = ends_behind input left _ _ calls now (λ rest mid. now ≡ mid) so_far refl refl
+
+-- a turn behind which the session doesn't go on ended it well
+pub well_put : {S : Type 0} (last : Request → Bool) (may : Serves S) (halts : Halts S) (mid after : S)
+    (input left rest then_taken now_taken : Option (List ℕ)) (moments moments_now : List ℕ) (calls then now : ℕ) (turned : Turned)
+    → (turned ≡ turns.Closed) ⊎ (turned ≡ turns.Ended) → PutsSoFar input left (length moments) calls then
+    → IsTurn last may halts mid after moments moments_now left rest then_taken now_taken (Ok turned) → PutsForTurn left rest then now (Ok turned)
+    → PutsForSession input moments_now calls now (Ok tt)
+well_put last may halts mid after input left rest then_taken now_taken moments moments_now calls then now turns.Closed is so_far turn puts =
+    let whole = turn_put last may mid after input left rest then_taken now_taken moments moments_now true calls then now so_far puts turn in
+    ends_behind input rest _ _ calls now (λ rest mid. now ≡ mid) whole refl refl
+well_put last may halts mid after input left rest then_taken now_taken moments moments_now calls then now turns.Ended is so_far turn puts =
+    ends_behind input left _ _ calls then (λ rest mid. now ≡ mid) so_far (ap length (sym turn.0.no_moment)) puts
+well_put last may halts mid after input left rest then_taken now_taken moments moments_now calls then now turns.Answered (inl is) so_far turn puts = cc
+well_put last may halts mid after input left rest then_taken now_taken moments moments_now calls then now turns.Answered (inr is) so_far turn puts = cc
+
+-- a turn that ended the session by a fault ended it so
+pub fault_put : {S : Type 0} (last : Request → Bool) (may : Serves S) (halts : Halts S) (mid after : S)
+    (input left rest then_taken now_taken : Option (List ℕ)) (moments moments_now : List ℕ) (calls then now : ℕ) (fault : SessionFault)
+    → PutsSoFar input left (length moments) calls then
+    → IsTurn last may halts mid after moments moments_now left rest then_taken now_taken (Err fault) → PutsForTurn left rest then now (Err fault)
+    → PutsForSession input moments_now calls now (Err fault)
+fault_put last may halts mid after input left rest then_taken now_taken moments moments_now calls then now faults.ReadFault so_far turn puts =
+    ends_behind input left _ _ calls then (λ rest mid. MayTell rest mid now) so_far (ap length (sym turn.0.no_moment)) puts
+fault_put last may halts mid after input left rest then_taken now_taken moments moments_now calls then now faults.BadInput so_far turn puts =
+    ends_behind input left _ _ calls then (λ rest mid. MayTellAndPuts rest mid now) so_far (ap length (sym turn.0.no_moment)) puts
+fault_put last may halts mid after input left rest then_taken now_taken moments moments_now calls then now faults.WriteFault so_far (inl idles) puts =
+    inl (ends_behind input left _ _ calls then (λ rest mid. MayTellAndPuts rest mid now) so_far (ap length (sym idles.0.no_moment)) puts)
+fault_put last may halts mid after input left rest then_taken now_taken moments moments_now calls then now faults.WriteFault so_far (inr cuts) puts =
+    inr (ends_behind input left _ _ calls then (λ rest mid. MayTellAndPuts rest mid now) so_far (one_fewer moments moments_now cuts.0 cuts.1) puts)
+fault_put last may halts mid after input left rest then_taken now_taken moments moments_now calls then now faults.NoMemory so_far (inl idles) puts =
+    inl (ends_behind input left _ _ calls then (λ rest mid. MayTell rest mid now) so_far (ap length (sym idles.0.no_moment)) puts)
+fault_put last may halts mid after input left rest then_taken now_taken moments moments_now calls then now faults.NoMemory so_far (inr (inl cuts)) puts =
+    inr (ends_behind input left _ _ calls then (λ rest mid. MayTell rest mid now) so_far (one_fewer moments moments_now cuts.0 cuts.1) puts)
+fault_put last may halts mid after input left rest then_taken now_taken moments moments_now calls then now faults.NoMemory so_far (inr (inr halt)) puts =
+    inr (ends_behind input left _ _ calls then (λ rest mid. MayTell rest mid now) so_far (one_fewer moments moments_now halt.0 halt.1) puts)
+fault_put last may halts mid after input left rest then_taken now_taken moments moments_now calls then now faults.ServerFault so_far turn puts =
+    ends_behind input left _ _ calls then (λ left mid. (behind : Option (List ℕ)) × TakesAndTells left behind mid now) so_far
+    (one_fewer moments moments_now turn.0 turn.1) (rest, puts)
+fault_put last may halts mid after input left rest then_taken now_taken moments moments_now calls then now faults.TooLong so_far turn puts = absurd turn

@@ -1,12 +1,17 @@
 -- What one turn of a session's loop leaves.
 use Rattle.std.proofs.Common.{◌≡◌, ℕ, List, [], ◌∷◌, ◌++◌, length, ◌+◌, Bool, Option, Result, Ok, Err, true, false, refl, sym, ap, ◌∙◌, subst, inl, inr}
-use Rattle.std.specs.Io.KnownBytes.{Appends}
+use Rattle.std.proofs.Common.{◌≢◌, Some, None, append_assoc, if◌then◌else◌}
+use Rattle.std.specs.Io.KnownBytes.{Appends, Consumes}
 use Rattle.std.proofs.KnownBytes.{Appends-trans}
 use Rattle.std.proofs.Math.Seq.{take-append-add}
+use Rattle.httparse.specs.Grammar.{print_request}
+use Rattle.sw_outside.specs.Counts.{raised}
 use Rattle.sw_outside.specs.Readings.{Ticks, TicksEach}
 use Rattle.sw_outside.specs.Taken.{AppendsPart}
-use Rattle.sw_http.specs.Continue.{Continues, IsCut, FindsNoRequest, Takes, continue_of}
-use Rattle.sw_http.specs.Request.{request_of}
+use Rattle.sw_http.specs.Body.{print_body}
+use Rattle.sw_http.specs.Continue.{Continues, HasHead, IsCut, FindsNoRequest, Takes, asks_continue, continue_of, puts_after}
+use Rattle.sw_http.specs.Request.{AreParts, Parts, request_of, text_of}
+use Rattle.sw_message.specs.Head.{fields_of}
 use Rattle.sw_message.specs.Reply.{reply_text}
 use Rattle.sw_message.specs.declared.request.Request.{Request}
 use Rattle.sw_message.specs.declared.response.Response.{Response}
@@ -15,7 +20,7 @@ use Rattle.sw_message.specs.declared.writer.WriteFault.TheVariants as writes
 use Rattle.sw_session.specs.Fault.{fault_of, halt_of}
 use Rattle.sw_session.specs.Replies.{Halts, Serves}
 use Rattle.sw_session.specs.Turn.{CutsReply, HaltsTurn, IsCounted, IsReadingFault, IsReceived, IsRefusal, IsTold, IsTurn, RefusesRestPart, Replied}
-use Rattle.sw_session.specs.Turn.{TellsWhole, Turns, refusal}
+use Rattle.sw_session.specs.Turn.{MayTell, PutsForTurn, TakesAndTells, TellsWhole, Turns, refusal}
 use Rattle.sw_session.specs.declared.server.ServerFault.{ServerFault}
 use Rattle.sw_session.specs.declared.server.ServerFault.TheVariants as servers
 use Rattle.sw_session.specs.declared.session.SessionFault.{SessionFault}
@@ -35,6 +40,55 @@ pub counted_after : {A : Type 0} (reads reads_now writes mid now : ℕ) (result 
     → IsCounted reads_now reads_now mid now result → IsCounted reads reads_now writes now result
 counted_after reads reads_now writes mid now result r w counted =
     subst (λ (n : ℕ). IsCounted n reads_now writes now result) r (subst (λ (n : ℕ). IsCounted reads_now reads_now n now result) w counted)
+
+-- ---- counts of the sink's calls
+
+-- a front of what stands in front of the input stands there too
+front_stands : (a b : Option (List ℕ)) (first second third : List ℕ) → Consumes a b (first ++ (second ++ third))
+    → (c : Option (List ℕ)) × Consumes a c (first ++ second)
+front_stands None b first second third stands = (None, tt)
+front_stands (Some x) None first second third stands = absurd stands
+front_stands (Some x) (Some y) first second third stands =
+    let regrouped : (first ++ (second ++ third)) ++ y ≡ (first ++ second) ++ (third ++ y) = simp append_assoc in
+    (Some (third ++ y), stands ∙ regrouped)
+
+-- the head of a request that was taken off the input stood in front of it
+head_stands : (input rest : Option (List ℕ)) (p : Parts) → AreParts p → Consumes input rest (text_of p) → HasHead input p.head
+head_stands input rest p are consumed =
+    let stands = front_stands input rest p.skipped (print_request p.head) (print_body p.body) consumed in
+    record { skipped = p.skipped; are_skipped = are.skipped; is_head = are.head; rest = stands.0; stands = stands.1 }
+
+-- the client of a request that was taken off the input may have been told
+may_tell : (input rest : Option (List ℕ)) (calls told : ℕ) → TakesAndTells input rest calls told → MayTell input calls told
+may_tell input rest calls told takes = by (asks_continue (fields_of takes.parts.head)) refl takes.told
+  where
+    by : (b : Bool) → asks_continue (fields_of takes.parts.head) ≡ b → told ≡ (if b then raised calls else calls) → MayTell input calls told
+    by true asks once = inr (takes.parts.head, head_stands input rest takes.parts takes.are_parts takes.consumed, asks, once)
+    by false unasked same = inl same
+
+-- a request was taken off the input, and its client told
+pub takes_and_tells : (input rest taken mid : Option (List ℕ)) (calls told : ℕ) (request : Request) → Takes input rest taken mid request
+    → told ≡ puts_after request.fields calls → TakesAndTells input rest calls told
+takes_and_tells input rest taken mid calls told request takes is = record {
+  parts = takes.parts;
+  are_parts = takes.are_parts;
+  consumed = takes.consumed;
+  told = subst (λ (q : Request). told ≡ puts_after q.fields calls) takes.request_is is;
+}
+
+-- the server halted at a request
+pub halted_puts : (input rest : Option (List ℕ)) (calls now : ℕ) (fault : ServerFault)
+    → TakesAndTells input rest calls now → PutsForTurn input rest calls now (Err (halt_of fault))
+halted_puts input rest calls now servers.Failed takes = takes
+halted_puts input rest calls now servers.NoMemory takes = may_tell input rest calls now takes
+
+-- the reply was not written whole
+pub broken_puts : (input rest : Option (List ℕ)) (calls told now : ℕ) (fault : WriteFault) → TakesAndTells input rest calls told
+    → (fault ≢ writes.NoMemory → now ≡ raised told) → (fault ≡ writes.NoMemory → now ≡ told)
+    → PutsForTurn input rest calls now (Err (fault_of fault))
+broken_puts input rest calls told now writes.Failed takes once none = (told, may_tell input rest calls told takes, once (λ is. cc))
+broken_puts input rest calls told now writes.NoMemory takes once none =
+    subst (MayTell input calls) (sym (none refl)) (may_tell input rest calls told takes)
 
 -- ---- moments
 

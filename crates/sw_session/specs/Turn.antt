@@ -4,7 +4,7 @@ use Rattle.std.specs.Io.KnownBytes.{Appends, Consumes}
 use Rattle.httparse.specs.Grammar.{RequestHead}
 use Rattle.sw_outside.specs.Counts.{raised}
 use Rattle.sw_outside.specs.Taken.{AppendsPart}
-use Rattle.sw_http.specs.Continue.{BeginsNone, HasHead, MayContinue, Takes, continue_of, continue_text}
+use Rattle.sw_http.specs.Continue.{BeginsNone, HasHead, IsToldOnce, MayContinue, Takes, continue_of, continue_text, puts_after}
 use Rattle.sw_message.specs.Reply.{reply_text}
 use Rattle.sw_http.specs.Request.{Parts, AreParts, request_of, text_of, IsSkipped, IsNoRequest}
 use Rattle.sw_message.specs.declared.request.Request.{Request}
@@ -167,3 +167,57 @@ IsCounted reads reads_now writes writes_now (Err faults.TooLong) = (reads_now �
 IsCounted reads reads_now writes writes_now (Err faults.BadInput) = (reads_now ≡ reads) × (writes_now ≡ writes)
 IsCounted reads reads_now writes writes_now (Err faults.ServerFault) = (reads_now ≡ reads) × (writes_now ≡ writes)
 IsCounted reads reads_now writes writes_now (Err faults.NoMemory) = (reads_now ≡ reads) × (writes_now ≡ writes)
+
+-- ---- counts of the sink's calls
+
+-- the head in front of the input asks to be told, and the sink was called once; or it wasn't called
+abbrev pub MayTell : Option (List ℕ) → ℕ → ℕ → Type 0
+MayTell input calls calls_now = (calls_now ≡ calls) ⊎ IsToldOnce input calls calls_now
+
+-- the same, and then it was called once more
+abbrev pub MayTellAndPuts : Option (List ℕ) → ℕ → ℕ → Type 0
+MayTellAndPuts input calls calls_now = (told : ℕ) × MayTell input calls told × (calls_now ≡ raised told)
+
+-- a request was taken off the input, and the sink was called once where its client waits to be told, and else not
+pub record TakesAndTells (input rest : Option (List ℕ)) (calls calls_now : ℕ) : Type 0 where
+  pub parts : Parts
+  pub are_parts : AreParts parts
+  pub consumed : Consumes input rest (text_of parts)
+  pub told : calls_now ≡ puts_after (request_of parts).fields calls
+
+-- the same, and then it was called once more
+abbrev pub TakesAndPuts : Option (List ℕ) → Option (List ℕ) → ℕ → ℕ → Type 0
+TakesAndPuts input rest calls calls_now = (told : ℕ) × TakesAndTells input rest calls told × (calls_now ≡ raised told)
+
+-- how many calls of the sink there were and are now, once a rest was refused: one more, and none where memory ran out before it
+abbrev pub PutsForRefusal : ℕ → ℕ → Result (Option Request) SessionFault → Type 0
+PutsForRefusal calls calls_now (Err faults.BadInput) = calls_now ≡ raised calls
+PutsForRefusal calls calls_now (Err faults.WriteFault) = calls_now ≡ raised calls
+PutsForRefusal calls calls_now (Err faults.NoMemory) = calls_now ≡ calls
+PutsForRefusal calls calls_now (Err faults.ReadFault) = ⊥
+PutsForRefusal calls calls_now (Err faults.TooLong) = ⊥
+PutsForRefusal calls calls_now (Err faults.ServerFault) = ⊥
+PutsForRefusal calls calls_now (Ok request) = ⊥
+
+-- the same, once one request was read: behind what its client may be told, a refusal is one call more; and a write that failed is the last call
+abbrev pub PutsForReading : Option (List ℕ) → ℕ → ℕ → Result (Option Request) SessionFault → Type 0
+PutsForReading input calls calls_now (Ok (Some request)) = calls_now ≡ puts_after request.fields calls
+PutsForReading input calls calls_now (Ok None) = calls_now ≡ calls
+PutsForReading input calls calls_now (Err faults.BadInput) = MayTellAndPuts input calls calls_now
+PutsForReading input calls calls_now (Err faults.ReadFault) = MayTell input calls calls_now
+PutsForReading input calls calls_now (Err faults.WriteFault) = MayTellAndPuts input calls calls_now
+PutsForReading input calls calls_now (Err faults.NoMemory) = MayTell input calls calls_now
+PutsForReading input calls calls_now (Err faults.TooLong) = ⊥
+PutsForReading input calls calls_now (Err faults.ServerFault) = ⊥
+
+-- the same for a whole turn: a reply is one call more, and none is made for it where the server halts or memory runs out
+abbrev pub PutsForTurn : Option (List ℕ) → Option (List ℕ) → ℕ → ℕ → Result Turned SessionFault → Type 0
+PutsForTurn input rest calls calls_now (Ok turns.Answered) = TakesAndPuts input rest calls calls_now
+PutsForTurn input rest calls calls_now (Ok turns.Closed) = TakesAndPuts input rest calls calls_now
+PutsForTurn input rest calls calls_now (Ok turns.Ended) = calls_now ≡ calls
+PutsForTurn input rest calls calls_now (Err faults.BadInput) = MayTellAndPuts input calls calls_now
+PutsForTurn input rest calls calls_now (Err faults.ReadFault) = MayTell input calls calls_now
+PutsForTurn input rest calls calls_now (Err faults.WriteFault) = MayTellAndPuts input calls calls_now
+PutsForTurn input rest calls calls_now (Err faults.NoMemory) = MayTell input calls calls_now
+PutsForTurn input rest calls calls_now (Err faults.TooLong) = ⊥
+PutsForTurn input rest calls calls_now (Err faults.ServerFault) = TakesAndTells input rest calls calls_now

@@ -2,9 +2,9 @@ ghost use Rattle.std.specs.Prelude.{◌≡◌, ℕ, List, OnOk, Option, None, Ok
 ghost use Rattle.std.specs.Io.KnownBytes.{IsAtEnd, prepend_known};
 ghost use Rattle.sw_outside.specs.Readings.{TicksEach};
 ghost use Rattle.sw_session.specs.Passages.{passage};
-ghost use Rattle.sw_session.specs.Session.{IsSession};
+ghost use Rattle.sw_session.specs.Session.{IsSession, PutsForSession};
 ghost use Rattle.sw_session.specs.declared.session.Turned.TheVariants as turns;
-ghost use Rattle.sw_session.specs.Turn.{IsCounted, IsReceived, IsRefusal, IsTurn};
+ghost use Rattle.sw_session.specs.Turn.{IsCounted, IsReceived, IsRefusal, IsTurn, PutsForReading, PutsForRefusal, PutsForTurn};
 
 use crate::server::{Server, ServerFault};
 use std::alloc::Global;
@@ -62,6 +62,7 @@ impl From<ServerFault> for SessionFault {
 fn refuse<W: Sink>(alloc: Global, out: &mut W) -> Result<Option<Request>, SessionFault>
     ensures refused { IsRefusal (W.taken out.old) (W.taken out.new) result }
     ensures counted { (reads : ℕ) → IsCounted reads reads (W.faults out.old) (W.faults out.new) result }
+    ensures puts { PutsForRefusal (W.calls out.old) (W.calls out.new) result }
 {
     match write_response(alloc, out, &refusal(alloc)) {
         Ok(()) => Err(SessionFault::BadInput),
@@ -81,6 +82,7 @@ fn receive<R: Source, W: Sink>(
         (W.taken out.new) result }
     ensures at_end { result ≡ Ok None → IsAtEnd (R.left source.new) }
     ensures counted { IsCounted (R.faults source.old) (R.faults source.new) (W.faults out.old) (W.faults out.new) result }
+    ensures puts { PutsForReading (prepend_known held.old (R.left source.old)) (W.calls out.old) (W.calls out.new) result }
 {
     match next_request(alloc, held, source, out) {
         Ok(request) => Ok(request),
@@ -123,6 +125,8 @@ fn turn<V: Server, R: Source, W: Sink, C: Clock>(
         → TicksEach start (C.readings clock.new) moments.new.items }
     ensures at_end { result ≡ Ok turns.Ended → IsAtEnd (R.left source.new) }
     ensures counted { IsCounted (R.faults source.old) (R.faults source.new) (W.faults out.old) (W.faults out.new) result }
+    ensures puts { PutsForTurn (prepend_known held.old (R.left source.old)) (prepend_known held.new (R.left source.new)) (W.calls out.old)
+        (W.calls out.new) result }
 {
     if moments.reserve(1).is_err() {
         return Err(SessionFault::NoMemory);
@@ -158,6 +162,9 @@ pub fn serve<V: Server, R: Source, W: Sink, C: Clock>(
     ensures session { IsSession V.last V.serves V.halts server.old (passage R.left R.faults source.old source.new) (passage W.taken W.faults out.old out.new)
         moments.new.items server.new result }
     ensures ticks { TicksEach (C.readings clock.old) (C.readings clock.new) moments.new.items }
+
+    // Each reply is one call of the sink, and so is what tells a client to go on, and a refusal. No other call is made.
+    ensures puts { PutsForSession (R.left source.old) moments.new.items (W.calls out.old) (W.calls out.new) result }
 {
     let mut held = Held::new(alloc);
     for _ in 0..MOST_REQUESTS {

@@ -1,4 +1,4 @@
-use Rattle.std.proofs.Common.{refl}
+use Rattle.std.proofs.Common.{inl, refl}
 use Rattle.std.specs.Io.KnownBytes.{prepend_known}
 use Rattle.sw_session.proofs.Turns.{counted_after, refused}
 use Rattle.sw_session.proofs.session.receive.Goals as goal
@@ -13,3 +13,8 @@ returns-in-Err-Bad-clause-received g c =
 pub returns-in-Err-Bad-clause-counted : goal.returns-in-Err-Bad-clause-counted
 returns-in-Err-Bad-clause-counted g c =
     counted_after _ _ _ _ _ c.refuse.result (c.in-Err-Bad.ensures.sound (λ is. cc)) (c.in-Err-Bad.ensures.written_sound (λ is. cc)) (c.refuse.ensures.counted _)
+
+-- the write that tells the client failed, and no call was made before it
+pub returns-in-Err-WriteFault-clause-puts : goal.returns-in-Err-WriteFault-clause-puts
+returns-in-Err-WriteFault-clause-puts g c =
+    (_, inl refl, ((rw c.in-Err-WriteFault.field-0-is at c.in-Err-WriteFault.ensures.stopped) refl).called)

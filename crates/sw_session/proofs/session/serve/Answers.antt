@@ -2,7 +2,7 @@ use Rattle.std.proofs.Common.{ap, arith, refl, ◌∙◌, Ok}
 use Rattle.std.specs.Io.KnownBytes.{prepend_known}
 use Rattle.std.proofs.lemmas.Result.{err_from_is_err_and}
 use Rattle.sw_session.specs.Passages.{Passage, passage}
-use Rattle.sw_session.proofs.Ends.{begun_with, ended_by, ended_well, filled, turn_made}
+use Rattle.sw_session.proofs.Ends.{begun_with, ended_by, ended_well, fault_put, filled, none_put, turn_made, turn_put, well_put}
 use Rattle.sw_session.proofs.session.serve.Goals as goal
 
 pub loop-init : goal.loop-init
@@ -12,6 +12,7 @@ loop-init g c = record {
   ticks = rw c.requires.none_read refl;
   reads = refl;
   writes = refl;
+  puts = rw c.requires.none_read (rw c.new-held.ensures (none_put _ _));
 }
 
 pub turn-requires : goal.turn-requires
@@ -29,6 +30,14 @@ returns-in_err-turn-clause-session g c =
     c.loop.invariant.reads c.loop.invariant.writes c.in_err-turn.ensures.counted
     )
 
+pub returns-in_err-turn-clause-puts : goal.returns-in_err-turn-clause-puts
+returns-in_err-turn-clause-puts g c =
+    let exit = err_from_is_err_and c.from_residual.result c.from_residual.ensures.1 in
+    rw (exit.1, exit.2) (
+    fault_put g.V.Server.last g.V.Server.serves g.V.Server.halts _ _ _ _ _ _ _ _ _ _ _ _ _ c.loop.invariant.puts c.in_err-turn.ensures.turn
+    c.in_err-turn.ensures.puts
+    )
+
 -- the input ended, or the last request was answered
 pub returns-in-Closed-clause-session : goal.returns-in-Closed-clause-session
 returns-in-Closed-clause-session g c =
@@ -37,6 +46,11 @@ returns-in-Closed-clause-session g c =
     ended_well g.V.Server.last g.V.Server.serves g.V.Server.halts _ _ _ source sink _ (prepend_known c.turn.new.held (g.R.Source.left c.turn.new.source))
     _ _ _ _ _ _ c.in_ok-turn.field-0 c.in-Closed.is c.loop.invariant.progress c.loop-test.true c.in_ok-turn.ensures.turn
     (λ is. c.in_ok-turn.ensures.at_end (ap Ok is)) c.loop.invariant.reads c.loop.invariant.writes c.in_ok-turn.ensures.counted
+
+pub returns-in-Closed-clause-puts : goal.returns-in-Closed-clause-puts
+returns-in-Closed-clause-puts g c =
+    well_put g.V.Server.last g.V.Server.serves g.V.Server.halts _ _ _ _ _ _ _ _ _ _ _ _ c.in_ok-turn.field-0 c.in-Closed.is c.loop.invariant.puts
+    c.in_ok-turn.ensures.turn c.in_ok-turn.ensures.puts
 
 -- one request more
 pub loop-preserved : goal.loop-preserved
@@ -47,6 +61,8 @@ loop-preserved g c = record {
   ticks = c.turn.ensures.ticks _ c.loop.invariant.ticks;
   reads = c.in_ok-turn.ensures.counted.0 ∙ c.loop.invariant.reads;
   writes = c.in_ok-turn.ensures.counted.1 ∙ c.loop.invariant.writes;
+  puts = turn_put g.V.Server.last g.V.Server.serves _ _ _ _ _ _ _ _ _ _ _ _ _ c.loop.invariant.puts
+      (rw c.in-Answered.is at c.in_ok-turn.ensures.puts) (rw c.in-Answered.is at c.in_ok-turn.ensures.turn);
 }
 
 -- as many requests were answered as a session has at most

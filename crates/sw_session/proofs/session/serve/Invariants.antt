@@ -1,7 +1,7 @@
-use Rattle.std.proofs.Common.{◌≡◌}
+use Rattle.std.proofs.Common.{◌≡◌, length}
 use Rattle.std.specs.Io.KnownBytes.{prepend_known}
 use Rattle.sw_outside.specs.Readings.{TicksEach}
-use Rattle.sw_session.proofs.Ends.{Progress}
+use Rattle.sw_session.proofs.Ends.{Progress, PutsSoFar}
 use Rattle.sw_session.proofs.session.serve.Given as goal
 
 -- what is held and left is what the input still has after the requests that were answered
@@ -13,4 +13,6 @@ invariant-loop g l = record {
   ticks : TicksEach (g.C.Clock.readings l.initial.clock) (g.C.Clock.readings l.clock) l.moments.items;
   reads : g.R.Source.faults l.source ≡ g.R.Source.faults l.initial.source;
   writes : g.W.Sink.faults l.out ≡ g.W.Sink.faults l.initial.out;
+  puts : PutsSoFar (g.R.Source.left l.initial.source) (prepend_known l.held (g.R.Source.left l.source)) (length l.moments.items)
+      (g.W.Sink.calls l.initial.out) (g.W.Sink.calls l.out);
 }

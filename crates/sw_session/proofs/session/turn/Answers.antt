@@ -1,6 +1,6 @@
 use Rattle.std.proofs.lemmas.Result.{err_from_is_err_and}
-use Rattle.std.proofs.Common.{◌≡◌, ◌∙◌, ap, sym}
-use Rattle.sw_session.proofs.Turns.{answered_step, broken_step, halted_step, kept_moment, one_more_tick, turned}
+use Rattle.std.proofs.Common.{◌≡◌, ◌∙◌, Err, ap, sym}
+use Rattle.sw_session.proofs.Turns.{answered_step, broken_puts, broken_step, halted_puts, halted_step, kept_moment, one_more_tick, takes_and_tells, turned}
 use Rattle.sw_session.proofs.session.turn.Goals as goal
 use Rattle.sw_session.proofs.session.turn.Goals.{then-last, else-last}
 
@@ -19,6 +19,14 @@ pub returns-in_err-response-clause-ticks : goal.returns-in_err-response-clause-t
 returns-in_err-response-clause-ticks g c = λ start each.
     rw (c.push_reserved.ensures.items, c.reserve.ensures.items) (one_more_tick start _ _ _ c.now-now.result each c.now-now.ensures)
 
+pub returns-in_err-response-clause-puts : goal.returns-in_err-response-clause-puts
+returns-in_err-response-clause-puts g c =
+    let exit = err_from_is_err_and c.from_residual-in_err-response.result c.from_residual-in_err-response.ensures.1 in
+    rw (exit.1, exit.2) (
+    halted_puts _ _ _ _ c.in_err-response.field-0.0
+    (takes_and_tells _ _ _ _ _ _ _ (rw c.in-Some.is at c.in_ok-request.ensures.received) (rw c.in-Some.is at c.in_ok-request.ensures.puts))
+    )
+
 -- the request was answered, and its reply not written whole
 pub returns-in_err-write_response-clause-turn : goal.returns-in_err-write_response-clause-turn
 returns-in_err-write_response-clause-turn g c =
@@ -34,6 +42,16 @@ returns-in_err-write_response-clause-turn g c =
 pub returns-in_err-write_response-clause-ticks : goal.returns-in_err-write_response-clause-ticks
 returns-in_err-write_response-clause-ticks g c = λ start each.
     rw (c.push_reserved.ensures.items, c.reserve.ensures.items) (one_more_tick start _ _ _ c.now-now.result each c.now-now.ensures)
+
+pub returns-in_err-write_response-clause-puts : goal.returns-in_err-write_response-clause-puts
+returns-in_err-write_response-clause-puts g c =
+    let exit = err_from_is_err_and c.from_residual-in_err-write_response.result c.from_residual-in_err-write_response.ensures.1 in
+    rw (exit.1, exit.2) (
+    broken_puts _ _ _ _ _ c.in_err-write_response.field-0.0
+    (takes_and_tells _ _ _ _ _ _ _ (rw c.in-Some.is at c.in_ok-request.ensures.received) (rw c.in-Some.is at c.in_ok-request.ensures.puts))
+    (λ not_memory. c.in_err-write_response.ensures.put_once (λ is. not_memory (cc)))
+    (λ is. c.in_err-write_response.ensures.no_put (ap Err is))
+    )
 
 -- or written whole
 pub returns-clause-turn : goal.returns-clause-turn
