@@ -6,6 +6,7 @@ use Rattle.sw_hashpath.specs.BadNames.{bad_name}
 use Rattle.sw_ring.specs.declared.bad_ring.BadRing.{BadRing}
 use Rattle.sw_ring.specs.declared.ring.Ring.{Ring}
 use Rattle.sw_cluster.specs.Locating.{IsWritten, Locates}
+use Rattle.sw_cluster.specs.Told.{Output}
 use Rattle.sw_stores.specs.Telling.{Telling}
 use Rattle.sw_cluster.specs.Opening.{EndsWith, IsOpening, IsRingRefused}
 use Rattle.sw_cluster.specs.Whereabouts.{where_text}
@@ -26,15 +27,15 @@ not_opened told before now kept says goes_on status (faults.Bad bad) opening ref
 not_opened told before now kept says goes_on status faults.NoMemory opening refused same = inr (inl (refused, opening, same))
 
 -- a text that was written is that of the name
-pub located : (ring : Ring) (account : List ℕ) (container object : Option (List ℕ)) (before now : Option (List ℕ)) (writes writes_now : ℕ) (text : List ℕ)
-    (status : ℕ)
-    → text ≡ where_text ring account container object → bad_name account container object ≡ None → IsWritten before now writes writes_now text status
-    → Locates ring account container object before now writes writes_now status
-located ring account container object before now writes writes_now text status text_is good written = record {
-  complete = λ is. subst (Appends before now) text_is (written.complete is);
+pub located : (ring : Ring) (account : List ℕ) (container object : Option (List ℕ)) (out : Output) (text : List ℕ) (status : ℕ)
+    → text ≡ where_text ring account container object → bad_name account container object ≡ None → IsWritten out text status
+    → Locates ring account container object out status
+located ring account container object out text status text_is good written = record {
+  complete = λ is. (subst (Appends out.before out.now) text_is (written.complete is).0, (written.complete is).1);
   usage = λ is. elim written.known [ inl complete ↦ cc | inr fault ↦ cc ];
-  write_fault = λ is. (subst (AppendsPart before now) text_is (written.write_fault is).0, (written.write_fault is).1);
+  write_fault = λ is. (subst (AppendsPart out.before out.now) text_is (written.write_fault is).0, (written.write_fault is).1);
   no_memory = λ is. elim written.known [ inl complete ↦ cc | inr fault ↦ cc ];
   good = λ _. good;
+  once = λ _. written.once;
   known = elim written.known [ inl complete ↦ inl complete | inr fault ↦ inr (inr (inl fault)) ];
 }

@@ -14,7 +14,6 @@ use Rattle.sw_peer.specs.Journals.{Hash}
 use Rattle.sw_peer.specs.Sights.{Nodes as SightNodes, Sight}
 use Rattle.sw_quiet.specs.Quiet.{quiet_sight_of}
 use Rattle.sw_ring.specs.declared.ring.Ring.{Ring}
-use Rattle.sw_session.specs.Passages.{Passage}
 use Rattle.sw_stores.specs.Places.{at_place}
 use Rattle.sw_volume.specs.Tree.{Folders}
 use Rattle.sw_cluster.proofs.Connecting.{connection-goes, connection-nodes}
@@ -25,7 +24,7 @@ use Rattle.sw_cluster.specs.Ending.{AllTold, IsStored}
 use Rattle.sw_cluster.specs.Leaving.{AreLeft, IsOut}
 use Rattle.sw_cluster.specs.Nodes.{IsReady, out_but, places_at, places_of}
 use Rattle.sw_cluster.specs.Rounds.{EndsServing, HasServed, EndsConnections, RestartsDevice, RestartsFirst, Round, ServesAll, ServesOne}
-use Rattle.sw_cluster.specs.Told.{Counts, DoorsTold}
+use Rattle.sw_cluster.specs.Told.{Counts, DoorsTold, Output}
 use Rattle.sw_cluster.specs.Rounds.{StopsRestarting, StopsWaiting, read_in, written_in}
 use Rattle.sw_cluster.specs.declared.rounds.ServeFault.{ServeFault}
 use Rattle.sw_cluster.specs.declared.rounds.ServeFault.TheVariants as serve_faults
@@ -73,7 +72,7 @@ module _ {V : Type 0} (tells : V → Bool) (files : V → Folders) (faults : V �
     served-goes (Err serve_faults.NoMemory) (inr stops, d, e) = restarting-goes stops
     served-goes (Err serve_faults.Write) served = absurd served
 
-  pub ends-go : (port connections : ℕ) (began after : AllNodes V) (a b : DoorsTold) (out : Passage) (t u : Option (List ℕ)) (s x : Counts)
+  pub ends-go : (port connections : ℕ) (began after : AllNodes V) (a b : DoorsTold) (out : Output) (t u : Option (List ℕ)) (s x : Counts)
       (ended : Result ⊤ ServeFault) → began.power ≡ ring.power → EndsServing tells files faults ring port connections began after a b out t u s x ended
       → Goes (see began) (see after)
   ends-go port connections began after a b out t u s x ended power (inl deaf) = goes-same (see began) (see after) (ap see deaf.nothing_came)

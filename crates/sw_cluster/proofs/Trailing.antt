@@ -15,7 +15,7 @@ use Rattle.sw_peer.specs.declared.line.Line.{Line}
 use Rattle.sw_ring.specs.declared.ring.Ring.{Ring}
 use Rattle.sw_session.proofs.Mapping.{session-ends, session-mapped}
 use Rattle.sw_session.specs.Passages.{Passage}
-use Rattle.sw_session.specs.Session.{EndsAs, IsSession}
+use Rattle.sw_session.specs.Session.{EndsAs, IsSession, PutsForSession}
 use Rattle.sw_session.specs.declared.server.ServerFault.{ServerFault}
 use Rattle.sw_session.specs.declared.server.ServerFault.TheVariants as servers
 use Rattle.sw_session.specs.declared.session.SessionFault.{SessionFault}
@@ -39,7 +39,7 @@ use Rattle.sw_core.specs.Worlds.{AllNodes, IsWorld, Lifts, first_of, nodes_of}
 use Rattle.sw_core.specs.Worlds.{opened, place_lock, shown, sight_of, without_lines}
 use Rattle.sw_core.specs.declared.slot.Slot.TheVariants as slots
 use Rattle.sw_cluster.specs.Ending.{AllTold, IsContTrail, IsRunOver, IsTrail, status_by}
-use Rattle.sw_cluster.specs.Told.{Counts, counts}
+use Rattle.sw_cluster.specs.Told.{Counts, counts, Output}
 use Rattle.sw_cluster.specs.Nodes.{IsReady, NodesAnswer, NodesHalt, faults_by, out_but, places_at, places_of}
 use Rattle.sw_cluster.specs.Server.{MayAnswer, MayHalt}
 use Rattle.sw_cluster.specs.Statuses as statuses
@@ -347,6 +347,17 @@ module _ {V : Type 0} (tells : V → Bool) (files : V → Folders) (faults : V �
             says-halt (ring_of old) (ring_of new) (world_of old) (world_of new) (stores_of old) (stores_of new) request p fault halt)
             start source sink moments after result way session
 
+  -- what a session made of its sink, with the counts of calls
+  abbrev output_of : Passage → ℕ → ℕ → Output
+  output_of sink calls calls_now = record {
+    before = sink.before;
+    now = sink.now;
+    faults = sink.faults;
+    faults_now = sink.faults_now;
+    calls = calls;
+    calls_now = calls_now;
+  }
+
   -- ---- a session from nodes in which nothing has happened
 
   module _ {S : Type 0} (store_faults store_calls : S → ℕ) (rests : S → ℕ → ℕ → Option V) (out : S → ℕ → ℕ → Bool)
@@ -372,10 +383,11 @@ module _ {V : Type 0} (tells : V → Bool) (files : V → Folders) (faults : V �
         → IsWorld world → ((l : ℕ) (k : Kept V) → slice_get world.slots l ≡ Some (slots.Open k) → at_place rests_now (2 ^ ring.lock_bits) l ≡ Some k.volume)
         → ((device : ℕ) → world.lifted ≡ Some device → (d s : ℕ) → places_at ring device d s ≡ true → rests_now d s ≡ rests after.stores.now d s)
         → stores_now.faults ≡ store_faults after.stores.now → stores_now.calls ≡ store_calls after.stores.now
-        → IsRunOver tells files faults ring start.network.door rests_now (counts store_calls store_faults start.stores.now) stores_now source sink clock
-        clock_now (record { steps = steps; moments = read }) status
+        → (calls calls_now : ℕ) → PutsForSession source.before moments calls calls_now result
+        → IsRunOver tells files faults ring start.network.door rests_now (counts store_calls store_faults start.stores.now) stores_now source
+        (output_of sink calls calls_now) clock clock_now (record { steps = steps; moments = read }) status
     nodes-run world rests_now stores_now clock clock_now steps read status status_is steps_are taken read_is ticks is resting same_out faults_are
-        calls_are = record {
+        calls_are calls calls_now puts = record {
           after = after.network.door;
           ends = record {
             ended = result;
@@ -386,6 +398,7 @@ module _ {V : Type 0} (tells : V → Bool) (files : V → Folders) (faults : V �
                 (session-said store_faults store_calls rests out start.network.door start.stores ring_in world_in stores_in start source sink moments
                 after result way session);
           };
+          puts = subst (λ (ms : List ℕ). PutsForSession source.before ms calls calls_now result) (sym read_is) puts;
           steps = steps_are;
           told = λ told. subst (λ (ls : List Line). IsTrail tells files faults ring start.network.door rests_now ls) (sym steps_are)
               (nodes-ended.tells_trail rests_now (subst (λ (w : AllNodes V). IsWorld w) taken is)

@@ -1,5 +1,5 @@
 -- What is answered on a connection over a door. (HTTP/1.1, RFC 9112, as to where a connection ends; the rest is this project's own.)
-use Rattle.std.specs.Prelude.{◌≡◌, ℕ, ◌≤◌, true, List, All, length, MatchBool, ◌⊎◌}
+use Rattle.std.specs.Prelude.{◌≡◌, ⊤, ℕ, ◌≤◌, true, List, All, length, MatchBool, Option, Result, ◌⊎◌}
 use Rattle.sw_control.specs.Asking.{is_control}
 use Rattle.sw_hashpath.specs.declared.name.Name.{Name}
 use Rattle.sw_message.specs.declared.request.Request.{Request}
@@ -13,8 +13,10 @@ use Rattle.sw_replica_server.specs.Targets.{is_replication_of}
 use Rattle.sw_ring.specs.declared.ring.Ring.{Ring}
 use Rattle.sw_session.specs.Closing.{asks_to_close_of}
 use Rattle.sw_session.specs.Passages.{Passage}
+use Rattle.sw_session.specs.Session.{PutsForSession}
 use Rattle.sw_session.specs.declared.server.ServerFault.{ServerFault}
-use Rattle.sw_cluster.specs.Ending.{Ends}
+use Rattle.sw_session.specs.declared.session.SessionFault.{SessionFault}
+use Rattle.sw_cluster.specs.Ending.{Ends, status_by}
 
 -- the nodes are those of the ring, or more of them
 pub record AreNodesOf (ring : Ring) (nodes : Nodes) : Type 0 where
@@ -41,3 +43,8 @@ module _ {D : Type 0} (sight : D → Sight) where
     pub moments : List ℕ
     pub still : All (λ m. m ≡ moment) moments
     pub ends : Ends asks_to_close_of (DoorAnswers ring) NeverHalts old source sink moments new status
+
+-- the sink of a connection was called as often as a session over its input calls one that ends with this status
+abbrev pub PutsForConnection : Option (List ℕ) → ℕ → ℕ → ℕ → Type 0
+PutsForConnection input calls calls_now status =
+    (moments : List ℕ) × (ended : Result ⊤ SessionFault) × (status ≡ status_by ended) × PutsForSession input moments calls calls_now ended

@@ -4,7 +4,7 @@ use Rattle.sw_outside.specs.Readings.{TicksEach}
 use Rattle.sw_message.specs.declared.request.Request.{Request}
 use Rattle.sw_session.specs.Passages.{Passage}
 use Rattle.sw_session.specs.Replies.{Halts, Serves}
-use Rattle.sw_session.specs.Session.{IsSession}
+use Rattle.sw_session.specs.Session.{IsSession, PutsForSession}
 use Rattle.sw_session.specs.declared.session.SessionFault.{SessionFault}
 use Rattle.sw_session.specs.declared.session.SessionFault.TheVariants as faults
 use Rattle.sw_container_machine.specs.Machine.{ContMachine, ContRuns, cont_machine_of}
@@ -29,7 +29,7 @@ use Rattle.sw_cluster.specs.Restarts.{AreCalled}
 use Rattle.sw_cluster.specs.Server.{MayAnswer, MayHalt}
 use Rattle.sw_core.specs.declared.trail.Trail.{Trail}
 use Rattle.sw_cluster.specs.Statuses as statuses
-use Rattle.sw_cluster.specs.Told.{Counts}
+use Rattle.sw_cluster.specs.Told.{Counts, IsSilent, Output, passage_of}
 
 -- the status of an outcome
 abbrev pub status_by : Result ⊤ SessionFault → ℕ
@@ -84,10 +84,11 @@ module _ {V : Type 0} (tells : V → Bool) (files : V → Folders) (faults : V �
   -- A session was run over these nodes of a ring, in which no request is a last one, and then their volumes were given back. Of its requests
   -- two that pushed a partition, there and back, and were told that it is done, meet
   pub record IsRunOver (ring : Ring) (began : AllNodes V) (rests_now : ℕ → ℕ → Option V) (stores stores_now : Counts)
-      (source sink : Passage) (clock clock_now : Option (List ℕ)) (trail : Trail) (status : ℕ) : Type 0 where
+      (source : Passage) (sink : Output) (clock clock_now : Option (List ℕ)) (trail : Trail) (status : ℕ) : Type 0 where
     pub after : AllNodes V
-    pub ends : Ends (λ request. false) (MayAnswer tells files faults ring) (λ w r moment fault. MayHalt tells files faults ring w r) began source sink
-        trail.moments after status
+    pub ends : Ends (λ request. false) (MayAnswer tells files faults ring) (λ w r moment fault. MayHalt tells files faults ring w r) began source
+        (passage_of sink) trail.moments after status
+    pub puts : PutsForSession source.before trail.moments sink.calls sink.calls_now ends.ended
     pub steps : trail.steps ≡ after.lines
     pub told : AllTold ring began → IsTrail ring began rests_now trail.steps
     pub containers : IsContTrail ring began after trail.steps
@@ -98,7 +99,7 @@ module _ {V : Type 0} (tells : V → Bool) (files : V → Folders) (faults : V �
 
   -- the volumes of a ring's nodes were started, by one call of the stores for each, and a session run over them
   pub record IsRun (first : V → Type 0) (ring : Ring) (rests rests_now : ℕ → ℕ → Option V) (stores stores_now : Counts)
-      (source sink : Passage) (clock clock_now : Option (List ℕ)) (trail : Trail) (status : ℕ) : Type 0 where
+      (source : Passage) (sink : Output) (clock clock_now : Option (List ℕ)) (trail : Trail) (status : ℕ) : Type 0 where
     pub volumes : List V
     pub started : AreStarted first rests (2 ^ ring.lock_bits) 0 volumes
     pub count : length volumes ≡ length ring.devices * 2 ^ ring.lock_bits
@@ -122,10 +123,10 @@ pub record AreUnstarted {V : Type 0} (first : V → Type 0) (ring : Ring) (rests
 
 -- so no session was run
 pub record IsUnbegun {V : Type 0} (first : V → Type 0) (ring : Ring) (rests rests_now : ℕ → ℕ → Option V) (stores stores_now : Counts)
-    (source sink : Passage) (clock clock_now : Option (List ℕ)) (trail : Trail) (status : ℕ) : Type 0 where
+    (source : Passage) (sink : Output) (clock clock_now : Option (List ℕ)) (trail : Trail) (status : ℕ) : Type 0 where
   pub unstarted : AreUnstarted first ring rests rests_now stores stores_now status
   pub nothing_read : (source.now ≡ source.before) × (source.faults_now ≡ source.faults)
-  pub nothing_written : (sink.now ≡ sink.before) × (sink.faults_now ≡ sink.faults)
+  pub nothing_written : IsSilent sink
   pub no_tick : clock_now ≡ clock
   pub no_steps : trail.steps ≡ []
   pub no_moments : trail.moments ≡ []
@@ -133,7 +134,7 @@ pub record IsUnbegun {V : Type 0} (first : V → Type 0) (ring : Ring) (rests re
 -- how `run` goes on with a ring, which it read by one call of the stores: from what rests in them then, which is what rested before
 pub record RunsRing {V : Type 0} (tells : V → Bool) (files : V → Folders) (faults : V → ℕ) (first : V → Type 0) (ring : Ring)
     (rests rests_now : ℕ → ℕ → Option V) (stores stores_now : Counts)
-    (source sink : Passage) (clock clock_now : Option (List ℕ)) (trail : Trail) (status : ℕ) : Type 0 where
+    (source : Passage) (sink : Output) (clock clock_now : Option (List ℕ)) (trail : Trail) (status : ℕ) : Type 0 where
   pub began : ℕ → ℕ → Option V
   pub same : IsAsItWas rests began
   pub ends : IsRun tells files faults first ring began rests_now (record stores { calls = raised stores.calls }) stores_now source sink

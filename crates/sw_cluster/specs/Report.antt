@@ -1,11 +1,12 @@
 -- What a command says on the error sink. (This project's own.)
-use Rattle.std.specs.Prelude.{ℕ, List, [], Option, codes, ◌==◌, ◌+◌, ◌++◌, ◌∷◌, if◌then◌else◌}
+use Rattle.std.specs.Prelude.{◌≡◌, ◌⊎◌, ℕ, List, [], codes, ◌==◌, ◌+◌, ◌++◌, ◌∷◌, if◌then◌else◌}
 use Rattle.std.specs.Io.KnownBytes.{Appends}
-use Rattle.sw_outside.specs.Faults.{HasRisen}
+use Rattle.sw_outside.specs.Counts.{raised}
 use Rattle.sw_outside.specs.Taken.{AppendsPart}
 use Rattle.sw_ring.specs.BadRings.{bad_ring_number}
 use Rattle.sw_ring.specs.declared.bad_ring.BadRing.{BadRing}
 use Rattle.sw_cluster.specs.Statuses as statuses
+use Rattle.sw_cluster.specs.Told.{IsSilent, Output}
 
 -- the line of a status, with its line feed
 abbrev pub line_of : ℕ → List ℕ
@@ -23,7 +24,13 @@ line_of status =
 abbrev pub ring_line : BadRing → List ℕ
 ring_line bad = codes "sw: bad ring " ++ (48 + bad_ring_number bad) ∷ 10 ∷ []
 
--- the line was taken; a front of it where the sink's count of faults rose
-pub record Reports (before now : Option (List ℕ)) (faults faults_now : ℕ) (line : List ℕ) : Type 0 where
-  pub part : AppendsPart before now line
-  pub whole : ¬ (HasRisen faults faults_now) → Appends before now line
+-- a line was put, in one call; a front of it where that call failed
+pub record PutsLine (errors : Output) (line : List ℕ) : Type 0 where
+  pub put : (Appends errors.before errors.now line × (errors.faults_now ≡ errors.faults))
+      ⊎ (AppendsPart errors.before errors.now line × (errors.faults_now ≡ raised errors.faults))
+  pub once : errors.calls_now ≡ raised errors.calls
+
+-- the line of a status was put, where it has one
+abbrev pub Reports : Output → List ℕ → Type 0
+Reports errors [] = IsSilent errors
+Reports errors (c ∷ line) = PutsLine errors (c ∷ line)

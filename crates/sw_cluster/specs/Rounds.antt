@@ -21,7 +21,7 @@ use Rattle.sw_volume.specs.Volume.{raised_by}
 use Rattle.sw_cluster.specs.Connections.{IsConnection}
 use Rattle.sw_cluster.specs.Ending.{AllTold, AreUnstarted, IsStored}
 use Rattle.sw_cluster.specs.Statuses as statuses
-use Rattle.sw_cluster.specs.Told.{Counts, DoorsTold}
+use Rattle.sw_cluster.specs.Told.{Counts, DoorsTold, IsSilent, Output}
 use Rattle.sw_cluster.specs.declared.rounds.ServeFault.{ServeFault}
 use Rattle.sw_cluster.specs.declared.rounds.ServeFault.TheVariants as serve_faults
 
@@ -44,11 +44,12 @@ serve_status (Err serve_faults.NoMemory) = statuses.no_memory
 
 -- ---- lines
 
--- a line was put whole; or a front of it, where the output failed; or nothing, where there was no memory for it
-abbrev pub SaysLine : List ℕ → Passage → Result ⊤ ServeFault → Type 0
-SaysLine line out (Ok _) = Appends out.before out.now line × (out.faults_now ≡ out.faults)
-SaysLine line out (Err serve_faults.Write) = AppendsPart out.before out.now line × (out.faults_now ≡ raised out.faults)
-SaysLine line out (Err serve_faults.NoMemory) = (out.now ≡ out.before) × (out.faults_now ≡ out.faults)
+-- A line was put whole, in one call; or a front of it, where that call failed; or nothing, where there was no memory for it.
+abbrev pub SaysLine : List ℕ → Output → Result ⊤ ServeFault → Type 0
+SaysLine line out (Ok _) = Appends out.before out.now line × (out.faults_now ≡ out.faults) × (out.calls_now ≡ raised out.calls)
+SaysLine line out (Err serve_faults.Write) =
+    AppendsPart out.before out.now line × (out.faults_now ≡ raised out.faults) × (out.calls_now ≡ raised out.calls)
+SaysLine line out (Err serve_faults.NoMemory) = IsSilent out
 SaysLine line out (Err serve_faults.Store) = ⊥
 SaysLine line out (Err serve_faults.Door) = ⊥
 
@@ -167,17 +168,17 @@ module _ {V : Type 0} (tells : V → Bool) (files : V → Folders) (faults : V �
   -- ---- from the first call of the doors to the last line
 
   -- it couldn't be listened
-  pub record IsDeaf (began after : AllNodes V) (doors doors_now : DoorsTold) (out : Passage) (clock clock_now : Option (List ℕ))
+  pub record IsDeaf (began after : AllNodes V) (doors doors_now : DoorsTold) (out : Output) (clock clock_now : Option (List ℕ))
       (stores stores_now : Counts) (ended : Result ⊤ ServeFault) : Type 0 where
     pub ended_is : ended ≡ Err serve_faults.Door
     pub nothing_came : after ≡ began
     pub doors_are : doors_now ≡ record doors { calls = raised doors.calls; faults = raised doors.faults }
-    pub nothing_written : (out.now ≡ out.before) × (out.faults_now ≡ out.faults)
+    pub nothing_written : IsSilent out
     pub no_tick : clock_now ≡ clock
     pub no_start : stores_now ≡ stores
 
   -- it was listened, but that couldn't be said
-  pub record IsMute (port : ℕ) (began after : AllNodes V) (doors doors_now : DoorsTold) (out : Passage) (clock clock_now : Option (List ℕ))
+  pub record IsMute (port : ℕ) (began after : AllNodes V) (doors doors_now : DoorsTold) (out : Output) (clock clock_now : Option (List ℕ))
       (stores stores_now : Counts) (ended : Result ⊤ ServeFault) : Type 0 where
     pub fault : ServeFault
     pub ended_is : ended ≡ Err fault
@@ -188,21 +189,21 @@ module _ {V : Type 0} (tells : V → Bool) (files : V → Folders) (faults : V �
     pub no_start : stores_now ≡ stores
 
   -- what is said in the end, by what became of the connections: how many they are, where all were served
-  abbrev pub Concludes : ℕ → Passage → Result ⊤ ServeFault → Result ⊤ ServeFault → Type 0
+  abbrev pub Concludes : ℕ → Output → Result ⊤ ServeFault → Result ⊤ ServeFault → Type 0
   Concludes connections out (Ok _) ended = SaysLine (connections_line connections) out ended
-  Concludes connections out (Err fault) ended = (ended ≡ Err fault) × (out.now ≡ out.before) × (out.faults_now ≡ out.faults)
+  Concludes connections out (Err fault) ended = (ended ≡ Err fault) × IsSilent out
 
   -- it was listened, that was said, and the connections were served
-  pub record IsOver (port connections : ℕ) (began after : AllNodes V) (doors doors_now : DoorsTold) (out : Passage)
+  pub record IsOver (port connections : ℕ) (began after : AllNodes V) (doors doors_now : DoorsTold) (out : Output)
       (clock clock_now : Option (List ℕ)) (stores stores_now : Counts) (ended : Result ⊤ ServeFault) : Type 0 where
     pub said : Option (List ℕ)  -- what the output had taken then, where it tells that
     pub says : Appends out.before said (listening_line port)
     pub came : Result ⊤ ServeFault
     pub served : EndsConnections connections began after (record doors { calls = raised doors.calls }) doors_now clock clock_now stores stores_now came
-    pub concludes : Concludes connections (record out { before = said }) came ended
+    pub concludes : Concludes connections (record out { before = said; calls = raised out.calls }) came ended
 
   -- how serving ended. One call failed where that ended it, and else none
-  abbrev pub EndsServing : ℕ → ℕ → AllNodes V → AllNodes V → DoorsTold → DoorsTold → Passage → Option (List ℕ) → Option (List ℕ) → Counts → Counts
+  abbrev pub EndsServing : ℕ → ℕ → AllNodes V → AllNodes V → DoorsTold → DoorsTold → Output → Option (List ℕ) → Option (List ℕ) → Counts → Counts
       → Result ⊤ ServeFault → Type 0
   EndsServing port connections began after doors doors_now out clock clock_now stores stores_now ended =
       IsDeaf began after doors doors_now out clock clock_now stores stores_now ended
@@ -221,7 +222,7 @@ module _ {V : Type 0} (tells : V → Bool) (files : V → Folders) (faults : V �
     pub stored : (device : ℕ) (hash : Hash) → device < length ring.devices → IsStored tells files faults ring machine rests device hash
 
   -- over these nodes the connections were served, and then their volumes given back
-  pub record IsServedOver (port connections : ℕ) (began : AllNodes V) (rests_now : ℕ → ℕ → Option V) (doors doors_now : DoorsTold) (out : Passage)
+  pub record IsServedOver (port connections : ℕ) (began : AllNodes V) (rests_now : ℕ → ℕ → Option V) (doors doors_now : DoorsTold) (out : Output)
       (clock clock_now : Option (List ℕ)) (stores stores_now : Counts) (status : ℕ) : Type 0 where
     pub after : AllNodes V
     pub ended : Result ⊤ ServeFault
@@ -230,7 +231,7 @@ module _ {V : Type 0} (tells : V → Bool) (files : V → Folders) (faults : V �
     pub told : AllTold tells files faults ring began → HasServed began after rests_now
 
   -- the volumes of a ring's nodes were started, by one call of the stores for each, and the connections served over them
-  pub record IsServing (first : V → Type 0) (port connections : ℕ) (rests rests_now : ℕ → ℕ → Option V) (doors doors_now : DoorsTold) (out : Passage)
+  pub record IsServing (first : V → Type 0) (port connections : ℕ) (rests rests_now : ℕ → ℕ → Option V) (doors doors_now : DoorsTold) (out : Output)
       (clock clock_now : Option (List ℕ)) (stores stores_now : Counts) (status : ℕ) : Type 0 where
     pub volumes : List V
     pub started : AreStarted first rests (2 ^ ring.lock_bits) 0 volumes
@@ -239,16 +240,16 @@ module _ {V : Type 0} (tells : V → Bool) (files : V → Folders) (faults : V �
         (record stores { calls = raised_by (length ring.devices * 2 ^ ring.lock_bits) stores.calls }) stores_now status
 
 -- none was served: the volumes couldn't be started, or there was no memory for the nodes. Those that were started rest again
-pub record IsUnserved {V : Type 0} (first : V → Type 0) (ring : Ring) (rests rests_now : ℕ → ℕ → Option V) (doors doors_now : DoorsTold) (out : Passage)
+pub record IsUnserved {V : Type 0} (first : V → Type 0) (ring : Ring) (rests rests_now : ℕ → ℕ → Option V) (doors doors_now : DoorsTold) (out : Output)
     (clock clock_now : Option (List ℕ)) (stores stores_now : Counts) (status : ℕ) : Type 0 where
   pub unstarted : AreUnstarted first ring rests rests_now stores stores_now status
   pub doors_are : doors_now ≡ doors
-  pub nothing_written : (out.now ≡ out.before) × (out.faults_now ≡ out.faults)
+  pub nothing_written : IsSilent out
   pub no_tick : clock_now ≡ clock
 
 -- how `serve` goes on with a ring, which it read by one call of the stores: from what rests in them then, which is what rested before
 pub record ServesRing {V : Type 0} (tells : V → Bool) (files : V → Folders) (faults : V → ℕ) (first : V → Type 0) (ring : Ring) (port connections : ℕ)
-    (rests rests_now : ℕ → ℕ → Option V) (doors doors_now : DoorsTold) (out : Passage) (clock clock_now : Option (List ℕ))
+    (rests rests_now : ℕ → ℕ → Option V) (doors doors_now : DoorsTold) (out : Output) (clock clock_now : Option (List ℕ))
     (stores stores_now : Counts) (status : ℕ) : Type 0 where
   pub began : ℕ → ℕ → Option V
   pub same : IsAsItWas rests began

@@ -1,6 +1,7 @@
--- What doors and stores tell of themselves: a clause has it once as a call begins and once as it ends. (This project's own.)
-use Rattle.std.specs.Prelude.{ℕ, List}
+-- What doors, stores and the output tell of themselves: a clause has it as a call begins and as it ends. (This project's own.)
+use Rattle.std.specs.Prelude.{◌≡◌, ℕ, List, Option}
 use Rattle.sw_outside.specs.Doors.{Accepted, Finished}
+use Rattle.sw_session.specs.Passages.{Passage}
 
 -- what doors tell
 pub record DoorsTold : Type 0 where
@@ -20,3 +21,30 @@ pub record Counts : Type 0 where
 
 abbrev pub counts : {S : Type 0} → (S → ℕ) → (S → ℕ) → S → Counts
 counts calls faults stores = record { calls = calls stores; faults = faults stores }
+
+-- what a call made of the output
+pub record Output : Type 0 where
+  pub before : Option (List ℕ)  -- what it had taken as the call began; none where it isn't told
+  pub now : Option (List ℕ)  -- the same at the end
+  pub faults : ℕ  -- how many of its calls had failed as the call began
+  pub faults_now : ℕ  -- and at the end
+  pub calls : ℕ  -- how many there had been, failed ones too
+  pub calls_now : ℕ  -- and at the end
+
+abbrev pub output : {W : Type 0} → (W → Option (List ℕ)) → (W → ℕ) → (W → ℕ) → W → W → Output
+output taken faults calls old new = record {
+  before = taken old;
+  now = taken new;
+  faults = faults old;
+  faults_now = faults new;
+  calls = calls old;
+  calls_now = calls new;
+}
+
+-- the output was left alone
+abbrev pub IsSilent : Output → Type 0
+IsSilent out = (out.now ≡ out.before) × (out.faults_now ≡ out.faults) × (out.calls_now ≡ out.calls)
+
+-- without its count of calls
+abbrev pub passage_of : Output → Passage
+passage_of out = record { before = out.before; now = out.now; faults = out.faults; faults_now = out.faults_now }

@@ -7,10 +7,10 @@ ghost use Rattle.sw_session.specs.Passages.{passage};
 ghost use Rattle.sw_cluster.specs.Ending.{RunsRing};
 ghost use Rattle.sw_cluster.specs.Locating.{Locates};
 ghost use Rattle.sw_cluster.specs.Opening.{EndsWith, IsRingRefused};
-ghost use Rattle.sw_cluster.specs.Report.{Reports, line_of as line_of_status, ring_line as line_of_ring};
+ghost use Rattle.sw_cluster.specs.Report.{PutsLine, Reports, line_of as line_of_status, ring_line as line_of_ring};
 ghost use Rattle.sw_cluster.specs.Rounds.{ServesRing};
 ghost use Rattle.sw_cluster.specs.Statuses as statuses;
-ghost use Rattle.sw_cluster.specs.Told.{counts, doors_told};
+ghost use Rattle.sw_cluster.specs.Told.{counts, doors_told, output};
 ghost use Rattle.sw_cluster.specs.Words.{account_word, are_run_words, are_where_words, container_word, object_word, ring_word};
 ghost use Rattle.sw_words.specs.Serve.{IsServe};
 ghost use Rattle.sw_words.specs.declared.serve.ServeOptions.{ServeOptions as ServeOptionsSeen};
@@ -63,10 +63,10 @@ pub fn cluster<R: Source, W: Sink, E: Sink, S: Stores, N: Doors, C: Clock>(
         (S.faults stores.old) (S.faults stores.new)
         ((source.new ≡ source.old) × (out.new ≡ out.old) × (clock.new ≡ clock.old) × (trail.new ≡ trail.old)
         × (S.calls stores.new ≡ raised (S.calls stores.old)))
-        (λ bad. Reports (E.taken errors.old) (E.taken errors.new) (E.faults errors.old) (E.faults errors.new) (line_of_ring bad))
+        (λ bad. PutsLine (output E.taken E.faults E.calls errors.old errors.new) (line_of_ring bad))
         (λ ring. RunsRing S.V.tells S.V.holds S.V.faults S.first ring (S.rests stores.old) (S.rests stores.new)
         (counts S.calls S.faults stores.old) (counts S.calls S.faults stores.new) (passage R.left R.faults source.old source.new)
-        (passage W.taken W.faults out.old out.new)
+        (output W.taken W.faults W.calls out.old out.new)
         (C.readings clock.old) (C.readings clock.new) trail.new result)
         result }
 
@@ -75,10 +75,9 @@ pub fn cluster<R: Source, W: Sink, E: Sink, S: Stores, N: Doors, C: Clock>(
         (source.new ≡ source.old) × (clock.new ≡ clock.old) × (trail.new ≡ trail.old) × EndsWith (S.text stores.old (ring_word (map string_bytes words.now)))
         (S.faults stores.old) (S.faults stores.new)
         (out.new ≡ out.old)
-        (λ bad. Reports (E.taken errors.old) (E.taken errors.new) (E.faults errors.old) (E.faults errors.new) (line_of_ring bad))
+        (λ bad. PutsLine (output E.taken E.faults E.calls errors.old errors.new) (line_of_ring bad))
         (λ ring. (S.faults stores.new ≡ S.faults stores.old) × Locates ring (account_word (map string_bytes words.now))
-        (container_word (map string_bytes words.now)) (object_word (map string_bytes words.now)) (W.taken out.old) (W.taken out.new) (W.faults out.old)
-        (W.faults out.new) result)
+        (container_word (map string_bytes words.now)) (object_word (map string_bytes words.now)) (output W.taken W.faults W.calls out.old out.new) result)
         result }
 
     // The connections that come, for that ring: each is answered, finished with its own status, and then all devices are restarted. Where there was no
@@ -87,14 +86,13 @@ pub fn cluster<R: Source, W: Sink, E: Sink, S: Stores, N: Doors, C: Clock>(
         × (((result ≡ statuses.no_memory) × (out.new ≡ out.old) × (stores.new ≡ stores.old) × (doors.new ≡ doors.old) × (clock.new ≡ clock.old))
         ⊎ EndsWith (S.text stores.old (ring_word (map string_bytes words.now))) (S.faults stores.old) (S.faults stores.new)
         ((out.new ≡ out.old) × (doors.new ≡ doors.old) × (clock.new ≡ clock.old) × (S.calls stores.new ≡ raised (S.calls stores.old)))
-        (λ bad. Reports (E.taken errors.old) (E.taken errors.new) (E.faults errors.old) (E.faults errors.new) (line_of_ring bad))
+        (λ bad. PutsLine (output E.taken E.faults E.calls errors.old errors.new) (line_of_ring bad))
         (λ ring. ServesRing S.V.tells S.V.holds S.V.faults S.first ring options.port options.connections (S.rests stores.old) (S.rests stores.new)
         (doors_told N.accepts N.finished N.calls N.faults doors.old) (doors_told N.accepts N.finished N.calls N.faults doors.new)
-        (passage W.taken W.faults out.old out.new) (C.readings clock.old) (C.readings clock.new)
+        (output W.taken W.faults W.calls out.old out.new) (C.readings clock.old) (C.readings clock.new)
         (counts S.calls S.faults stores.old) (counts S.calls S.faults stores.new) result)
         result) }
-    ensures line { result ≢ statuses.bad_ring → Reports (E.taken errors.old) (E.taken errors.new) (E.faults errors.old) (E.faults errors.new)
-        (line_of_status result) }
+    ensures line { result ≢ statuses.bad_ring → Reports (output E.taken E.faults E.calls errors.old errors.new) (line_of_status result) }
 
     // Only `serve` has to do with doors.
     ensures doors { ((options : ServeOptionsSeen) → ¬ IsServe (map string_bytes words.now) options) → doors.new ≡ doors.old }
@@ -156,14 +154,13 @@ fn serve<W: Sink, E: Sink, S: Stores, N: Doors, C: Clock>(
     ensures home { (d s : ℕ) → S.out stores.new d s ≡ false }
     ensures ends { EndsWith (S.text stores.old name.now) (S.faults stores.old) (S.faults stores.new)
         ((out.new ≡ out.old) × (doors.new ≡ doors.old) × (clock.new ≡ clock.old) × (S.calls stores.new ≡ raised (S.calls stores.old)))
-        (λ bad. Reports (E.taken errors.old) (E.taken errors.new) (E.faults errors.old) (E.faults errors.new) (line_of_ring bad))
+        (λ bad. PutsLine (output E.taken E.faults E.calls errors.old errors.new) (line_of_ring bad))
         (λ ring. ServesRing S.V.tells S.V.holds S.V.faults S.first ring options.port options.connections (S.rests stores.old) (S.rests stores.new)
         (doors_told N.accepts N.finished N.calls N.faults doors.old) (doors_told N.accepts N.finished N.calls N.faults doors.new)
-        (passage W.taken W.faults out.old out.new) (C.readings clock.old) (C.readings clock.new)
+        (output W.taken W.faults W.calls out.old out.new) (C.readings clock.old) (C.readings clock.new)
         (counts S.calls S.faults stores.old) (counts S.calls S.faults stores.new) result)
         result }
-    ensures line { result ≢ statuses.bad_ring → Reports (E.taken errors.old) (E.taken errors.new) (E.faults errors.old) (E.faults errors.new)
-        (line_of_status result) }
+    ensures line { result ≢ statuses.bad_ring → Reports (output E.taken E.faults E.calls errors.old errors.new) (line_of_status result) }
 {
     match open_ring(alloc, stores, name) {
         Ok(ring) => {
@@ -202,14 +199,13 @@ fn run<R: Source, W: Sink, E: Sink, S: Stores, C: Clock>(
     ensures ends { EndsWith (S.text stores.old name.now) (S.faults stores.old) (S.faults stores.new)
         ((source.new ≡ source.old) × (out.new ≡ out.old) × (clock.new ≡ clock.old) × (trail.new ≡ trail.old)
         × (S.calls stores.new ≡ raised (S.calls stores.old)))
-        (λ bad. Reports (E.taken errors.old) (E.taken errors.new) (E.faults errors.old) (E.faults errors.new) (line_of_ring bad))
+        (λ bad. PutsLine (output E.taken E.faults E.calls errors.old errors.new) (line_of_ring bad))
         (λ ring. RunsRing S.V.tells S.V.holds S.V.faults S.first ring (S.rests stores.old) (S.rests stores.new)
         (counts S.calls S.faults stores.old) (counts S.calls S.faults stores.new) (passage R.left R.faults source.old source.new)
-        (passage W.taken W.faults out.old out.new)
+        (output W.taken W.faults W.calls out.old out.new)
         (C.readings clock.old) (C.readings clock.new) trail.new result)
         result }
-    ensures line { result ≢ statuses.bad_ring → Reports (E.taken errors.old) (E.taken errors.new) (E.faults errors.old) (E.faults errors.new)
-        (line_of_status result) }
+    ensures line { result ≢ statuses.bad_ring → Reports (output E.taken E.faults E.calls errors.old errors.new) (line_of_status result) }
 {
     match open_ring(alloc, stores, name) {
         Ok(ring) => {
@@ -223,10 +219,8 @@ fn run<R: Source, W: Sink, E: Sink, S: Stores, C: Clock>(
 
 /// Says why a ring wasn't opened, and answers the status.
 pub fn refuse_ring<E: Sink>(errors: &mut E, fault: OpenFault) -> u8
-    ensures refused { IsRingRefused fault result (λ bad. Reports (E.taken errors.old) (E.taken errors.new) (E.faults errors.old) (E.faults errors.new)
-        (line_of_ring bad)) }
-    ensures line { result ≢ statuses.bad_ring → Reports (E.taken errors.old) (E.taken errors.new) (E.faults errors.old) (E.faults errors.new)
-        (line_of_status result) }
+    ensures refused { IsRingRefused fault result (λ bad. PutsLine (output E.taken E.faults E.calls errors.old errors.new) (line_of_ring bad)) }
+    ensures line { result ≢ statuses.bad_ring → Reports (output E.taken E.faults E.calls errors.old errors.new) (line_of_status result) }
 {
     match fault {
         OpenFault::Failed => {
@@ -246,7 +240,7 @@ pub fn refuse_ring<E: Sink>(errors: &mut E, fault: OpenFault) -> u8
 
 /// Puts the line of a status on the error sink.
 pub fn report<E: Sink>(errors: &mut E, status: u8)
-    ensures { Reports (E.taken errors.old) (E.taken errors.new) (E.faults errors.old) (E.faults errors.new) (line_of_status status) }
+    ensures { Reports (output E.taken E.faults E.calls errors.old errors.new) (line_of_status status) }
 {
     let line = line_of(status);
     if !line.is_empty() {
@@ -256,7 +250,7 @@ pub fn report<E: Sink>(errors: &mut E, status: u8)
 
 /// Puts a line on the error sink.
 fn put_line<E: Sink>(errors: &mut E, line: &[u8])
-    ensures { Reports (E.taken errors.old) (E.taken errors.new) (E.faults errors.old) (E.faults errors.new) line.now }
+    ensures { PutsLine (output E.taken E.faults E.calls errors.old errors.new) line.now }
 {
     let _ = errors.put(line);
 }

@@ -3,7 +3,7 @@ ghost use Rattle.sw_control.specs.Asking.{is_control as is_control_path};
 ghost use Rattle.sw_replica_server.specs.Targets.{is_replication_of};
 ghost use Rattle.sw_session.specs.Closing.{asks_to_close_of};
 ghost use Rattle.sw_session.specs.Passages.{passage};
-ghost use Rattle.sw_cluster.specs.Connections.{AreNodesOf, DoorAnswers, IsConnection, NeverHalts};
+ghost use Rattle.sw_cluster.specs.Connections.{AreNodesOf, DoorAnswers, IsConnection, NeverHalts, PutsForConnection};
 
 use crate::status::status_of;
 use std::alloc::Global;
@@ -109,6 +109,7 @@ pub fn serve_connection<R: Source, W: Sink, D: ReplicaDoor>(
     requires nodes { AreNodesOf ring.now (D.sight door.old).nodes }
     ensures connection { IsConnection D.sight ring.now now door.old (passage R.left R.faults source.old source.new)
         (passage W.taken W.faults out.old out.new) door.new result }
+    ensures puts { PutsForConnection (R.left source.old) (W.calls out.old) (W.calls out.new) result }
     ensures nodes { (D.sight door.new).nodes ≡ (D.sight door.old).nodes }
 {
     let mut server = DoorServer { ring, door };

@@ -2,8 +2,9 @@ ghost use Rattle.std.specs.Prelude.{◌≡◌, ◌≢◌, map};
 ghost use Rattle.std.specs.String.{string_bytes};
 ghost use Rattle.sw_cluster.specs.Locating.{IsWritten, Locates};
 ghost use Rattle.sw_cluster.specs.Opening.{EndsWith};
-ghost use Rattle.sw_cluster.specs.Report.{Reports, line_of as line_of_status, ring_line as line_of_ring};
+ghost use Rattle.sw_cluster.specs.Report.{PutsLine, Reports, line_of as line_of_status, ring_line as line_of_ring};
 ghost use Rattle.sw_cluster.specs.Statuses as statuses;
+ghost use Rattle.sw_cluster.specs.Told.{output};
 ghost use Rattle.sw_outside.specs.Counts.{raised};
 ghost use Rattle.sw_stores.specs.Places.{IsAsItWas};
 ghost use Rattle.sw_cluster.specs.Words.{account_word, container_word, object_word, ring_word};
@@ -29,13 +30,11 @@ pub fn locate<W: Sink, E: Sink, S: Stores>(
 ) -> u8
     ensures ends { EndsWith (S.text stores.old (ring_word (map string_bytes words.now))) (S.faults stores.old) (S.faults stores.new)
         (out.new ≡ out.old)
-        (λ bad. Reports (E.taken errors.old) (E.taken errors.new) (E.faults errors.old) (E.faults errors.new) (line_of_ring bad))
+        (λ bad. PutsLine (output E.taken E.faults E.calls errors.old errors.new) (line_of_ring bad))
         (λ ring. (S.faults stores.new ≡ S.faults stores.old) × Locates ring (account_word (map string_bytes words.now))
-        (container_word (map string_bytes words.now)) (object_word (map string_bytes words.now)) (W.taken out.old) (W.taken out.new) (W.faults out.old)
-        (W.faults out.new) result)
+        (container_word (map string_bytes words.now)) (object_word (map string_bytes words.now)) (output W.taken W.faults W.calls out.old out.new) result)
         result }
-    ensures line { result ≢ statuses.bad_ring → Reports (E.taken errors.old) (E.taken errors.new) (E.faults errors.old) (E.faults errors.new)
-        (line_of_status result) }
+    ensures line { result ≢ statuses.bad_ring → Reports (output E.taken E.faults E.calls errors.old errors.new) (line_of_status result) }
     ensures asked { S.calls stores.new ≡ raised (S.calls stores.old) }
     ensures out { IsAsItWas (S.out stores.old) (S.out stores.new) }
     ensures rests { IsAsItWas (S.rests stores.old) (S.rests stores.new) }
@@ -53,7 +52,7 @@ pub fn locate<W: Sink, E: Sink, S: Stores>(
 /// Writes where the name of the words is in a ring.
 fn write_where<W: Sink>(alloc: Global, ring: &Ring, words: &[String], out: &mut W) -> u8
     ensures { Locates ring.now (account_word (map string_bytes words.now)) (container_word (map string_bytes words.now))
-        (object_word (map string_bytes words.now)) (W.taken out.old) (W.taken out.new) (W.faults out.old) (W.faults out.new) result }
+        (object_word (map string_bytes words.now)) (output W.taken W.faults W.calls out.old out.new) result }
 {
     let (account, container, object) = names_of(words);
     match where_text(alloc, ring, account, container, object) {
@@ -65,7 +64,7 @@ fn write_where<W: Sink>(alloc: Global, ring: &Ring, words: &[String], out: &mut 
 
 /// Writes a text, in one call of the sink.
 fn write_text<W: Sink>(out: &mut W, text: &[u8]) -> u8
-    ensures { IsWritten (W.taken out.old) (W.taken out.new) (W.faults out.old) (W.faults out.new) text.now result }
+    ensures { IsWritten (output W.taken W.faults W.calls out.old out.new) text.now result }
 {
     match out.put(text) {
         Ok(()) => COMPLETE,

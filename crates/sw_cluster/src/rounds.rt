@@ -2,7 +2,6 @@ ghost use Rattle.std.specs.Prelude.{◌≡◌, ℕ, ◌+◌, ◌*◌, ◌^◌, �
 ghost use Rattle.sw_core.specs.Worlds.{AllNodes, opened};
 ghost use Rattle.sw_outside.specs.Counts.{raised};
 ghost use Rattle.sw_outside.specs.Faults.{faults_after};
-ghost use Rattle.sw_session.specs.Passages.{passage};
 ghost use Rattle.sw_volume.specs.Volume.{raised_by};
 ghost use Rattle.sw_cluster.specs.Connections.{AreNodesOf, IsConnection};
 ghost use Rattle.sw_cluster.specs.Leaving.{AreLeft, FailsToRestart, StopsAmong};
@@ -10,7 +9,7 @@ ghost use Rattle.sw_cluster.specs.Nodes.{IsReady, places_of};
 ghost use Rattle.sw_cluster.specs.Rounds.{AllServed, AreHeard, EndsServing, EndsConnections, IsServedOver, IsServing, IsUnserved, RestartsDevice};
 ghost use Rattle.sw_cluster.specs.Rounds.{RestartsFirst};
 ghost use Rattle.sw_cluster.specs.Rounds.{Round, SaysLine, read_in, serve_status, written_in};
-ghost use Rattle.sw_cluster.specs.Told.{counts, doors_told};
+ghost use Rattle.sw_cluster.specs.Told.{counts, doors_told, output};
 
 use crate::connection::serve_connection;
 use crate::server::stripes;
@@ -58,11 +57,11 @@ pub fn serve_connections<W: Sink, S: Stores, N: Doors, C: Clock>(
     ensures home { (d s : ℕ) → S.out stores.new d s ≡ false }
     ensures serving { IsServing S.V.tells S.V.holds S.V.faults ring.now S.first port connections (S.rests stores.old) (S.rests stores.new)
         (doors_told N.accepts N.finished N.calls N.faults doors.old) (doors_told N.accepts N.finished N.calls N.faults doors.new)
-        (passage W.taken W.faults out.old out.new) (C.readings clock.old) (C.readings clock.new)
+        (output W.taken W.faults W.calls out.old out.new) (C.readings clock.old) (C.readings clock.new)
         (counts S.calls S.faults stores.old) (counts S.calls S.faults stores.new) result
         ⊎ IsUnserved S.first ring.now (S.rests stores.old) (S.rests stores.new)
         (doors_told N.accepts N.finished N.calls N.faults doors.old) (doors_told N.accepts N.finished N.calls N.faults doors.new)
-        (passage W.taken W.faults out.old out.new) (C.readings clock.old) (C.readings clock.new)
+        (output W.taken W.faults W.calls out.old out.new) (C.readings clock.old) (C.readings clock.new)
         (counts S.calls S.faults stores.old) (counts S.calls S.faults stores.new) result }
 {
     match open_nodes(alloc, ring, stores) {
@@ -99,7 +98,7 @@ fn serve_over<W: Sink, S: Stores, N: Doors, C: Clock>(
     ensures home { (d s : ℕ) → S.out stores.new d s ≡ false }
     ensures over { IsServedOver S.V.tells S.V.holds S.V.faults ring.now port connections world (S.rests stores.new)
         (doors_told N.accepts N.finished N.calls N.faults doors.old) (doors_told N.accepts N.finished N.calls N.faults doors.new)
-        (passage W.taken W.faults out.old out.new) (C.readings clock.old) (C.readings clock.new)
+        (output W.taken W.faults W.calls out.old out.new) (C.readings clock.old) (C.readings clock.new)
         (counts S.calls S.faults stores.old) (counts S.calls S.faults stores.new) result }
 {
     let mut world = world;
@@ -135,7 +134,7 @@ fn listen<W: Sink, S: Stores, N: Doors, C: Clock>(
     ensures { (after : AllNodes S.V)
         × EndsServing S.V.tells S.V.holds S.V.faults ring.now port connections world.old after
         (doors_told N.accepts N.finished N.calls N.faults doors.old) (doors_told N.accepts N.finished N.calls N.faults doors.new)
-        (passage W.taken W.faults out.old out.new) (C.readings clock.old) (C.readings clock.new)
+        (output W.taken W.faults W.calls out.old out.new) (C.readings clock.old) (C.readings clock.new)
         (counts S.calls S.faults stores.old) (counts S.calls S.faults stores.new) result
         × AreLeft S.V.tells S.V.holds S.V.faults S.calls S.rests S.out ring.now after world.new stores.new }
 {
@@ -292,7 +291,7 @@ fn restart<S: Stores>(
 
 /// Puts a line on the output, in one call: a word and a number.
 fn say<W: Sink>(alloc: Global, out: &mut W, word: &[u8], number: u32) -> Result<(), ServeFault>
-    ensures { SaysLine ((word.now ++ decimal number) ++ 10 ∷ []) (passage W.taken W.faults out.old out.new) result }
+    ensures { SaysLine ((word.now ++ decimal number) ++ 10 ∷ []) (output W.taken W.faults W.calls out.old out.new) result }
 {
     let Ok(line) = line_of(alloc, word, number) else {
         return Err(ServeFault::NoMemory);

@@ -3,7 +3,7 @@ ghost use Rattle.sw_core.specs.Worlds.{opened};
 ghost use Rattle.sw_session.specs.Passages.{passage};
 ghost use Rattle.sw_cluster.specs.Ending.{IsRun, IsRunOver, IsUnbegun};
 ghost use Rattle.sw_cluster.specs.Nodes.{places_of};
-ghost use Rattle.sw_cluster.specs.Told.{counts};
+ghost use Rattle.sw_cluster.specs.Told.{counts, output};
 
 use crate::server::Nodes;
 use crate::status::status_of;
@@ -36,11 +36,11 @@ pub fn run_session<R: Source, W: Sink, S: Stores, C: Clock>(
     ensures home { (d s : ℕ) → S.out stores.new d s ≡ false }
     ensures run { IsRun S.V.tells S.V.holds S.V.faults S.first ring.now (S.rests stores.old) (S.rests stores.new)
         (counts S.calls S.faults stores.old) (counts S.calls S.faults stores.new) (passage R.left R.faults source.old source.new)
-        (passage W.taken W.faults out.old out.new)
+        (output W.taken W.faults W.calls out.old out.new)
         (C.readings clock.old) (C.readings clock.new) trail.new result
         ⊎ IsUnbegun S.first ring.now (S.rests stores.old) (S.rests stores.new)
         (counts S.calls S.faults stores.old) (counts S.calls S.faults stores.new) (passage R.left R.faults source.old source.new)
-        (passage W.taken W.faults out.old out.new)
+        (output W.taken W.faults W.calls out.old out.new)
         (C.readings clock.old) (C.readings clock.new) trail.new result }
 {
     match open_nodes(alloc, ring, stores) {
@@ -67,7 +67,7 @@ fn session<R: Source, W: Sink, S: Stores, C: Clock>(
     ensures home { (d s : ℕ) → S.out stores.new d s ≡ false }
     ensures run { IsRunOver S.V.tells S.V.holds S.V.faults ring.now world (S.rests stores.new)
         (counts S.calls S.faults stores.old) (counts S.calls S.faults stores.new) (passage R.left R.faults source.old source.new)
-        (passage W.taken W.faults out.old out.new)
+        (output W.taken W.faults W.calls out.old out.new)
         (C.readings clock.old) (C.readings clock.new) trail.new result }
 {
     let faithful = Acts {

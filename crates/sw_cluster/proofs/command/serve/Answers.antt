@@ -1,10 +1,9 @@
 use Rattle.std.proofs.Common.{◌⊎◌, refl, subst}
 use Rattle.sw_outside.specs.Counts.{raised}
-use Rattle.sw_session.specs.Passages.{passage}
 use Rattle.sw_cluster.proofs.OpeningLemmas.{not_opened, opened}
 use Rattle.sw_cluster.proofs.Rounding.{counts-same}
 use Rattle.sw_cluster.specs.Rounds.{IsServing, IsUnserved}
-use Rattle.sw_cluster.specs.Told.{Counts, counts, doors_told}
+use Rattle.sw_cluster.specs.Told.{Counts, counts, doors_told, output}
 use Rattle.sw_cluster.proofs.command.serve.Goals as goal
 
 pub returns-in-Ok-clause-ends : goal.returns-in-Ok-clause-ends
@@ -17,11 +16,11 @@ returns-in-Ok-clause-ends g c =
       ends = subst (λ (k : Counts). IsServing v.tells v.holds v.faults c.in-Ok.ring s.first c.args.options.port c.args.options.connections
           (s.rests c.open_ring.new.stores) (s.rests run.new.stores)
           (doors_told n.accepts n.finished n.calls n.faults c.args.doors.now) (doors_told n.accepts n.finished n.calls n.faults run.new.doors)
-          (passage g.W.Sink.taken g.W.Sink.faults c.args.out.now run.new.out)
+          (output g.W.Sink.taken g.W.Sink.faults g.W.Sink.calls c.args.out.now run.new.out)
           (g.C.Clock.readings c.args.clock.now) (g.C.Clock.readings run.new.clock) k (counts s.calls s.faults run.new.stores) run.result
           ⊎ IsUnserved s.first c.in-Ok.ring (s.rests c.open_ring.new.stores) (s.rests run.new.stores)
           (doors_told n.accepts n.finished n.calls n.faults c.args.doors.now) (doors_told n.accepts n.finished n.calls n.faults run.new.doors)
-          (passage g.W.Sink.taken g.W.Sink.faults c.args.out.now run.new.out)
+          (output g.W.Sink.taken g.W.Sink.faults g.W.Sink.calls c.args.out.now run.new.out)
           (g.C.Clock.readings c.args.clock.now) (g.C.Clock.readings run.new.clock) k (counts s.calls s.faults run.new.stores) run.result)
           (counts-same (counts s.calls s.faults c.open_ring.new.stores) now c.in-Ok.ensures.once c.in-Ok.ensures.opening.1) run.ensures.serving;
     })

@@ -19,6 +19,9 @@ returns-clause-connection g c =
     (connection-of g.D.Door.sight c.args.ring.now ring_in door_in _ source sink _ _ _ refl c.serve-ended.ensures.session c.args.now c.status_of.result
     (still-each c.args.now _ _ c.serve-ended.ensures.ticks) c.status_of.ensures)
 
+pub returns-clause-puts : goal.returns-clause-puts
+returns-clause-puts g c = (_, c.serve-ended.result, c.status_of.ensures, c.serve-ended.ensures.puts)
+
 pub returns-clause-nodes : goal.returns-clause-nodes
 returns-clause-nodes g c =
     connection-nodes g.D.Door.sight c.args.ring.now c.args.now c.args.door.now _ _ _ _ (returns-clause-connection g c)

@@ -31,7 +31,7 @@ returns-in_err-serve_all g c =
             (counts s.calls s.faults c.args.stores.now) (counts s.calls s.faults c.serve_all.new.stores) (Err c.in_err-serve_all.field-0.0))
             (told-same (doors_told n.accepts n.finished n.calls n.faults c.listen.new.self) heard c.listen.ensures.accepts c.listen.ensures.finished
             c.listen.ensures.calls (c.in-Ok.ensures.cause.kept)) stops.1;
-        concludes = (refl, refl, c.in_ok-say.ensures.1);
+        concludes = (refl, (refl, c.in_ok-say.ensures.1, c.in_ok-say.ensures.2));
       })),
       stops.2,
     )

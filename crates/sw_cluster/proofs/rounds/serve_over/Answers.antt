@@ -8,8 +8,7 @@ use Rattle.sw_cluster.specs.Ending.{AllTold}
 use Rattle.sw_cluster.specs.Leaving.{AreLeft}
 use Rattle.sw_cluster.specs.Nodes.{IsReady, out_but}
 use Rattle.sw_cluster.specs.Rounds.{EndsServing, HasServed}
-use Rattle.sw_cluster.specs.Told.{Counts, counts, doors_told}
-use Rattle.sw_session.specs.Passages.{passage}
+use Rattle.sw_cluster.specs.Told.{Counts, counts, doors_told, output}
 use Rattle.sw_cluster.proofs.rounds.serve_over.Goals as goal
 
 pub listen-ended-requires-clause-ready : goal.listen-ended-requires-clause-ready
@@ -51,7 +50,7 @@ returns-clause-over g c =
       status_is = c.status_of_serve.ensures;
       ends = subst (λ (k : Counts). EndsServing v.tells v.holds v.faults c.args.ring.now c.args.port c.args.connections c.args.world ended.0
           (doors_told n.accepts n.finished n.calls n.faults c.args.doors.now) (doors_told n.accepts n.finished n.calls n.faults c.listen-ended.new.doors)
-          (passage g.W.Sink.taken g.W.Sink.faults c.args.out.now c.listen-ended.new.out)
+          (output g.W.Sink.taken g.W.Sink.faults g.W.Sink.calls c.args.out.now c.listen-ended.new.out)
           (g.C.Clock.readings c.args.clock.now) (g.C.Clock.readings c.listen-ended.new.clock)
           (counts s.calls s.faults c.args.stores.now) k c.listen-ended.result)
           (counts-same (counts s.calls s.faults c.listen-ended.new.stores) (counts s.calls s.faults c.give_back.new.stores)

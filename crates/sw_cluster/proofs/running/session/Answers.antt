@@ -3,7 +3,7 @@ use Rattle.sw_core.specs.Worlds.{AllNodes, without_lines}
 use Rattle.sw_session.specs.Passages.{passage}
 use Rattle.sw_cluster.specs.Ending.{IsRunOver}
 use Rattle.sw_cluster.specs.Nodes.{out_but}
-use Rattle.sw_cluster.specs.Told.{counts}
+use Rattle.sw_cluster.specs.Told.{counts, output}
 use Rattle.sw_cluster.proofs.Trailing.{nodes-ended, nodes-run}
 use Rattle.sw_cluster.proofs.running.session.Goals as goal
 
@@ -56,14 +56,14 @@ returns-clause-run g c =
     by-name (λ (x : g.row.S.Denot). IsRunOver g.S.V.Volume.tells g.S.V.Volume.holds g.S.V.Volume.faults c.args.ring.now c.args.world (g.S.Stores.rests x)
     (counts g.S.Stores.calls g.S.Stores.faults c.args.stores.now) (counts g.S.Stores.calls g.S.Stores.faults x)
     (passage g.R.Source.left g.R.Source.faults c.args.source.now c.serve-ended.new.source)
-    (passage g.W.Sink.taken g.W.Sink.faults c.args.out.now c.serve-ended.new.out) (g.C.Clock.readings c.args.clock.now)
+    (output g.W.Sink.taken g.W.Sink.faults g.W.Sink.calls c.args.out.now c.serve-ended.new.out) (g.C.Clock.readings c.args.clock.now)
     (g.C.Clock.readings c.serve-ended.new.clock)
     (record { steps = c.take_trail.result; moments = c.from.result }) c.status_of.result) {m = c.serve-ended.new.server.stores.ghost_name} (search rules)
     (sym {a = c.serve-ended.new.server.stores.ghost_name} ended.same_stores)
     (subst (λ (w : AllNodes _). IsRunOver g.S.V.Volume.tells g.S.V.Volume.holds g.S.V.Volume.faults c.args.ring.now w (g.S.Stores.rests c.give_back.new.stores)
     (counts g.S.Stores.calls g.S.Stores.faults c.args.stores.now) (counts g.S.Stores.calls g.S.Stores.faults c.give_back.new.stores)
     (passage g.R.Source.left g.R.Source.faults c.args.source.now c.serve-ended.new.source)
-    (passage g.W.Sink.taken g.W.Sink.faults c.args.out.now c.serve-ended.new.out) (g.C.Clock.readings c.args.clock.now)
+    (output g.W.Sink.taken g.W.Sink.faults g.W.Sink.calls c.args.out.now c.serve-ended.new.out) (g.C.Clock.readings c.args.clock.now)
     (g.C.Clock.readings c.serve-ended.new.clock) (record { steps = c.take_trail.result; moments = c.from.result }) c.status_of.result) c.new.ensures.door
     (nodes-run g.S.V.Volume.tells g.S.V.Volume.holds g.S.V.Volume.faults c.args.ring.now g.S.Stores.faults g.S.Stores.calls g.S.Stores.rests g.S.Stores.out
     _ _ _ _ _ _ c.serve-ended.ensures.session refl
@@ -72,4 +72,4 @@ returns-clause-run g c =
     c.take_trail.result c.from.result c.status_of.result
     c.status_of.ensures (c.take_trail.ensures.lines ∙ ap (λ (w : AllNodes _). w.lines) c.into_door-world.ensures)
     (c.take_trail.ensures.after ∙ ap without_lines c.into_door-world.ensures) c.from.ensures c.serve-ended.ensures.ticks c.give_back.ensures.world
-    c.give_back.ensures.rests c.give_back.ensures.others c.give_back.ensures.faults c.give_back.ensures.calls))
+    c.give_back.ensures.rests c.give_back.ensures.others c.give_back.ensures.faults c.give_back.ensures.calls _ _ c.serve-ended.ensures.puts))
