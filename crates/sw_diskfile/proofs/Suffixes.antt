@@ -1,7 +1,9 @@
 -- Times before an ending.
-use Rattle.std.proofs.Common.{◌≡◌, ℕ, ◌-◌, ◌≤◌, ◌++◌, sym, ◌∙◌, ap, subst, true, false, List, take, drop, length, arith, length-append}
+use Rattle.std.proofs.Common.{◌≡◌, ◌≢◌, ℕ, ◌-◌, ◌≤◌, ◌++◌, sym, ◌∙◌, ap, subst, true, false, List, take, drop, length, arith, length-append}
+use Rattle.std.proofs.Common.{Option, Some, None}
 use Rattle.std.proofs.lemmas.List.{take_at, drop_at, take-append-drop}
 use Rattle.std.proofs.lemmas.Slice.Eq.{bytes_eq-Decides}
+use Rattle.std.specs.Prelude.{IfSome}
 use Rattle.std.specs.Str.{bytes_eq}
 use Rattle.sw_timestamp.specs.TimeText.{IsTimeText, text_of}
 use Rattle.sw_timestamp.specs.declared.timestamp.TheConstants.{GREATEST}
@@ -28,16 +30,22 @@ pub other_ending : (text front end : List ℕ) → bytes_eq (drop (length text -
 other_ending text front end off e =
     let same = (bytes_eq-Decides (drop (length text - length end) text) end).1 (ending_is text front end e) in cc
 
--- nor is one whose stem reads as no time, or as one that is written otherwise
-pub no_time : (text stem end : List ℕ) → stem ≡ take (length text - length end) text → ((t : ℕ) → ¬ IsTimeText stem t) → (time : ℕ) → time ≤ GREATEST →
-    text ≡ text_of time ++ end → ⊥
-no_time text stem end s none time le e =
-    let is : stem ≡ text_of time = s ∙ stem_is text (text_of time) end e in
-    none time (subst (λ (l : List ℕ). IsTimeText l time) (sym is) (normal_text_reads_back time le).0)
+-- nor is one whose stem is written as no time
+pub no_stem : (text stem end : List ℕ) → stem ≡ take (length text - length end) text → ((time : ℕ) → time ≤ GREATEST → stem ≢ text_of time)
+    → (time : ℕ) → time ≤ GREATEST → text ≡ text_of time ++ end → ⊥
+no_stem text stem end s none time le e = none time le (s ∙ stem_is text (text_of time) end e)
 
-pub other_spelling : (text stem end : List ℕ) (read : ℕ) → stem ≡ take (length text - length end) text → IsTimeText stem read → ¬ (stem ≡ text_of read) →
-    (time : ℕ) → time ≤ GREATEST → text ≡ text_of time ++ end → ⊥
-other_spelling text stem end read s reads other time le e =
-    let is : stem ≡ text_of time = s ∙ stem_is text (text_of time) end e in
-    let again : IsTimeText stem time = subst (λ (l : List ℕ). IsTimeText l time) (sym is) (normal_text_reads_back time le).0 in
-    other (is ∙ ap text_of (reads_as_one_time stem time read again reads))
+-- what is written before an ending
+pub before_ending : (found : Option ℕ) (text stem end : List ℕ) → text ≡ stem ++ end → IfSome found (λ time. stem ≡ text_of time)
+    → IfSome found (λ time. text ≡ text_of time ++ end)
+before_ending None text stem end is written = tt
+before_ending (Some time) text stem end is written = is ∙ ap (λ l. l ++ end) written
+
+-- a text that reads as no time is written as none, and so is one that is another spelling
+pub no_time : (text : List ℕ) → ((t : ℕ) → ¬ IsTimeText text t) → (time : ℕ) → time ≤ GREATEST → text ≡ text_of time → ⊥
+no_time text none time le is = none time (subst (λ (l : List ℕ). IsTimeText l time) (sym is) (normal_text_reads_back time le).0)
+
+pub other_spelling : (text : List ℕ) (read : ℕ) → IsTimeText text read → ¬ (text ≡ text_of read) → (time : ℕ) → time ≤ GREATEST → text ≡ text_of time → ⊥
+other_spelling text read reads other time le is =
+    let again : IsTimeText text time = subst (λ (l : List ℕ). IsTimeText l time) (sym is) (normal_text_reads_back time le).0 in
+    other (is ∙ ap text_of (reads_as_one_time text time read again reads))

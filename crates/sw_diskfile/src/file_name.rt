@@ -56,10 +56,19 @@ fn time_before(text: &[u8], ending: &[u8]) -> Option<Timestamp>
     ensures none { IsNone result → (time : ℕ) → time ≤ 999999999999999 → text.now ≢ text_of time ++ ending.now }
 {
     let stem = text.strip_suffix(ending)?;
-    let Ok(time) = Timestamp::parse(stem) else {
+    written_time(stem)
+}
+
+/// The time that is written as this text, where there is one. Other spellings of a time are none.
+pub fn written_time(text: &[u8]) -> Option<Timestamp>
+    ensures some { IfSome result (λ time. text.now ≡ text_of time) }
+    ensures bound { IfSome result (λ time. time ≤ 999999999999999) }
+    ensures none { IsNone result → (time : ℕ) → time ≤ 999999999999999 → text.now ≢ text_of time }
+{
+    let Ok(time) = Timestamp::parse(text) else {
         return None;
     };
-    if is_written(&time, stem) {
+    if is_written(&time, text) {
         Some(time)
     } else {
         None

@@ -14,7 +14,7 @@ use sw_timestamp::Timestamp;
 use thiserror::Error;
 
 /// Units of 10 microseconds in a second.
-const UNITS: u64 = 100_000;
+pub const UNITS_PER_SECOND: u64 = 100_000;
 
 /// A second has at most so many digits.
 const MAX_DIGITS: usize = 10;
@@ -58,7 +58,7 @@ fn may_expire(time: Timestamp, name: &Name, second: u64) -> bool
     requires { second ≤ 9999999999 }
     ensures { result ≡ may_expire_at time name.now second }
 {
-    time.units() < second * UNITS && has_short_path(name)
+    time.units() < second * UNITS_PER_SECOND && has_short_path(name)
 }
 
 /// Whether an entry of the expirer's queue can name the object.
@@ -85,7 +85,7 @@ pub fn second_of(text: &[u8]) -> Option<u64>
         return None;
     }
     match Timestamp::parse(text) {
-        Ok(time) => Some(time.units() / UNITS),
+        Ok(time) => Some(time.units() / UNITS_PER_SECOND),
         Err(_) => None,
     }
 }

@@ -15,7 +15,7 @@ mod items;
 pub mod laws;
 mod limits;
 
-pub use expiry::{BadExpiry, expiry_of, is_expired, second_of};
+pub use expiry::{BadExpiry, UNITS_PER_SECOND, expiry_of, is_expired, second_of};
 pub use field_tests::{agrees_with, asks_for_none, has_value, is_replicated, time_of, type_of};
 pub use heads::heads_of;
 pub use items::items_of;

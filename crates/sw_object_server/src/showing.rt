@@ -6,16 +6,13 @@ ghost use Rattle.sw_object_server.specs.Showing.{shows_fields};
 use crate::replies::{bare, damaged, field, not_found, time_text};
 use httpdate::HttpDate;
 use std::alloc::Global;
-use sw_fields::is_expired;
+use sw_fields::{UNITS_PER_SECOND, is_expired};
 use sw_hashpath::hex_text;
 use sw_message::{Field, FieldList, ReplyBody, Response};
 use sw_outside::{Bytes, NoMemory};
 use sw_peer::Got;
 use sw_state::{Content, Head, Heads};
 use sw_timestamp::Timestamp;
-
-/// Units of 10 microseconds in a second.
-const UNITS: u64 = 100_000;
 
 /// The reply to a GET that got this, at this second since the epoch, or with `head_only` to a HEAD. The body is moved into it.
 pub fn shown(alloc: Global, got: Got, now: u64, head_only: bool) -> Result<Response, NoMemory>
@@ -143,7 +140,7 @@ fn second_text(second: u64) -> [u8; 10]
     requires { second ≤ 9999999999 }
     ensures { result ≡ second_text_of second }
 {
-    let normal = time_text(Timestamp::from_units(second * UNITS).unwrap());
+    let normal = time_text(Timestamp::from_units(second * UNITS_PER_SECOND).unwrap());
     let mut text = [0u8; 10];
     text.copy_from_slice(&normal[..10]);
     text
@@ -153,7 +150,7 @@ fn second_text(second: u64) -> [u8; 10]
 fn date_text(time: Timestamp) -> [u8; 29]
     ensures { IsDate time result }
 {
-    HttpDate::from_unix_secs(time.units().div_ceil(UNITS))
+    HttpDate::from_unix_secs(time.units().div_ceil(UNITS_PER_SECOND))
         .unwrap()
         .to_bytes()
 }
