@@ -1,15 +1,20 @@
 # `make run` shows the product at work, `make test` passes all its tests. Both need only the Rattle toolchain (`rt`) and Python 3.
-.PHONY: run example serve test check runs on-demand
+.PHONY: run build example serve test check runs on-demand
 
 # The worked example: a PUT and a GET of one object, from standard input to standard output.
 run:
 	@tools/run-example examples/put-and-get.http
 
+# The program, compiled before any proof: build/sw. It has checks in it, and is many times slower than the proved one, crates/sw/out/sw, which `rt run` in
+# crates/sw and the gate leave. What is here runs the proved one where it is newer than the sources, and else this one.
+build:
+	@tools/program --unproved
+
 # A longer one: writes of all methods at two devices, and the trail of the steps that they made.
 example:
 	@tools/run-example examples/writes-and-trail.http
 
-# A PUT and a GET over TCP: starts the node, asks it as a client does, and looks at all that comes back.
+# A PUT and a GET over TCP: starts the node, asks it as a client does, looks at all that comes back, kills it and starts it again.
 serve:
 	@tools/serve-run
 

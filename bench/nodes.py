@@ -1,4 +1,5 @@
 """What the benchmarks share: a node that is started and ended, the paths of objects, and the files that a node leaves on the disk."""
+import functools
 import hashlib
 import json
 import os
@@ -10,18 +11,19 @@ import subprocess
 import sys
 
 TOP = pathlib.Path(__file__).resolve().parent.parent
-PROGRAM = TOP / "crates" / "sw" / "out" / "sw"
 RING = TOP / "examples" / "two-devices.ring.json"
 FILE_NAME = re.compile(r"[0-9]{10}\.[0-9]{5}\.(data|meta|ts)")
 
 
+@functools.lru_cache(maxsize=None)
 def program():
-    """The program: the one that SW_PROGRAM names, else as it was last proved and built here."""
+    """The program: the one that SW_PROGRAM names, else the one that tools/program chooses, which says whether it is the proved one."""
     if "SW_PROGRAM" in os.environ:
         return os.environ["SW_PROGRAM"]
-    if not PROGRAM.is_file():
-        sys.exit("there is no program yet: `rt run` in crates/sw proves and builds it")
-    return str(PROGRAM)
+    found = subprocess.run([str(TOP / "tools" / "program")], stdout=subprocess.PIPE, text=True)
+    if found.returncode:
+        sys.exit("there is no program to measure")
+    return found.stdout.strip()
 
 
 class Ring:

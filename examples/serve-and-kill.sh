@@ -1,18 +1,18 @@
 #!/usr/bin/env bash
 # A node that listens: an object is written over TCP, the node is killed, started again, and asked for the object.
 #
-#   (cd crates/sw && rt run -- where data/S a c o)     proves and builds the program, once
-#   examples/serve-and-kill.sh                         runs in a folder of its own, which it takes away at the end
+#   examples/serve-and-kill.sh     runs the program that tools/program chooses, in a folder of its own, which it takes away at the end
 set -eu
 top=$(cd "$(dirname "${BASH_SOURCE[0]}")/.." && pwd)
 port=${1:-6200}
+program=$("$top/tools/program")
 room=$(mktemp -d)
 node=
 trap '[ -z "$node" ] || kill -9 "$node" 2>/dev/null; rm -rf "$room"' EXIT
 cd "$room"
 
 start() {
-    "$top/crates/sw/out/sw" serve "$top/examples/two-devices.ring.json" --port "$port" --workers 1 --connections 100 --passes 0 > said &
+    "$program" serve "$top/examples/two-devices.ring.json" --port "$port" --workers 1 --connections 100 --passes 0 > said &
     node=$!
     disown
     until grep -q listening said; do sleep 0.1; done
