@@ -1,10 +1,20 @@
-//! Tests of the base over its public calls: the outside, times, states, names and rings. What the contracts say is
-//! proved for every input, so these show what no contract can: that the worked values are the ones that were meant, that
-//! a call succeeds while there is memory, and that generic code works at the readers, writers and clocks of std.
+//! Tests of the base and of the crates of files over their public calls: the outside, times, states, names and rings; where files are kept, also
+//! between starts, how they are named and written, which of them are taken away, where all of them are, and what nodes compare of them. What the
+//! contracts say is proved for every input, so these show what no contract can: that the worked values are the ones that were meant, that a call
+//! succeeds while there is memory, that the unlinks of a clean-up come in byte order, and that generic code works at the readers, writers and clocks of
+//! std and at both volumes in memory.
 #![tactic(auto)]
 
 #[cfg(test)]
+mod cleanup;
+#[cfg(test)]
+mod diskfile;
+#[cfg(test)]
+mod fixtures;
+#[cfg(test)]
 mod hashpath;
+#[cfg(test)]
+mod metafile;
 #[cfg(test)]
 mod outside;
 #[cfg(test)]
@@ -12,4 +22,12 @@ mod ring;
 #[cfg(test)]
 mod state;
 #[cfg(test)]
+mod stores;
+#[cfg(test)]
+mod suffix;
+#[cfg(test)]
 mod timestamp;
+#[cfg(test)]
+mod volume;
+#[cfg(test)]
+mod walk;

@@ -1,5 +1,0 @@
-use Rattle.sw_door_tests.proofs.Silences.{wanted-change}
-use Rattle.sw_door_tests.proofs.refusing.RefusingContainerDoor.change_container.Goals as goal
-
-pub returns-clause-made : goal.returns-clause-made
-returns-clause-made c = wanted-change c.args._link c.args._device c.args._place.now c.args._change.now

@@ -1,0 +1,3 @@
+mod asking;
+mod replies;
+mod requests;

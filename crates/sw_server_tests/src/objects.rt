@@ -1,0 +1,4 @@
+mod asking;
+mod replicas;
+mod replies;
+mod requests;
