@@ -118,10 +118,10 @@ module _ (at : ℕ → Place → Type 0) (link : Link) (device : ℕ) (event : C
       by : (t.trail ≡ option_map (λ lines. lines ++ line ∷ []) s.trail) ⊎ ((wanting ≡ true) × IsSame s t) → HasRun start t
       by (inr none) = run-kept start s t none.1 has
       by (inl kept) = (one-line start s t (Came line) has moves.nodes kept has.after (refl, refl) (record {
-        states = λ d hash. ap (λ (o : Half Hash State ObjEntry). o.holds d hash) moves.objects ∙ has.stands.states d hash;
-        seen = λ l. ap (λ (o : Half Hash State ObjEntry). o.seen l) moves.objects ∙ has.stands.seen l;
+        states = λ d hash. ap (λ (o : Half Hash State ObjEntry ObjEntry). o.holds d hash) moves.objects ∙ has.stands.states d hash;
+        seen = λ l. ap (λ (o : Half Hash State ObjEntry ObjEntry). o.seen l) moves.objects ∙ has.stands.seen l;
         told = λ d hash.
-            ap (λ (o : Half Hash State ObjEntry). (o.seen (t.nodes.lock d hash)).told) moves.objects
+            ap (λ (o : Half Hash State ObjEntry ObjEntry). (o.seen (t.nodes.lock d hash)).told) moves.objects
             ∙ (ap (λ (n : Nodes). (s.objects.seen (n.lock d hash)).told) moves.nodes ∙ has.stands.told d hash);
       })).0
 

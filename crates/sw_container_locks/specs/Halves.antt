@@ -31,7 +31,7 @@ module _ {K : Type 0} (tells : K → Bool) (holds : K → Place → Option Table
   cont_held_of None place = None
 
   -- all of it, where the places of each device are under these locks
-  abbrev pub half_of : (ℕ → Place → ℕ) → List (ContSlot K) → Half Place (Option Tables) ContEntry
+  abbrev pub half_of : (ℕ → Place → ℕ) → List (ContSlot K) → Half Place (Option Tables) ContEntry ContEntry
   half_of lock all = record {
     seen = λ l. cont_seen_of (slice_get all l);
     holds = λ d place. cont_held_of (slice_get all (lock d place)) place;

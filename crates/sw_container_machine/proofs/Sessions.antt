@@ -35,10 +35,10 @@ cont-run-begins m s stands none = record { lines = []; kept = none; after = m; r
 -- the nodes and the containers are those that were there
 pub stands-still : (s t : Sight) (m : ContMachine) → t.nodes ≡ s.nodes → t.containers ≡ s.containers → StandsForContainers s m → StandsForContainers t m
 stands-still s t m nodes containers stands = record {
-  tables = λ d p. ap (λ (c : Half Place (Option Tables) ContEntry). c.holds d p) containers ∙ stands.tables d p;
-  seen = λ l. ap (λ (c : Half Place (Option Tables) ContEntry). c.seen l) containers ∙ stands.seen l;
+  tables = λ d p. ap (λ (c : Half Place (Option Tables) ContEntry ContEntry). c.holds d p) containers ∙ stands.tables d p;
+  seen = λ l. ap (λ (c : Half Place (Option Tables) ContEntry ContEntry). c.seen l) containers ∙ stands.seen l;
   told = λ d p.
-      ap (λ (c : Half Place (Option Tables) ContEntry). (c.seen (cont_lock t.nodes d p)).told) containers
+      ap (λ (c : Half Place (Option Tables) ContEntry ContEntry). (c.seen (cont_lock t.nodes d p)).told) containers
       ∙ (ap (λ (n : Nodes). (s.containers.seen (cont_lock n d p)).told) nodes ∙ stands.told d p);
 }
 

@@ -12,7 +12,7 @@ use Rattle.sw_container_steps.specs.declared.cont_change.ContChange.{ContChange}
 use Rattle.sw_container_steps.specs.declared.cont_entry.ContEntry.{ContEntry}
 
 abbrev pub ContHistory : Type 0
-ContHistory = HistoryOf Place (Option Tables) ContEntry
+ContHistory = HistoryOf Place (Option Tables) ContEntry ContEntry
 
 -- what a place stands for, by the entries. Doubts that are not settled don't count
 abbrev pub cont_stands : ContHistory → Place → Option Tables

@@ -13,7 +13,7 @@ use Rattle.sw_container_steps.specs.declared.cont_entry.ContEntry.{ContEntry}
 
 -- entries, and doubts: those of each step that failed in its commit, all of them or none made
 abbrev pub ContJournal : Type 0
-ContJournal = JournalOf ContEntry
+ContJournal = JournalOf ContEntry ContEntry
 
 -- whether the journal has room for these entries, and the container numbers for their rows. A step that changes nothing has none, and
 -- needs no room

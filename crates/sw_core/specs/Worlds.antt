@@ -142,7 +142,7 @@ abbrev pub place_lock : ℕ → ℕ → ℕ → Place → ℕ
 place_lock lock_bits power device place = lock_of lock_bits power device place.hash
 
 -- what is known of these locks
-abbrev pub containers_at : ℕ → ℕ → List (ContSlot MemState) → Half Place (Option Tables) ContEntry
+abbrev pub containers_at : ℕ → ℕ → List (ContSlot MemState) → Half Place (Option Tables) ContEntry ContEntry
 containers_at lock_bits power locks = half_of mem_tells mem_holds mem_faults (place_lock lock_bits power) locks
 
 -- the locks beside those of these volumes, under which no container was ever created

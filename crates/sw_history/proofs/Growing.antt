@@ -4,8 +4,8 @@ use Rattle.std.proofs.lemmas.List.{append-nil}
 use Rattle.sw_history.specs.Halves.{GrowsOf, Half, HalfMoves, HistoryOf}
 use Rattle.sw_history.specs.Laws.{GrowthGoesOn}
 
-module _ {K V E : Type 0} where
-  pub grows-refl : (h : HistoryOf K V E) → GrowsOf h h
+module _ {K V E D : Type 0} where
+  pub grows-refl : (h : HistoryOf K V E D) → GrowsOf h h
   grows-refl h = record {
     told = refl;
     opening = λ n. refl;
@@ -15,7 +15,7 @@ module _ {K V E : Type 0} where
     faults = omega arith;
   }
 
-  pub grows-trans : (h i g : HistoryOf K V E) → GrowsOf h i → GrowsOf i g → GrowsOf h g
+  pub grows-trans : (h i g : HistoryOf K V E D) → GrowsOf h i → GrowsOf i g → GrowsOf h g
   grows-trans h i g p q = record {
     told = q.told ∙ p.told;
     opening = λ n. q.opening n ∙ p.opening n;
@@ -29,11 +29,12 @@ module _ {K V E : Type 0} where
     faults = omega (arith, p.faults, q.faults);
   }
 
-  pub half-refl : (lock : ℕ → K → ℕ) (alone : Bool) (at : ℕ → K → Type 0) (s : Half K V E) → HalfMoves lock alone at s s
+  pub half-refl : (lock : ℕ → K → ℕ) (alone : Bool) (at : ℕ → K → Type 0) (s : Half K V E D) → HalfMoves lock alone at s s
   half-refl lock alone at s = record { grows = λ l. grows-refl (s.seen l); elsewhere = λ l away. refl; others = λ x d key away. refl }
 
   -- the locks of both are the same, and where the later is alone the earlier was
-  pub half-trans : (lock lock' : ℕ → K → ℕ) (alone alone' : Bool) (at : ℕ → K → Type 0) (a b c : Half K V E) → ((d : ℕ) (key : K) → lock' d key ≡ lock d key) →
+  pub half-trans : (lock lock' : ℕ → K → ℕ) (alone alone' : Bool) (at : ℕ → K → Type 0) (a b c : Half K V E D)
+      → ((d : ℕ) (key : K) → lock' d key ≡ lock d key) →
       (alone' ≡ true → alone ≡ true)
       → HalfMoves lock alone at a b → HalfMoves lock' alone' at b c → HalfMoves lock alone' at a c
   half-trans lock lock' alone alone' at a b c locks earlier p q = record {
@@ -42,7 +43,7 @@ module _ {K V E : Type 0} where
     others = λ x d key away. q.others x d key away ∙ p.others (earlier x) d key away;
   }
 
-  pub half-wider : (lock : ℕ → K → ℕ) (alone : Bool) (at more : ℕ → K → Type 0) (a b : Half K V E) → ((d : ℕ) (key : K) → at d key → more d key)
+  pub half-wider : (lock : ℕ → K → ℕ) (alone : Bool) (at more : ℕ → K → Type 0) (a b : Half K V E D) → ((d : ℕ) (key : K) → at d key → more d key)
       → HalfMoves lock alone at a b → HalfMoves lock alone more a b
   half-wider lock alone at more a b wider p = record {
     grows = p.grows;
@@ -50,5 +51,5 @@ module _ {K V E : Type 0} where
     others = λ x d key away. p.others x d key (λ is. away (wider d key is));
   }
 
-pub growth-goes-on : (K V E : Type 0) → GrowthGoesOn K V E
-growth-goes-on K V E h i g = grows-trans h i g
+pub growth-goes-on : (K V E D : Type 0) → GrowthGoesOn K V E D
+growth-goes-on K V E D h i g = grows-trans h i g

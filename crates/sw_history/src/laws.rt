@@ -3,6 +3,6 @@
 ghost use Rattle.sw_history.specs.Laws.{GrowthGoesOn};
 
 /// A history that is later than a later one is later.
-pub fn growth_goes_on<K, V, E>()
-    ensures { GrowthGoesOn K V E }
+pub fn growth_goes_on<K, V, E, D>()
+    ensures { GrowthGoesOn K V E D }
 {}

@@ -21,7 +21,7 @@ is_refusal answers.Failed = false
 is_refusal answers.NoMemory = true
 
 -- a journal that has no room for an entry, over contents that aren't told
-abbrev pub untold : {K V E : Type 0} → V → HistoryOf K V E
+abbrev pub untold : {K V E D : Type 0} → V → HistoryOf K V E D
 untold nothing = record {
   told = false;
   opening = λ key. nothing;

@@ -53,8 +53,8 @@ pub record Nodes : Type 0 where
 
 pub record Sight : Type 0 where
   pub nodes : Nodes
-  pub objects : Half Hash State ObjEntry
-  pub containers : Half Place (Option Tables) ContEntry
+  pub objects : Half Hash State ObjEntry ObjEntry
+  pub containers : Half Place (Option Tables) ContEntry ContEntry
   pub alone : Bool  -- whether nobody else changes the nodes
   pub faults : ℕ  -- how many messages or answers were lost
   pub asks : ℕ  -- how many messages asked for hashes or files

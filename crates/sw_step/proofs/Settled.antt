@@ -1,0 +1,64 @@
+-- What settling enters.
+use Rattle.std.proofs.Common.{◌≡◌, zero, suc, List, [], ◌∷◌, ◌++◌, refl, sym, ◌∙◌, ap, subst, inl, inr, ◌⊎◌, append_assoc}
+use Rattle.std.specs.List.{fold}
+use Rattle.std.proofs.lemmas.List.{append-nil}
+use Rattle.sw_step.specs.Journals.{StepJournal, flat}
+use Rattle.sw_step.specs.Laws.{AllAmong, EntersDoubtsAlone, IsAmong, NoDoubtsTell, NothingToSettle}
+use Rattle.sw_step.specs.Rules.{AreChosen, RulesOf, stands}
+use Rattle.sw_step.specs.Steps.{SettlesOne}
+
+among-middle : {X : Type 0} (front : List X) (x : X) (behind : List X) → IsAmong (front ++ x ∷ behind) x
+among-middle [] x behind = inl refl
+among-middle (y ∷ front) x behind = inr (among-middle front x behind)
+
+among-more : {X : Type 0} (front : List X) (d : X) (behind : List X) (x : X) → IsAmong (front ++ behind) x → IsAmong (front ++ d ∷ behind) x
+among-more [] d behind x is = inr is
+among-more (y ∷ front) d behind x (inl is) = inl is
+among-more (y ∷ front) d behind x (inr is) = inr (among-more front d behind x is)
+
+all-more : {X : Type 0} (front : List X) (d : X) (behind xs : List X) → AllAmong (front ++ behind) xs → AllAmong (front ++ d ∷ behind) xs
+all-more front d behind [] all = tt
+all-more front d behind (x ∷ xs) all = (among-more front d behind x all.0, all-more front d behind xs all.1)
+
+no-list : {X : Type 0} (xs : List X) (x : X) (ys : List X) → [] ≡ xs ++ x ∷ ys → ⊥
+no-list [] x ys is = cc
+no-list (z ∷ xs) x ys is = cc
+
+module _ {K V E C A : Type 0} (r : RulesOf K V E C A) where
+  pub enters : EntersDoubtsAlone r
+  enters at zero j after same = ([], ap (λ (x : StepJournal E). x.entries) same ∙ sym (append-nil j.entries), tt)
+  enters at (suc n) j after more = by more.1.settled (enters at n more.0 after more.2)
+    where
+      one : SettlesOne r at j more.0
+      one = more.1
+
+      lifted : (xs : List (List E)) → more.0.doubts ≡ one.front ++ one.behind → AllAmong more.0.doubts xs → AllAmong j.doubts xs
+      lifted xs is all = subst (λ (ds : List (List E)). AllAmong ds xs) (sym one.among)
+          (all-more one.front one.doubt one.behind xs (subst (λ (ds : List (List E)). AllAmong ds xs) is all))
+
+      by : (more.0 ≡ record j { doubts = one.front ++ one.behind })
+          ⊎ (more.0 ≡ record j { entries = j.entries ++ one.doubt; doubts = one.front ++ one.behind })
+          → ((entered : List (List E)) × (after.entries ≡ more.0.entries ++ flat entered) × AllAmong more.0.doubts entered)
+          → (entered : List (List E)) × (after.entries ≡ j.entries ++ flat entered) × AllAmong j.doubts entered
+      by (inl gone) rest = (
+        rest.0,
+        rest.1 ∙ ap (λ (x : StepJournal E). x.entries ++ flat rest.0) gone,
+        lifted rest.0 (ap (λ (x : StepJournal E). x.doubts) gone) rest.2,
+      )
+      by (inr come) rest = (
+        one.doubt ∷ rest.0,
+        rest.1 ∙ (ap (λ (x : StepJournal E). x.entries ++ flat rest.0) come ∙ append_assoc j.entries one.doubt (flat rest.0)),
+        (
+          subst (λ (ds : List (List E)). IsAmong ds one.doubt) (sym one.among) (among-middle one.front one.doubt one.behind),
+          lifted rest.0 (ap (λ (x : StepJournal E). x.doubts) come) rest.2,
+        ),
+      )
+
+  pub nothing : NothingToSettle r
+  nothing at zero j after same none = same
+  nothing at (suc n) j after more none = absurd (no-list more.1.front more.1.doubt more.1.behind (sym none ∙ more.1.among))
+
+  pub tell : NoDoubtsTell r
+  tell h key v can none =
+      let is : can.0 ≡ [] = subst (λ (ds : List (List E)). AreChosen r ds can.0) none can.1 in
+      can.2 ∙ ap (λ (es : List E). fold r.applied (stands r h key) es) is

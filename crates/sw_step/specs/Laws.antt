@@ -1,0 +1,40 @@
+-- What is promised of every step, whatever the lock keeps. (This project's own.)
+use Rattle.std.specs.Prelude.{◌≡◌, ◌≢◌, ℕ, Bool, true, List, ◌++◌}
+use Rattle.std.specs.Prelude.{[], ◌∷◌, ⊤, ◌⊎◌}
+use Rattle.sw_step.specs.Journals.{StepHistory, StepJournal, flat}
+use Rattle.sw_step.specs.Rules.{AreRules, CanStand, RulesOf, doubts_about, stands}
+use Rattle.sw_step.specs.Steps.{StepChanges, Settles}
+
+-- each of these is one of those
+abbrev pub IsAmong : {X : Type 0} → List X → X → Type 0
+IsAmong [] x = ⊥
+IsAmong (y ∷ ys) x = (x ≡ y) ⊎ IsAmong ys x
+
+abbrev pub AllAmong : {X : Type 0} → List X → List X → Type 0
+AllAmong ys [] = ⊤
+AllAmong ys (x ∷ xs) = IsAmong ys x × AllAmong ys xs
+
+module _ {K V E C A : Type 0} (r : RulesOf K V E C A) where
+  -- after a step of a lock that nobody else changes, its key stands for what the entries tell, with those of its doubts that were made: also
+  -- where the step failed
+  abbrev pub KeepsItsKey : Type 0
+  KeepsItsKey = (h : StepHistory K V E) (s : V) (key : K) (change : C) (answer : A) (g : StepHistory K V E) (t : V)
+      → AreRules r → StepChanges r true h s key change answer g t → g.told ≡ true → CanStand r g key t
+
+  -- and what another key may stand for it may stand for after it
+  abbrev pub KeepsOthers : Type 0
+  KeepsOthers = (h : StepHistory K V E) (s : V) (key : K) (change : C) (answer : A) (g : StepHistory K V E) (t : V) (other : K) (v : V)
+      → AreRules r → StepChanges r true h s key change answer g t → other ≢ key → CanStand r h other v → CanStand r g other v
+
+  -- settling enters doubts alone, each whole, and each was a doubt of these keys; no other entry comes
+  abbrev pub EntersDoubtsAlone : Type 0
+  EntersDoubtsAlone = (at : K → Bool) (n : ℕ) (j after : StepJournal E) → Settles r at n j after
+      → (entered : List (List E)) × (after.entries ≡ j.entries ++ flat entered) × AllAmong j.doubts entered
+
+  -- so where nothing is in doubt nothing is settled
+  abbrev pub NothingToSettle : Type 0
+  NothingToSettle = (at : K → Bool) (n : ℕ) (j after : StepJournal E) → Settles r at n j after → j.doubts ≡ [] → after ≡ j
+
+  -- and where no doubt of a key is left, it stands for what its entries tell
+  abbrev pub NoDoubtsTell : Type 0
+  NoDoubtsTell = (h : StepHistory K V E) (key : K) (v : V) → CanStand r h key v → doubts_about r key h.journal.doubts ≡ [] → v ≡ stands r h key
