@@ -7,7 +7,7 @@ use Rattle.std.proofs.lemmas.List.{append-nil}
 use Rattle.std.proofs.lemmas.List.Elements.{filter-append}
 use Rattle.std.proofs.lemmas.List.Sums.{fold-append}
 use Rattle.sw_step.specs.Journals.{StepHistory, StepJournal, flat}
-use Rattle.sw_step.specs.Laws.{KeepsItsKey, KeepsOthers}
+use Rattle.sw_step.specs.Laws.{KeepsHeld, KeepsItsKey, KeepsOthers}
 use Rattle.sw_step.specs.Rules.{AllAt, AreChosen, AreOf, AreRules, CanStand, Damages, Ending, Fails, IsOf, Makes, NoneOf, Overflows, Refuses, RulesOf}
 use Rattle.sw_step.specs.Rules.{Wants, about, doubts_about, is_about, stands}
 use Rattle.sw_step.specs.Steps.{Answers, StepChanges, EndsSeen, EndsUnseen, Leaves, at_key, Settles, SettlesOne, Stops}
@@ -268,21 +268,21 @@ module _ {K V E C A : Type 0} (r : RulesOf K V E C A) (are : AreRules r) where
     unseen Refuses so = absurd so
     unseen Overflows so = absurd so
 
-  ended : (h : StepHistory K V E) (s : V) (key : K) (change : C) (answer : A) (g : StepHistory K V E) (t : V)
-      → (step : StepChanges r true h s key change answer g t) → Ended step.before s key g t
+  ended : (h : StepHistory K V E) (s : K → V) (key : K) (change : C) (answer : A) (g : StepHistory K V E) (t : V)
+      → (step : StepChanges r true h s key change answer g t) → Ended step.before (s key) key g t
   ended h s key change answer g t step = by step.looked refl
     where
-      by : (b : Bool) → step.looked ≡ b → Ended step.before s key g t
-      by true is = seen step.before g s t key change answer step.read step.made step.own step.after.opening (step.leaves refl) (step.settled is)
+      by : (b : Bool) → step.looked ≡ b → Ended step.before (s key) key g t
+      by true is = seen step.before g (s key) t key change answer step.read step.made step.own step.after.opening (step.leaves refl) (step.settled is)
           (λ told. step.held refl told is) (r.ending answer)
           (subst (λ (c : Bool). Answers r c step.read step.before.journal key change answer step.made g.journal) is step.answered)
-      by false is = unseen step.before g s t key change answer step.read step.made step.own step.after.opening (step.leaves refl) (r.ending answer)
+      by false is = unseen step.before g (s key) t key change answer step.read step.made step.own step.after.opening (step.leaves refl) (r.ending answer)
           (subst (λ (c : Bool). Answers r c step.read step.before.journal key change answer step.made g.journal) is step.answered)
 
 pub keeps-its-key : {K V E C A : Type 0} (r : RulesOf K V E C A) → KeepsItsKey r
 keeps-its-key r h s key change answer g t are step told =
     let told_before : step.before.told ≡ true = sym step.after.told ∙ told in
-    (ended r are h s key change answer g t step).can (step.kept refl told_before) told_before
+    (ended r are h s key change answer g t step).can (step.kept refl told_before key (are.reached key)) told_before
 
 module _ {K V E C A : Type 0} (r : RulesOf K V E C A) (are : AreRules r) (at : K → Bool) (other : K) (away : at other ≡ false) where
   -- what another key has in a journal
@@ -352,17 +352,33 @@ module _ {K V E C A : Type 0} (r : RulesOf K V E C A) (are : AreRules r) (at : K
   )
 
 pub keeps-others : {K V E C A : Type 0} (r : RulesOf K V E C A) → KeepsOthers r
-keeps-others r h s key change answer g t other v are step away can =
+keeps-others r h s key change answer g t other v are step apart can =
     let settles = step.settles refl in
     let one = ended r are h s key change answer g t step in
-    let apart : at_key r key other ≡ false = isnt-key r are other key away in
-    let own : at_key r key key ≡ true = are.itself key in
-    let first = settled-same r are (at_key r key) other apart settles.0 h.journal step.before.journal settles.1 in
-    still-can r are (at_key r key) other apart h g v (λ k. step.after.opening k ∙ step.follows.opening k)
+    let own : r.reaches key key ≡ true = are.reached key in
+    let first = settled-same r are (r.reaches key) other apart settles.0 h.journal step.before.journal settles.1 in
+    still-can r are (r.reaches key) other apart h g v (λ k. step.after.opening k ∙ step.follows.opening k)
     (record {
       entries = ap (about r other) one.entered
-          ∙ (same-after r are (at_key r key) other apart key own step.before.journal.entries one.new one.own ∙ first.entries);
+          ∙ (same-after r are (r.reaches key) other apart key own step.before.journal.entries one.new one.own ∙ first.entries);
       doubts = ap (doubts_about r other) one.doubts
-          ∙ (doubts-after r are (at_key r key) other apart key own step.before.journal.doubts one.doubted one.doubts_own ∙ first.doubts);
+          ∙ (doubts-after r are (r.reaches key) other apart key own step.before.journal.doubts one.doubted one.doubts_own ∙ first.doubts);
     })
     can
+
+pub keeps-held : {K V E C A : Type 0} (r : RulesOf K V E C A) → KeepsHeld r
+keeps-held r h s key change answer g t other are step away told can = by (r.reaches key other) refl
+  where
+    by : (b : Bool) → r.reaches key other ≡ b → CanStand r g other (s other)
+    by false apart = keeps-others r h s key change answer g t other (s other) are step apart can
+    by true is =
+        let one = ended r are h s key change answer g t step in
+        let apart : at_key r key other ≡ false = isnt-key r are other key away in
+        let own : at_key r key key ≡ true = are.itself key in
+        still-can r are (at_key r key) other apart step.before g (s other) step.after.opening
+        (record {
+          entries = ap (about r other) one.entered ∙ same-after r are (at_key r key) other apart key own step.before.journal.entries one.new one.own;
+          doubts = ap (doubts_about r other) one.doubts
+              ∙ doubts-after r are (at_key r key) other apart key own step.before.journal.doubts one.doubted one.doubts_own;
+        })
+        (step.kept refl (sym step.after.told ∙ told) other is)

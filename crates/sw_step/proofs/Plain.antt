@@ -8,7 +8,7 @@ use Rattle.sw_step.specs.Plain.{CanMake, CanRefuse, CanStop, IsReady, with_journ
 use Rattle.sw_step.specs.Rules.{Damages, Ending, Fails, Makes, Refuses, RulesOf}
 use Rattle.sw_step.specs.Steps.{Answers, EndsSeen}
 
-module _ {K V E C A : Type 0} (r : RulesOf K V E C A) (h before : StepHistory K V E) (s : V) (key : K) (change : C) (ready : IsReady r h before s key change)
+module _ {K V E C A : Type 0} (r : RulesOf K V E C A) (h before : StepHistory K V E) (s : K → V) (key : K) (change : C) (ready : IsReady r h before s key change)
   where
     before-grows : GrowsOf h before
     before-grows = record {
@@ -32,8 +32,8 @@ module _ {K V E C A : Type 0} (r : RulesOf K V E C A) (h before : StepHistory K 
     }
 
     seen-as : (answer : A) (e : Ending) (made : List E) (after : StepJournal E) → r.ending answer ≡ e
-        → EndsSeen r e s before.journal key change answer made after → Answers r true s before.journal key change answer made after
-    seen-as answer e made after is so = subst (λ (x : Ending). EndsSeen r x s before.journal key change answer made after) (sym is) so
+        → EndsSeen r e (s key) before.journal key change answer made after → Answers r true (s key) before.journal key change answer made after
+    seen-as answer e made after is so = subst (λ (x : Ending). EndsSeen r x (s key) before.journal key change answer made after) (sym is) so
 
     not-damaged : (answer : A) (e : Ending) → r.ending answer ≡ e → (e ≡ Damages → ⊥) → r.ending answer ≡ Damages → before.told ≡ false
     not-damaged answer e is apart damaged = absurd (apart (sym is ∙ damaged))
@@ -60,14 +60,14 @@ fails-apart is = cc
 module _ {K V E C A : Type 0} (r : RulesOf K V E C A) where
   pub can-make : CanMake r
   can-make h before s key change ready allowed room is =
-      let es = r.entries_for s key change in
+      let es = r.entries_for (s key) key change in
       let j = record before.journal { entries = before.journal.entries ++ es } in
-      let answer = r.made_answer s key change (length (before.journal.entries ++ es)) in
+      let answer = r.made_answer (s key) key change (length (before.journal.entries ++ es)) in
       record {
         own = ready.own;
         before = before;
         looked = true;
-        read = s;
+        read = s key;
         made = es;
         follows = before-grows r h before s key change ready;
         settles = λ x. ready.settles;
@@ -77,7 +77,7 @@ module _ {K V E C A : Type 0} (r : RulesOf K V E C A) where
         orderly = not-damaged r h before s key change ready answer Makes is makes-apart;
         after = grows-by r h before s key change ready j before.faults es refl refl refl (omega arith);
         failed = not-failed r h before s key change ready answer Makes (with_journal r before j before.faults) is makes-fine;
-        known = λ x y. ready.kept;
+        known = λ x y. ready.kept key ready.reached;
         kept = λ x y. ready.kept;
         held = λ x y z. refl;
         leaves = λ x y. refl;
@@ -97,7 +97,7 @@ module _ {K V E C A : Type 0} (r : RulesOf K V E C A) where
         own = ready.own;
         before = before;
         looked = true;
-        read = s;
+        read = s key;
         made = made;
         follows = before-grows r h before s key change ready;
         settles = λ x. ready.settles;
@@ -118,7 +118,7 @@ module _ {K V E C A : Type 0} (r : RulesOf K V E C A) where
         orderly = not-damaged r h before s key change ready answer Fails is fails-apart;
         after = grows-by r h before s key change ready j (before.faults + 1) (flat first) refl refl refl (omega arith);
         failed = λ x. inl (omega (arith, same));
-        known = λ x y. ready.kept;
+        known = λ x y. ready.kept key ready.reached;
         kept = λ x y. ready.kept;
         held = λ x y z. refl;
         leaves = λ x y. refl;
@@ -129,7 +129,7 @@ module _ {K V E C A : Type 0} (r : RulesOf K V E C A) where
     own = ready.own;
     before = before;
     looked = true;
-    read = s;
+    read = s key;
     made = [];
     follows = before-grows r h before s key change ready;
     settles = λ x. ready.settles;
@@ -146,7 +146,7 @@ module _ {K V E C A : Type 0} (r : RulesOf K V E C A) where
       faults = omega arith;
     };
     failed = not-failed r h before s key change ready answer Refuses before is refuses-fine;
-    known = λ x y. ready.kept;
+    known = λ x y. ready.kept key ready.reached;
     kept = λ x y. ready.kept;
     held = λ x y z. refl;
     leaves = λ x y. refl;

@@ -1,5 +1,5 @@
 -- What is promised of every step, whatever the lock keeps. (This project's own.)
-use Rattle.std.specs.Prelude.{◌≡◌, ◌≢◌, ℕ, Bool, true, List, ◌++◌}
+use Rattle.std.specs.Prelude.{◌≡◌, ◌≢◌, ℕ, Bool, true, false, List, ◌++◌}
 use Rattle.std.specs.Prelude.{[], ◌∷◌, ⊤, ◌⊎◌}
 use Rattle.sw_step.specs.Journals.{StepHistory, StepJournal, flat}
 use Rattle.sw_step.specs.Rules.{AreRules, CanStand, RulesOf, doubts_about, stands}
@@ -18,13 +18,19 @@ module _ {K V E C A : Type 0} (r : RulesOf K V E C A) where
   -- after a step of a lock that nobody else changes, its key stands for what the entries tell, with those of its doubts that were made: also
   -- where the step failed
   abbrev pub KeepsItsKey : Type 0
-  KeepsItsKey = (h : StepHistory K V E) (s : V) (key : K) (change : C) (answer : A) (g : StepHistory K V E) (t : V)
+  KeepsItsKey = (h : StepHistory K V E) (s : K → V) (key : K) (change : C) (answer : A) (g : StepHistory K V E) (t : V)
       → AreRules r → StepChanges r true h s key change answer g t → g.told ≡ true → CanStand r g key t
 
-  -- and what another key may stand for it may stand for after it
+  -- what a key out of its reach may stand for it may stand for after it
   abbrev pub KeepsOthers : Type 0
-  KeepsOthers = (h : StepHistory K V E) (s : V) (key : K) (change : C) (answer : A) (g : StepHistory K V E) (t : V) (other : K) (v : V)
-      → AreRules r → StepChanges r true h s key change answer g t → other ≢ key → CanStand r h other v → CanStand r g other v
+  KeepsOthers = (h : StepHistory K V E) (s : K → V) (key : K) (change : C) (answer : A) (g : StepHistory K V E) (t : V) (other : K) (v : V)
+      → AreRules r → StepChanges r true h s key change answer g t → r.reaches key other ≡ false → CanStand r h other v → CanStand r g other v
+
+  -- and every other key may stand for what it held: where doubts of it were settled, they were settled as they were made
+  abbrev pub KeepsHeld : Type 0
+  KeepsHeld = (h : StepHistory K V E) (s : K → V) (key : K) (change : C) (answer : A) (g : StepHistory K V E) (t : V) (other : K)
+      → AreRules r → StepChanges r true h s key change answer g t → other ≢ key → g.told ≡ true → CanStand r h other (s other)
+      → CanStand r g other (s other)
 
   -- settling enters doubts alone, each whole, and each was a doubt of these keys; no other entry comes
   abbrev pub EntersDoubtsAlone : Type 0

@@ -12,6 +12,18 @@ pub data Ending : Type 0 where
   Wants : Ending  -- memory was wanting
   Damages : Ending  -- a file that it had to read isn't in order
 
+abbrev pub has_made : Ending → Bool
+has_made Makes = true
+has_made ending = false
+
+abbrev pub has_failed : Ending → Bool
+has_failed Fails = true
+has_failed ending = false
+
+abbrev pub has_wanted : Ending → Bool
+has_wanted Wants = true
+has_wanted ending = false
+
 -- K keys, V what a key stands for, E entries, C steps that change something, A their answers
 pub record RulesOf (K V E C A : Type 0) : Type 0 where
   pub is_key : K → K → Bool
@@ -25,6 +37,7 @@ pub record RulesOf (K V E C A : Type 0) : Type 0 where
   pub ending : A → Ending
   pub is_for : K → C → Bool  -- whether the step is one at this key
   pub touches : V → K → C → List E → Bool  -- of the doubts of its key those that the step settles first
+  pub reaches : K → K → Bool  -- whether a step at the first key may settle doubts of the second first. One reaches its own key
 
 -- none of these is one that passes the test
 abbrev pub NoneOf : {E : Type 0} → (List E → Bool) → List (List E) → Type 0
@@ -75,6 +88,7 @@ module _ {K V E C A : Type 0} (r : RulesOf K V E C A) where
   pub record AreRules : Type 0 where
     pub keys : (a b : K) → r.is_key a b ≡ true → a ≡ b
     pub itself : (a : K) → r.is_key a a ≡ true
+    pub reached : (a : K) → r.reaches a a ≡ true
     pub own : (v : V) (key : K) (change : C) → r.is_for key change ≡ true → AllAt key (r.entries_for v key change)
     pub own_changes : (v : V) (key : K) (change : C) → r.is_for key change ≡ true → AreOf key (r.changes_for v key change)
     -- a doubt that the step needn't settle first may as well have been made behind it: behind all of it, or behind its first changes

@@ -87,33 +87,34 @@ module _ {K V E C A : Type 0} (r : RulesOf K V E C A) where
   Answers false read j key change answer made after = EndsUnseen (r.ending answer) j made after
   Answers true read j key change answer made after = EndsSeen (r.ending answer) read j key change answer made after
 
-  -- ---- one step at one lock. What is said of s and t, which the device held and holds under the key, and of `settles`, says something where
-  -- nobody else changes the device: `alone`
+  -- ---- one step at one lock. What is said of s, which the device held under each key, of t, which it holds under the step's own, and of `settles`,
+  -- says something where nobody else changes the device: `alone`
 
   abbrev pub at_key : K → K → Bool
   at_key key other = r.is_key other key
 
   -- a step that may change something, from the history h to g
-  pub record StepChanges (alone : Bool) (h : StepHistory K V E) (s : V) (key : K) (change : C) (answer : A) (g : StepHistory K V E) (t : V) : Type 0 where
+  pub record StepChanges (alone : Bool) (h : StepHistory K V E) (s : K → V) (key : K) (change : C) (answer : A) (g : StepHistory K V E) (t : V)
+      : Type 0 where
     pub own : r.is_for key change ≡ true
     pub before : StepHistory K V E  -- the history at whose end the step was answered
     pub looked : Bool  -- whether it came so far that it was answered by what stands
     pub read : V  -- that by which it was
     pub made : List E  -- what was made of it: of a step that stopped only this tells it
     pub follows : GrowsOf h before
-    pub settles : alone ≡ true → OnlySettles (at_key key) h before
+    pub settles : alone ≡ true → OnlySettles (r.reaches key) h before
     pub settled : looked ≡ true → NoneOf (r.touches read key change) (doubts_about r key before.journal.doubts)
     pub answered : Answers looked read before.journal key change answer made g.journal
     pub orderly : r.ending answer ≡ Damages → before.told ≡ false
     pub after : GrowsOf before g
     pub failed : r.ending answer ≡ Fails → HasRisen h.faults g.faults
     pub known : before.told ≡ true → looked ≡ true → CanStand r before key read
-    pub kept : alone ≡ true → before.told ≡ true → CanStand r before key s
-    pub held : alone ≡ true → before.told ≡ true → looked ≡ true → read ≡ s
-    pub leaves : alone ≡ true → before.told ≡ true → t ≡ fold r.applied s made
+    pub kept : alone ≡ true → before.told ≡ true → (other : K) → r.reaches key other ≡ true → CanStand r before other (s other)
+    pub held : alone ≡ true → before.told ≡ true → looked ≡ true → read ≡ s key
+    pub leaves : alone ≡ true → before.told ≡ true → t ≡ fold r.applied (s key) made
 
   -- the entries that it added, those of settled doubts first
-  abbrev pub added_by : {alone : Bool} {h : StepHistory K V E} {s : V} {key : K} {change : C} {answer : A} {g : StepHistory K V E} {t : V}
+  abbrev pub added_by : {alone : Bool} {h : StepHistory K V E} {s : K → V} {key : K} {change : C} {answer : A} {g : StepHistory K V E} {t : V}
       → StepChanges alone h s key change answer g t → List E
   added_by step = step.follows.entries.0 ++ step.after.entries.0
 

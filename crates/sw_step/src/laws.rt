@@ -1,6 +1,6 @@
 //! Laws of steps. Each function does nothing: its clause is the law.
 
-ghost use Rattle.sw_step.specs.Laws.{EntersDoubtsAlone, KeepsItsKey, KeepsOthers, NoDoubtsTell, NothingToSettle};
+ghost use Rattle.sw_step.specs.Laws.{EntersDoubtsAlone, KeepsHeld, KeepsItsKey, KeepsOthers, NoDoubtsTell, NothingToSettle};
 ghost use Rattle.sw_step.specs.Plain.{CanMake, CanRefuse, CanStop};
 ghost use Rattle.sw_step.specs.Rules.{RulesOf};
 
@@ -9,9 +9,14 @@ pub fn keeps_its_key<K, V, E, C, A>()
     ensures { (r : RulesOf K V E C A) → KeepsItsKey r }
 {}
 
-/// A step leaves every other key as it may have stood.
+/// A step leaves each key out of its reach as it may have stood.
 pub fn keeps_others<K, V, E, C, A>()
     ensures { (r : RulesOf K V E C A) → KeepsOthers r }
+{}
+
+/// And every other key may stand for what it held before the step, also where doubts of it were settled.
+pub fn keeps_held<K, V, E, C, A>()
+    ensures { (r : RulesOf K V E C A) → KeepsHeld r }
 {}
 
 /// A lock in order can make a step that isn't refused and for which there is room.
