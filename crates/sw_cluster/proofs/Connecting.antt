@@ -18,13 +18,14 @@ use Rattle.sw_session.specs.Passages.{Passage}
 use Rattle.sw_session.specs.Session.{IsSession}
 use Rattle.sw_session.specs.declared.server.ServerFault.{ServerFault}
 use Rattle.sw_session.specs.declared.session.SessionFault.{SessionFault}
-use Rattle.sw_cluster.proofs.Comparing.{answered-stays, given_up-stays}
-use Rattle.sw_cluster.proofs.Controlling.{on_true}
-use Rattle.sw_cluster.proofs.Going.{Goes, goes-join, goes-same}
-use Rattle.sw_cluster.proofs.Readying.{part_hash}
-use Rattle.sw_cluster.proofs.RunningLemmas.{answered_goes, answered_nodes, left_goes, left_nodes}
-use Rattle.sw_cluster.proofs.Serving.{on_false}
-use Rattle.sw_cluster.specs.Connections.{AreNodesOf, DoorAnswers, IsConnection, NeverHalts}
+use Rattle.sw_nodes.proofs.Comparing.{answered-stays, given_up-stays}
+use Rattle.sw_nodes.proofs.Controlling.{on_true}
+use Rattle.sw_nodes.proofs.Going.{Goes, goes-join, goes-same}
+use Rattle.sw_nodes.proofs.Readying.{part_hash}
+use Rattle.sw_nodes.proofs.RunningLemmas.{answered_goes, answered_nodes, left_goes, left_nodes}
+use Rattle.sw_nodes.proofs.Serving.{on_false}
+use Rattle.sw_nodes.specs.Nodes.{AreNodesOf}
+use Rattle.sw_cluster.specs.Connections.{DoorAnswers, IsConnection, NeverHalts}
 use Rattle.sw_cluster.specs.Ending.{status_by}
 use Rattle.sw_cluster.specs.declared.connection.DoorServer.{DoorServer}
 

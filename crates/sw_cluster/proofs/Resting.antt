@@ -15,7 +15,7 @@ use Rattle.sw_ring.specs.declared.ring.Ring.{Ring}
 use Rattle.sw_stores.proofs.AtPlaces.{resting-at}
 use Rattle.sw_stores.specs.Places.{ComeHome, IsSameBut, at_place, is_among, is_around}
 use Rattle.sw_stores.specs.Volumes.{AreResting}
-use Rattle.sw_cluster.specs.Nodes.{out_but, places_at, places_of}
+use Rattle.sw_nodes.specs.Nodes.{out_but, places_at, places_of}
 
 -- ---- places
 

@@ -5,8 +5,8 @@ use Rattle.std.proofs.Common.{refl, sym, ◌∙◌, ap, subst}
 use Rattle.std.specs.Bool.{⊤}
 use Rattle.std.specs.List.{slice_get}
 use Rattle.std.proofs.lemmas.List.{length-map}
-use Rattle.sw_core.specs.Doors.{StandsFor}
-use Rattle.sw_core.specs.Machine.{Machine, machine_of}
+use Rattle.sw_object_machine.specs.Doors.{StandsFor}
+use Rattle.sw_object_machine.specs.Machine.{Machine, machine_of}
 use Rattle.sw_core.specs.Worlds.{AllNodes, IsWorld, opened, sight_of}
 use Rattle.sw_core.specs.declared.slot.Slot.TheVariants as slots
 use Rattle.sw_objdir.specs.Directories.{Kept}
@@ -17,12 +17,12 @@ use Rattle.sw_ring.specs.declared.ring.Ring.{Ring}
 use Rattle.sw_stores.specs.Places.{at_place}
 use Rattle.sw_volume.specs.Tree.{Folders}
 use Rattle.sw_cluster.proofs.Connecting.{connection-goes, connection-nodes}
-use Rattle.sw_cluster.proofs.Going.{Goes, goes-join, goes-same, restart-goes}
-use Rattle.sw_cluster.proofs.Serving.{goes_on}
+use Rattle.sw_nodes.proofs.Going.{Goes, goes-join, goes-same, restart-goes}
+use Rattle.sw_nodes.proofs.Serving.{goes_on}
 use Rattle.sw_cluster.proofs.Storing.{rests-before, stands-begun, stored}
 use Rattle.sw_cluster.specs.Ending.{AllTold, IsStored}
 use Rattle.sw_cluster.specs.Leaving.{AreLeft, IsOut}
-use Rattle.sw_cluster.specs.Nodes.{IsReady, out_but, places_at, places_of}
+use Rattle.sw_nodes.specs.Nodes.{IsReady, out_but, places_at, places_of}
 use Rattle.sw_cluster.specs.Rounds.{EndsServing, HasServed, EndsConnections, RestartsDevice, RestartsFirst, Round, ServesAll, ServesOne}
 use Rattle.sw_cluster.specs.Told.{Counts, DoorsTold, Output}
 use Rattle.sw_cluster.specs.Rounds.{StopsRestarting, StopsWaiting, read_in, written_in}

@@ -19,15 +19,15 @@ use Rattle.sw_stores.specs.Volumes.{AreResting}
 use Rattle.sw_volume.specs.Tree.{Folders}
 use Rattle.sw_core.proofs.Placed.{stripe-below}
 use Rattle.sw_core.proofs.Wholes.{open-at}
-use Rattle.sw_core.specs.Doors.{StandsFor}
-use Rattle.sw_core.specs.Machine.{Machine, machine_of, state}
+use Rattle.sw_object_machine.specs.Doors.{StandsFor}
+use Rattle.sw_object_machine.specs.Machine.{Machine, machine_of, state}
 use Rattle.sw_core.specs.Worlds.{AllNodes, AreLifted, HasLimits, IsWorld, Lifts, first_of, held_of, lock_of, nodes_of, past_of, seen_of, shown, sight_of}
 use Rattle.sw_core.specs.Worlds.{stripe_at}
 use Rattle.sw_core.specs.declared.slot.Slot.{Slot}
 use Rattle.sw_core.specs.declared.slot.Slot.TheVariants as slots
 use Rattle.sw_cluster.proofs.Resting.{among-place}
 use Rattle.sw_cluster.specs.Ending.{AllTold, IsStored}
-use Rattle.sw_cluster.specs.Nodes.{places_at}
+use Rattle.sw_nodes.specs.Nodes.{places_at}
 
 -- a world none of whose devices is out has as many as are shown
 pub same-devices : (lifted : Option ℕ) (devices n : ℕ) → lifted ≡ None → shown lifted devices ≡ n → devices ≡ n

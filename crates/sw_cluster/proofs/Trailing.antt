@@ -24,26 +24,26 @@ use Rattle.sw_stores.specs.Places.{ComeHome, at_place}
 use Rattle.sw_stores.specs.Volumes.{AreResting}
 use Rattle.sw_volume.specs.Tree.{Folders}
 use Rattle.sw_volume.specs.Volume.{raised_by}
-use Rattle.sw_cluster.specs.Restarts.{AreCalled, restarts_in}
-use Rattle.sw_cluster.proofs.Exchanging.{exchange_meets}
-use Rattle.sw_cluster.proofs.Readying.{ready-of}
-use Rattle.sw_cluster.proofs.Restarting.{called-on, none-called, out-called, whole-called}
-use Rattle.sw_core.proofs.Sessions.{run-begins}
+use Rattle.sw_nodes.specs.Restarts.{AreCalled, restarts_in}
+use Rattle.sw_nodes.proofs.Exchanging.{exchange_meets}
+use Rattle.sw_nodes.proofs.Readying.{ready-of}
+use Rattle.sw_nodes.proofs.Restarting.{called-on, none-called, out-called, whole-called}
+use Rattle.sw_object_machine.proofs.Sessions.{run-begins}
 use Rattle.sw_container_machine.proofs.Sessions.{cont-run-begins}
 use Rattle.sw_container_machine.specs.Machine.{ContRuns, cont_machine_of}
 use Rattle.sw_container_machine.specs.Standing.{HasContRun}
 use Rattle.sw_core.proofs.Containing.{empty-holds, empty-told}
-use Rattle.sw_core.specs.Doors.{HasRun}
-use Rattle.sw_core.specs.Machine.{Runs, came_in, machine_of}
+use Rattle.sw_object_machine.specs.Doors.{HasRun}
+use Rattle.sw_object_machine.specs.Machine.{Runs, came_in, machine_of}
 use Rattle.sw_core.specs.Worlds.{AllNodes, IsWorld, Lifts, first_of, nodes_of}
 use Rattle.sw_core.specs.Worlds.{opened, place_lock, shown, sight_of, without_lines}
 use Rattle.sw_core.specs.declared.slot.Slot.TheVariants as slots
 use Rattle.sw_cluster.specs.Ending.{AllTold, IsContTrail, IsRunOver, IsTrail, status_by}
 use Rattle.sw_cluster.specs.Told.{Counts, counts, Output}
-use Rattle.sw_cluster.specs.Nodes.{IsReady, NodesAnswer, NodesHalt, faults_by, out_but, places_at, places_of}
-use Rattle.sw_cluster.specs.Server.{MayAnswer, MayHalt}
+use Rattle.sw_nodes.specs.Nodes.{IsReady, NodesAnswer, NodesHalt, faults_by, out_but, places_at, places_of}
+use Rattle.sw_nodes.specs.Server.{MayAnswer, MayHalt}
 use Rattle.sw_cluster.specs.Statuses as statuses
-use Rattle.sw_cluster.specs.declared.server.Nodes.{Nodes}
+use Rattle.sw_nodes.specs.declared.server.Nodes.{Nodes}
 use Rattle.sw_cluster.proofs.Storing.{rests-before, same-devices, stands-begun, stored}
 
 some-is : {A : Type 0} {x y : A} → Some x ≡ Some y → x ≡ y

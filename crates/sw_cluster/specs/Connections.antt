@@ -1,13 +1,11 @@
 -- What is answered on a connection over a door. (HTTP/1.1, RFC 9112, as to where a connection ends; the rest is this project's own.)
-use Rattle.std.specs.Prelude.{◌≡◌, ⊤, ℕ, ◌≤◌, true, List, All, length, MatchBool, Option, Result, ◌⊎◌}
+use Rattle.std.specs.Prelude.{◌≡◌, ⊤, ℕ, List, All, MatchBool, Option, Result, ◌⊎◌}
 use Rattle.sw_control.specs.Asking.{is_control}
-use Rattle.sw_hashpath.specs.declared.name.Name.{Name}
 use Rattle.sw_message.specs.declared.request.Request.{Request}
 use Rattle.sw_message.specs.declared.response.Response.{Response}
-use Rattle.sw_object_server.specs.Places.{IsHashed}
 use Rattle.sw_object_server.specs.Replies.{bare}
 use Rattle.sw_object_server.specs.Serving as objects
-use Rattle.sw_peer.specs.Sights.{Nodes, Sight}
+use Rattle.sw_peer.specs.Sights.{Sight}
 use Rattle.sw_replica_server.specs.Serving as replicas
 use Rattle.sw_replica_server.specs.Targets.{is_replication_of}
 use Rattle.sw_ring.specs.declared.ring.Ring.{Ring}
@@ -17,12 +15,6 @@ use Rattle.sw_session.specs.Session.{PutsForSession}
 use Rattle.sw_session.specs.declared.server.ServerFault.{ServerFault}
 use Rattle.sw_session.specs.declared.session.SessionFault.{SessionFault}
 use Rattle.sw_cluster.specs.Ending.{Ends, status_by}
-
--- the nodes are those of the ring, or more of them
-pub record AreNodesOf (ring : Ring) (nodes : Nodes) : Type 0 where
-  pub devices : length ring.devices ≤ nodes.devices
-  pub power : ring.power ≡ nodes.power
-  pub fits : (name : Name) → IsHashed ring name → nodes.fits name ≡ true
 
 -- the nodes behind a door can always go on
 abbrev pub NeverHalts : {D : Type 0} → D → Request → ℕ → ServerFault → D → Type 0

@@ -11,8 +11,8 @@ use Rattle.sw_container_machine.specs.Machine.{ContMachine, ContRuns, cont_machi
 use Rattle.sw_hashpath.specs.declared.place.Place.{Place}
 use Rattle.sw_peer.specs.Journals.{Hash}
 use Rattle.sw_ring.specs.declared.ring.Ring.{Ring}
-use Rattle.sw_core.specs.Machine.{Machine, RunLine, came_in, machine_of, state}
-use Rattle.sw_core.specs.Machine as machines
+use Rattle.sw_object_machine.specs.Machine.{Machine, RunLine, came_in, machine_of, state}
+use Rattle.sw_object_machine.specs.Machine as machines
 use Rattle.sw_core.specs.Worlds.{AllNodes, lock_of, nodes_of, opened, sight_of, stripe_at}
 use Rattle.sw_hashdir.specs.Places.{holds}
 use Rattle.sw_hashpath.specs.HashParts.{partition_of}
@@ -24,9 +24,9 @@ use Rattle.sw_stores.specs.Places.{IsAsItWas}
 use Rattle.sw_stores.specs.Volumes.{AreStarted, RestsAgain}
 use Rattle.sw_volume.specs.Tree.{Folders}
 use Rattle.sw_volume.specs.Volume.{raised_by}
-use Rattle.sw_cluster.specs.Exchanging.{ExchangeMeets}
-use Rattle.sw_cluster.specs.Restarts.{AreCalled}
-use Rattle.sw_cluster.specs.Server.{MayAnswer, MayHalt}
+use Rattle.sw_nodes.specs.Exchanging.{ExchangeMeets}
+use Rattle.sw_nodes.specs.Restarts.{AreCalled}
+use Rattle.sw_nodes.specs.Server.{MayAnswer, MayHalt}
 use Rattle.sw_core.specs.declared.trail.Trail.{Trail}
 use Rattle.sw_cluster.specs.Statuses as statuses
 use Rattle.sw_cluster.specs.Told.{Counts, IsSilent, Output, passage_of}

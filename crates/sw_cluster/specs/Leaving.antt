@@ -5,7 +5,7 @@ use Rattle.sw_core.specs.Worlds.{AllNodes}
 use Rattle.sw_ring.specs.declared.ring.Ring.{Ring}
 use Rattle.sw_volume.specs.Tree.{Folders}
 use Rattle.sw_volume.specs.Volume.{raised_by}
-use Rattle.sw_cluster.specs.Nodes.{FailsToStart, IsReady}
+use Rattle.sw_nodes.specs.Nodes.{FailsToStart, IsReady}
 use Rattle.sw_cluster.specs.Rounds.{RestartsFirst}
 
 module _ {V S : Type 0} (tells : V → Bool) (files : V → Folders) (faults : V → ℕ) (store_calls : S → ℕ) (rests : S → ℕ → ℕ → Option V)

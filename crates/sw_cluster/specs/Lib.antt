@@ -1,14 +1,10 @@
 pub mod Connections
 pub mod Ending
-pub mod Exchanging
 pub mod Leaving
 pub mod Locating
-pub mod Nodes
 pub mod Opening
 pub mod Report
-pub mod Restarts
 pub mod Rounds
-pub mod Server
 pub mod Statuses
 pub mod Told
 pub mod Whereabouts

@@ -2,9 +2,9 @@
 use Rattle.std.specs.Prelude.{◌≡◌, ⊤, ℕ, zero, suc, ◌+◌, ◌*◌, ◌^◌, ◌<◌, ◌≤◌, Bool, List, [], ◌∷◌, ◌++◌, length, map, codes, decimal, Option, Result, Ok, Err}
 use Rattle.std.specs.Prelude.{◌⊎◌}
 use Rattle.std.specs.Io.KnownBytes.{Appends}
-use Rattle.sw_core.specs.Doors.{StandsFor}
-use Rattle.sw_core.specs.Machine.{Machine, RunLine, machine_of}
-use Rattle.sw_core.specs.Machine as machines
+use Rattle.sw_object_machine.specs.Doors.{StandsFor}
+use Rattle.sw_object_machine.specs.Machine.{Machine, RunLine, machine_of}
+use Rattle.sw_object_machine.specs.Machine as machines
 use Rattle.sw_core.specs.Worlds.{AllNodes, Lifts, nodes_of, opened}
 use Rattle.sw_outside.specs.Counts.{raised}
 use Rattle.sw_outside.specs.Doors.{Accepted, Finished}

@@ -3,7 +3,8 @@ ghost use Rattle.sw_control.specs.Asking.{is_control as is_control_path};
 ghost use Rattle.sw_replica_server.specs.Targets.{is_replication_of};
 ghost use Rattle.sw_session.specs.Closing.{asks_to_close_of};
 ghost use Rattle.sw_session.specs.Passages.{passage};
-ghost use Rattle.sw_cluster.specs.Connections.{AreNodesOf, DoorAnswers, IsConnection, NeverHalts, PutsForConnection};
+ghost use Rattle.sw_nodes.specs.Nodes.{AreNodesOf};
+ghost use Rattle.sw_cluster.specs.Connections.{DoorAnswers, IsConnection, NeverHalts, PutsForConnection};
 
 use crate::status::status_of;
 use std::alloc::Global;

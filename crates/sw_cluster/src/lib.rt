@@ -2,20 +2,18 @@
 //!
 //! [`cluster`] is the top call: it carries the theorem of the whole program. Below it, from the top: `words` and `opening` tell the command
 //! and open its ring; `running` is the session of `run` (`sw_session`) over the nodes of a ring, whose volumes come from the stores
-//! (`sw_stores`) and go back to them; `server` answers one request, for objects, replicas or containers, by these nodes or, where it is a control
-//! request (`sw_control`), by what the world tells; `locate` and `whereabouts` say where a name is.
+//! (`sw_stores`) and go back to them; each of its requests is answered by `sw_nodes`. `rounds` and `connection` are the connections of `serve`; `locate`
+//! and `whereabouts` say where a name is.
 //!
 //! The program `sw` makes the host's ends and calls it; `sw_cases` calls it on worked runs.
 #![tactic(auto)]
 
 mod command;
 mod connection;
-pub mod laws;
 mod locate;
 mod opening;
 mod rounds;
 mod running;
-mod server;
 mod status;
 mod volumes;
 mod whereabouts;
@@ -24,6 +22,5 @@ mod words;
 pub use command::{cluster, report};
 pub use connection::{DoorServer, serve_connection};
 pub use running::run_session;
-pub use server::Nodes;
 pub use status::NO_MEMORY;
 pub use whereabouts::where_text;

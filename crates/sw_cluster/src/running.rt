@@ -2,15 +2,15 @@ ghost use Rattle.std.specs.Prelude.{◌≡◌, ℕ, ◌*◌, ◌^◌, ◌⊎◌,
 ghost use Rattle.sw_core.specs.Worlds.{opened};
 ghost use Rattle.sw_session.specs.Passages.{passage};
 ghost use Rattle.sw_cluster.specs.Ending.{IsRun, IsRunOver, IsUnbegun};
-ghost use Rattle.sw_cluster.specs.Nodes.{places_of};
+ghost use Rattle.sw_nodes.specs.Nodes.{places_of};
 ghost use Rattle.sw_cluster.specs.Told.{counts, output};
 
-use crate::server::Nodes;
 use crate::status::status_of;
 use crate::volumes::{give_back, open_nodes, status_of_start};
 use std::alloc::Global;
 use sw_core::{MomentList, Trail, World};
 use sw_lossy::{Acts, Lossy};
+use sw_nodes::Nodes;
 use sw_outside::{Clock, Sink, Source};
 use sw_ring::Ring;
 use sw_session::serve;

@@ -8,13 +8,13 @@ ghost use Rattle.sw_stores.specs.Places.{at_place};
 ghost use Rattle.sw_stores.specs.Volumes.{AreStarted};
 ghost use Rattle.sw_volume.specs.Volume.{raised_by};
 ghost use Rattle.sw_cluster.specs.Ending.{AreUnstarted, start_status};
-ghost use Rattle.sw_cluster.specs.Nodes.{out_but, places_at, places_of};
+ghost use Rattle.sw_nodes.specs.Nodes.{out_but, places_at, places_of};
 ghost use Rattle.sw_cluster.specs.Told.{counts};
 
-use crate::server::stripes;
 use crate::status::{NO_MEMORY, STORE_FAULT};
 use std::alloc::Global;
 use sw_core::{Parts, World};
+use sw_nodes::stripes;
 use sw_outside::StoreError;
 use sw_ring::Ring;
 use sw_stores::Stores;

@@ -15,7 +15,7 @@ use Rattle.sw_peer.specs.Sights.{Restarts}
 use Rattle.sw_volume.specs.Tree.{Folders}
 use Rattle.sw_core.proofs.Placed.{stripe-below}
 use Rattle.sw_core.proofs.Wholes.{open-at}
-use Rattle.sw_core.specs.Limits.{journal_bytes, journal_entries}
+use Rattle.sw_object_machine.specs.Limits.{journal_bytes, journal_entries}
 use Rattle.sw_core.specs.Worlds.{AllNodes, HasLimits, IsWorld, Lifts, SetsDown, TellsOn, held_of, lock_of, past_of, first_of, restart_line, seen_of, sight_of}
 use Rattle.sw_core.specs.Worlds.{stripe_at}
 use Rattle.sw_core.specs.declared.slot.Slot.{Slot}

@@ -27,7 +27,7 @@ use Rattle.sw_core.proofs.Anew.{apart-from}
 use Rattle.sw_core.proofs.Placed.{stripe-below}
 use Rattle.sw_core.proofs.Slots.{same-some}
 use Rattle.sw_core.proofs.Wholes.{none-some, open-at}
-use Rattle.sw_core.specs.Limits.{journal_bytes, journal_entries}
+use Rattle.sw_object_machine.specs.Limits.{journal_bytes, journal_entries}
 use Rattle.sw_core.specs.Listing.{AreLookedAt, IsLookedAt}
 use Rattle.sw_core.specs.Worlds.{AllNodes, AreLifted, AreSetDown, HasRoom, IsSlot, IsWorld, first_of, held_of, is_out, lock_of, past_of, seen_of, sight_of}
 use Rattle.sw_core.specs.Worlds.{stripe_at}

@@ -24,7 +24,7 @@ use Rattle.sw_peer.specs.declared.got.Got.{Got}
 use Rattle.sw_peer.specs.declared.line.Event.TheVariants.{Changed, Read, ReadPart}
 use Rattle.sw_peer.specs.declared.line.Line.{Line}
 use Rattle.sw_peer.specs.declared.link.Link.{Link}
-use Rattle.sw_core.proofs.Recasts.{recast, recast-part, recast-read}
+use Rattle.sw_object_machine.proofs.Recasts.{recast, recast-part, recast-read}
 use Rattle.sw_objdir.specs.Directories.{Kept, held, history_of}
 use Rattle.sw_objdir.specs.Stepping.{IsPartStep}
 use Rattle.sw_volume.specs.Tree.{Folders}

@@ -1,11 +1,6 @@
-pub mod Doors
-pub mod Laws
 pub mod Lifting
-pub mod Limits
 pub mod Lines
 pub mod Listing
-pub mod Machine
 pub mod Making
-pub mod PartReads
 pub mod Stopping
 pub mod Worlds

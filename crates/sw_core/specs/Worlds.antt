@@ -6,8 +6,8 @@ use Rattle.std.specs.List.{All, flat_map, slice_get}
 use Rattle.std.specs.Str.{bytes_eq}
 use Rattle.std.specs.declared.alloc.Global.{Global}
 use Rattle.std.specs.declared.vec.Vec.{Vec}
-use Rattle.sw_core.specs.Limits.{journal_bytes, journal_entries}
-use Rattle.sw_core.specs.Machine.{empty_history}
+use Rattle.sw_object_machine.specs.Limits.{journal_bytes, journal_entries}
+use Rattle.sw_object_machine.specs.Machine.{empty_history}
 use Rattle.sw_core.specs.declared.slot.Slot.{Slot}
 use Rattle.sw_core.specs.declared.slot.Slot.TheVariants as slots
 use Rattle.sw_container_locks.specs.Halves.{half_of}

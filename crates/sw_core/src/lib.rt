@@ -2,11 +2,10 @@
 //!
 //! A [`World`] is all nodes of all devices of a ring, each object lock an object directory (`sw_objdir`) over a volume of its own, and is a
 //! door (`sw_peer`): each call is one step at one device, and the world keeps a line of it. A device is restarted by [`World::lift`], which
-//! gives its volumes, and [`World::set_down`], which begins anew on them. `specs/Machine.antt` has the machine: what reached each device, and
-//! what the journals of its locks have.
+//! gives its volumes, and [`World::set_down`], which begins anew on them. What runs of such lines leave at each device is said by two machines, that of
+//! objects (`sw_object_machine`) and that of containers (`sw_container_machine`).
 //!
-//! Beside each object lock stands one of containers (`sw_container_locks`), whose tables are kept in memory. The world is their door too; their
-//! machine is `sw_container_machine`, over the same lines.
+//! Beside each object lock stands one of containers (`sw_container_locks`), whose tables are kept in memory. The world is their door too.
 //!
 //! What is promised: each step of the world is one of the machine, with calls that fail, full journals and restarts, so that the files of
 //! each hash at each device stand for the state of the writes that reached it; and where no step failed, the entries of the lines tell

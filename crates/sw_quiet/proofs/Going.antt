@@ -1,10 +1,10 @@
 -- A run goes on by each call at the device itself, and by a restart, though nobody keeps its lines.
 use Rattle.std.proofs.Common.{◌≡◌, ℕ, Bool, true, List, refl, sym, ◌∙◌, ap, subst}
-use Rattle.sw_core.proofs.Reaching.{joins}
-use Rattle.sw_core.proofs.Sessions.{comes-once, stands-same}
-use Rattle.sw_core.proofs.Standing.{change_runs, files_runs, hashes_runs, read_runs, restart_runs, write_runs}
-use Rattle.sw_core.specs.Doors.{StandsFor}
-use Rattle.sw_core.specs.Machine.{Machine, MachineComes, Runs}
+use Rattle.sw_object_machine.proofs.Reaching.{joins}
+use Rattle.sw_object_machine.proofs.Sessions.{comes-once, stands-same}
+use Rattle.sw_object_machine.proofs.Standing.{change_runs, files_runs, hashes_runs, read_runs, restart_runs, write_runs}
+use Rattle.sw_object_machine.specs.Doors.{StandsFor}
+use Rattle.sw_object_machine.specs.Machine.{Machine, MachineComes, Runs}
 use Rattle.sw_peer.specs.Sights.{IsFilesRead, IsHashesRead, IsMade, IsRead, IsSame, IsWriteRead, Nodes, Sight}
 use Rattle.sw_peer.specs.declared.entry.ObjEntry.{ObjEntry}
 use Rattle.sw_peer.specs.declared.line.Event.{Event}

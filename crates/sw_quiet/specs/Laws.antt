@@ -2,8 +2,8 @@
 use Rattle.std.specs.Prelude.{◌≡◌, ℕ, Bool, true, List, [], ◌∷◌, ◌++◌, Option, Result, Ok}
 use Rattle.std.specs.declared.alloc.Global.{Global}
 use Rattle.std.specs.declared.vec.Vec.{Vec}
-use Rattle.sw_core.specs.Doors.{StandsFor}
-use Rattle.sw_core.specs.Machine.{Came, Machine, RunLine, Runs}
+use Rattle.sw_object_machine.specs.Doors.{StandsFor}
+use Rattle.sw_object_machine.specs.Machine.{Came, Machine, RunLine, Runs}
 use Rattle.sw_core.specs.Worlds.{AllNodes, Lifts}
 use Rattle.sw_diskfile.specs.declared.file_name.FileName.{FileName}
 use Rattle.sw_hashpath.specs.declared.name.Name.{Name}

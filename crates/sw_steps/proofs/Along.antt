@@ -5,7 +5,7 @@ use Rattle.std.specs.List.{AllByRecursion}
 use Rattle.std.specs.Prelude.{Contains}
 use Rattle.std.specs.declared.alloc.Global.{Global}
 use Rattle.std.specs.declared.vec.Vec.{Vec}
-use Rattle.sw_core.specs.Machine.{Machine}
+use Rattle.sw_object_machine.specs.Machine.{Machine}
 use Rattle.sw_diskfile.specs.StateFiles.{picked_of}
 use Rattle.sw_diskfile.specs.declared.file_name.FileName.{FileName}
 use Rattle.sw_diskfile.specs.declared.picking.Picked.{Picked}

@@ -1,7 +1,7 @@
 -- A push and a later one back, in a list of steps that was made.
 use Rattle.std.proofs.Common.{◌≡◌, ◌≢◌, ℕ, Bool, true, false, nat_eq, List, [], ◌∷◌, ◌++◌, refl, sym, ◌∙◌, ap, subst, ◌⊎◌, inl, inr, Result, Ok}
 use Rattle.std.proofs.lemmas.Bool.{eq-eqb, eqb-true}
-use Rattle.sw_core.proofs.PartFacts.{part-at}
+use Rattle.sw_object_machine.proofs.PartFacts.{part-at}
 use Rattle.sw_hashpath.specs.HashParts.{suffix_of}
 use Rattle.sw_lossy.specs.Losses.{begun}
 use Rattle.sw_lossy.specs.declared.acts.Acts.{Acts}

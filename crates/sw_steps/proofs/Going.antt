@@ -3,9 +3,9 @@ use Rattle.std.proofs.Common.{◌≡◌, ◌≢◌, ℕ, true, refl, sym, ◌∙
 use Rattle.std.specs.Prelude.{Contains}
 use Rattle.std.specs.declared.alloc.Global.{Global}
 use Rattle.std.specs.declared.vec.Vec.{Vec}
-use Rattle.sw_core.proofs.Copies.{carrying, over-call, run-files-call, run-hashes-call, run-received-call, run-went, run-write-call}
-use Rattle.sw_core.specs.Doors.{HasRun}
-use Rattle.sw_core.specs.Machine.{Machine}
+use Rattle.sw_object_machine.proofs.Copies.{carrying, over-call, run-files-call, run-hashes-call, run-received-call, run-went, run-write-call}
+use Rattle.sw_object_machine.specs.Doors.{HasRun}
+use Rattle.sw_object_machine.specs.Machine.{Machine}
 use Rattle.sw_diskfile.specs.declared.file_name.FileName.{FileName}
 use Rattle.sw_hashpath.specs.declared.name.Name.{Name}
 use Rattle.sw_peer.proofs.Calls.{calls-moves, made-step, moves-refl}

@@ -1,8 +1,8 @@
 -- A push is a run of the machine.
 use Rattle.std.proofs.Common.{◌≡◌, ◌≢◌, ℕ, true, false, ◌∙◌, ap, subst, Result, Ok, Err}
-use Rattle.sw_core.proofs.PartFacts.{part-at}
-use Rattle.sw_core.specs.Doors.{HasRun}
-use Rattle.sw_core.specs.Machine.{Machine}
+use Rattle.sw_object_machine.proofs.PartFacts.{part-at}
+use Rattle.sw_object_machine.specs.Doors.{HasRun}
+use Rattle.sw_object_machine.specs.Machine.{Machine}
 use Rattle.sw_lossy.specs.Losses.{around, begun}
 use Rattle.sw_lossy.specs.declared.acts.Acts.{Acts}
 use Rattle.sw_outside.specs.declared.errors.NoMemory.{NoMemory}

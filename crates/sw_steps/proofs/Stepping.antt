@@ -5,7 +5,7 @@ use Rattle.std.proofs.Math.Seq.{take-length}
 use Rattle.std.proofs.lemmas.List.{take-append-drop, take_more}
 use Rattle.std.proofs.lemmas.List.Elements.{All-get_or}
 use Rattle.sw_core.proofs.Wholes.{shown-whole}
-use Rattle.sw_core.specs.Doors.{HasRun}
+use Rattle.sw_object_machine.specs.Doors.{HasRun}
 use Rattle.sw_core.specs.Worlds.{nodes_of, shown}
 use Rattle.sw_hashpath.specs.declared.secrets.Secrets.{Secrets}
 use Rattle.sw_peer.proofs.Calls.{calls-moves, made-step, read-step}

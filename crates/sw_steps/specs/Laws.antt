@@ -1,7 +1,7 @@
 -- What is promised of steps and passes. (This project's own.)
 use Rattle.std.specs.Prelude.{◌≡◌, ◌≢◌, ℕ, true, List, Result}
-use Rattle.sw_core.specs.Doors.{HasRun}
-use Rattle.sw_core.specs.Machine.{Machine}
+use Rattle.sw_object_machine.specs.Doors.{HasRun}
+use Rattle.sw_object_machine.specs.Machine.{Machine}
 use Rattle.sw_lossy.specs.declared.acts.Acts.{Acts}
 use Rattle.sw_outside.specs.declared.errors.NoMemory.{NoMemory}
 use Rattle.sw_pass.specs.declared.outcome.Outcome.{Outcome}

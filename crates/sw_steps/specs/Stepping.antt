@@ -1,7 +1,7 @@
 -- Steps of the nodes, one after another, and the passes among them. (This project's own.)
 use Rattle.std.specs.Prelude.{◌≡◌, ◌≢◌, ℕ, ◌^◌, ◌<◌, true, false, Bool, List, [], ◌∷◌, ◌++◌, Ok, Err, ◌⊎◌}
-use Rattle.sw_core.specs.Doors.{HasRun}
-use Rattle.sw_core.specs.Machine.{Machine}
+use Rattle.sw_object_machine.specs.Doors.{HasRun}
+use Rattle.sw_object_machine.specs.Machine.{Machine}
 use Rattle.sw_hashdir.specs.Steps.{is_hashed}
 use Rattle.sw_hashpath.specs.declared.secrets.Secrets.{Secrets}
 use Rattle.sw_outside.specs.declared.errors.NoMemory.{NoMemory}

@@ -1,6 +1,6 @@
 use Rattle.std.proofs.Common.{◌≡◌, ◌+◌, ◌∙◌, ◌^◌, suc, ℕ, arith, refl, rules, subst}
 use Rattle.std.proofs.lemmas.Result.{err_from_is_err_and}
-use Rattle.sw_cluster.proofs.Restarting.{none-called}
+use Rattle.sw_nodes.proofs.Restarting.{none-called}
 use Rattle.sw_cluster.proofs.Rounding.{restarts-on, tried-on}
 use Rattle.sw_cluster.specs.Rounds.{RestartsFirst}
 use Rattle.sw_cluster.proofs.rounds.restart_all.Goals as goal

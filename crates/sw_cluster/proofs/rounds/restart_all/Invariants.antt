@@ -1,6 +1,6 @@
 use Rattle.std.proofs.Common.{◌≡◌, ◌*◌, ◌^◌}
 use Rattle.sw_volume.specs.Volume.{raised_by}
-use Rattle.sw_cluster.specs.Nodes.{IsReady}
+use Rattle.sw_nodes.specs.Nodes.{IsReady}
 use Rattle.sw_cluster.specs.Rounds.{RestartsFirst}
 use Rattle.sw_cluster.proofs.rounds.restart_all.Given as goal
 

@@ -1,5 +1,5 @@
 use Rattle.std.proofs.Common.{◌≤◌, length}
-use Rattle.sw_cluster.specs.Nodes.{IsReady}
+use Rattle.sw_nodes.specs.Nodes.{IsReady}
 use Rattle.sw_cluster.specs.Rounds.{AllServed}
 use Rattle.sw_cluster.specs.Told.{counts, doors_told}
 use Rattle.sw_cluster.proofs.rounds.serve_all.Given as goal

@@ -1,5 +1,5 @@
 use Rattle.std.proofs.Common.{refl, inr}
-use Rattle.sw_cluster.proofs.Readying.{ready-nodes}
+use Rattle.sw_nodes.proofs.Readying.{ready-nodes}
 use Rattle.sw_cluster.proofs.Rounding.{one-stopped}
 use Rattle.sw_cluster.proofs.Served.{ready-after}
 use Rattle.sw_cluster.specs.Told.{counts, doors_told}

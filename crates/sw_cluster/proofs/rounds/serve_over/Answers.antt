@@ -1,12 +1,12 @@
 use Rattle.std.proofs.Common.{◌∙◌, ℕ, Option, refl, sym, ap, subst}
 use Rattle.sw_core.specs.Worlds.{AllNodes, opened}
-use Rattle.sw_cluster.proofs.Going.{Goes}
-use Rattle.sw_cluster.proofs.Readying.{ready-of}
+use Rattle.sw_nodes.proofs.Going.{Goes}
+use Rattle.sw_nodes.proofs.Readying.{ready-of}
 use Rattle.sw_cluster.proofs.Rounding.{counts-same}
 use Rattle.sw_cluster.proofs.Served.{ends-go, has-served, left-given, see}
 use Rattle.sw_cluster.specs.Ending.{AllTold}
 use Rattle.sw_cluster.specs.Leaving.{AreLeft}
-use Rattle.sw_cluster.specs.Nodes.{IsReady, out_but}
+use Rattle.sw_nodes.specs.Nodes.{IsReady, out_but}
 use Rattle.sw_cluster.specs.Rounds.{EndsServing, HasServed}
 use Rattle.sw_cluster.specs.Told.{Counts, counts, doors_told, output}
 use Rattle.sw_cluster.proofs.rounds.serve_over.Goals as goal

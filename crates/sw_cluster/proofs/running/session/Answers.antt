@@ -2,7 +2,7 @@ use Rattle.std.proofs.Common.{◌≡◌, ◌∙◌, ℕ, Option, refl, sym, ap, 
 use Rattle.sw_core.specs.Worlds.{AllNodes, without_lines}
 use Rattle.sw_session.specs.Passages.{passage}
 use Rattle.sw_cluster.specs.Ending.{IsRunOver}
-use Rattle.sw_cluster.specs.Nodes.{out_but}
+use Rattle.sw_nodes.specs.Nodes.{out_but}
 use Rattle.sw_cluster.specs.Told.{counts, output}
 use Rattle.sw_cluster.proofs.Trailing.{nodes-ended, nodes-run}
 use Rattle.sw_cluster.proofs.running.session.Goals as goal

@@ -1,5 +1,5 @@
 use Rattle.std.proofs.Common.{Bool, Err, inl, inr, ap, subst, ◌∙◌}
-use Rattle.sw_core.proofs.Sessions.{run-listed}
+use Rattle.sw_object_machine.proofs.Sessions.{run-listed}
 use Rattle.sw_core.specs.Listing.{is_failed}
 use Rattle.sw_core.specs.Worlds.{sight_of}
 use Rattle.sw_peer.specs.Sights.{IsListed}

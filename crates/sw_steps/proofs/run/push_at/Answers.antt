@@ -1,6 +1,6 @@
 use Rattle.std.proofs.Common.{◌≤◌, ℕ, refl, ap, subst}
 use Rattle.sw_core.proofs.Wholes.{still-whole}
-use Rattle.sw_core.proofs.Witness.{hash_with, of-part}
+use Rattle.sw_object_machine.proofs.Witness.{hash_with, of-part}
 use Rattle.sw_core.specs.Worlds.{sight_of}
 use Rattle.sw_peer.specs.Sights.{Nodes}
 use Rattle.sw_steps.proofs.Running.{over-nodes, pushing_runs}

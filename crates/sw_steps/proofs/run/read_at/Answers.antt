@@ -1,5 +1,5 @@
 use Rattle.std.proofs.Common.{refl, ap, Ok, inr}
-use Rattle.sw_core.proofs.Sessions.{run-read-call}
+use Rattle.sw_object_machine.proofs.Sessions.{run-read-call}
 use Rattle.sw_core.proofs.Wholes.{still-whole}
 use Rattle.sw_core.specs.Worlds.{sight_of}
 use Rattle.sw_peer.proofs.Calls.{calls-moves, read-step}

@@ -1,6 +1,6 @@
 use Rattle.std.proofs.Common.{refl}
 use Rattle.sw_core.proofs.Anew.{restarts}
-use Rattle.sw_core.proofs.Sessions.{run-restarted}
+use Rattle.sw_object_machine.proofs.Sessions.{run-restarted}
 use Rattle.sw_core.specs.Worlds.{sight_of}
 use Rattle.sw_steps.proofs.run.restart_at.Goals as goal
 

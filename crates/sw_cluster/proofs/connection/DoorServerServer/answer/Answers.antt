@@ -1,7 +1,7 @@
 use Rattle.std.proofs.Common.{sym, subst}
 use Rattle.sw_ring.specs.declared.ring.Ring.{Ring}
 use Rattle.sw_cluster.proofs.Connecting.{ready-on}
-use Rattle.sw_cluster.specs.Connections.{AreNodesOf}
+use Rattle.sw_nodes.specs.Nodes.{AreNodesOf}
 use Rattle.sw_cluster.proofs.connection.DoorServerServer.answer.Goals as goal
 
 pub returns-in-Ok-false-clause-ready : goal.returns-in-Ok-false-clause-ready

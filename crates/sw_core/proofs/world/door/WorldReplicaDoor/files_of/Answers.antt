@@ -13,7 +13,7 @@ use Rattle.sw_peer.specs.declared.part_read.PartRead.TheVariants.{Files}
 use Rattle.sw_core.proofs.Placed.{part_after, world-part}
 use Rattle.sw_core.proofs.Wanting.{wants-part}
 use Rattle.sw_core.proofs.Wholes.{found, none-out, open-at, open-is, roomy, some-same, stepped}
-use Rattle.sw_core.proofs.Witness.{hash_with, of-part, of-suffix}
+use Rattle.sw_object_machine.proofs.Witness.{hash_with, of-part, of-suffix}
 use Rattle.sw_core.specs.Worlds.{AllNodes, part_lock_of, sight_of}
 use Rattle.sw_core.specs.declared.slot.Slot.TheVariants as slots
 use Rattle.sw_core.proofs.world.door.WorldReplicaDoor.files_of.Goals as goal

@@ -1,5 +1,0 @@
-use Rattle.sw_core.proofs.Sound.{sound}
-use Rattle.sw_core.proofs.laws.run_sound.Goals as goal
-
-pub returns : goal.returns
-returns c = sound

@@ -1,0 +1,12 @@
+pub mod Calming
+pub mod Comparing
+pub mod Contained
+pub mod Controlling
+pub mod Exchanging
+pub mod Going
+pub mod Readying
+pub mod Replicating
+pub mod Restarting
+pub mod RunningLemmas
+pub mod Serving
+pub mod ServingLemmas

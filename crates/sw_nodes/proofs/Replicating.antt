@@ -1,0 +1,94 @@
+-- The nodes of a ring answer a request for replicas, and can go on.
+use Rattle.std.proofs.Common.{◌≡◌, ℕ, ◌^◌, Bool, true, false, MatchBool, refl, inl, inr, ◌⊎◌, arith, MutBor}
+use Rattle.sw_control.specs.Asking.{is_control}
+use Rattle.sw_core.specs.Worlds.{AllNodes, sight_of}
+use Rattle.sw_message.specs.declared.request.Request.{Request}
+use Rattle.sw_message.specs.declared.response.Response.{Response}
+use Rattle.sw_object_server.specs.Replies.{bare}
+use Rattle.sw_peer.specs.Sights.{Sight}
+use Rattle.sw_replica_server.specs.Serving.{IsAnswered, IsGivenUp}
+use Rattle.sw_replica_server.specs.Targets.{is_replication_of}
+use Rattle.sw_ring.specs.declared.ring.Ring.{Ring}
+use Rattle.sw_volume.specs.Tree.{Folders}
+use Rattle.sw_container_machine.proofs.Sessions.{cont-run-calm}
+use Rattle.sw_container_server.specs.Targets.{is_for_containers}
+use Rattle.sw_nodes.proofs.Calming.{calm-restarts}
+use Rattle.sw_nodes.proofs.Comparing.{Stays, answered-stays, given_up-stays}
+use Rattle.sw_nodes.proofs.Controlling.{on_true}
+use Rattle.sw_nodes.proofs.Readying.{part_hash}
+use Rattle.sw_nodes.proofs.Restarting.{no-line, none-called, some_is}
+use Rattle.sw_nodes.proofs.Serving.{goes_on, on_false}
+use Rattle.sw_nodes.specs.Nodes.{IsReady, NodesAnswer}
+use Rattle.sw_nodes.specs.Restarts.{restarts_in}
+use Rattle.sw_nodes.specs.Server.{IsCompared, IsContained, IsControlled, IsRight, IsWanting}
+
+module _ {V S : Type 0} (tells : V → Bool) (files : V → Folders) (faults : V → ℕ) (store_faults store_calls : S → ℕ) (out : S → ℕ → ℕ → Bool)
+    (ring : Ring) (w after : AllNodes V) (stores : MutBor S) (request : Request) (moment : ℕ) (response : Response)
+    (nodes : is_control request.path ≡ false) (replicas : is_replication_of request ≡ true) (ready : IsReady out ring w stores.now) where
+  abbrev see : AllNodes V → Sight
+  see w = sight_of tells files faults w
+
+  abbrev Answers : Type 0
+  Answers = NodesAnswer tells files faults store_faults store_calls out ring ring w after stores stores request moment response
+
+  goes : Stays ring (see w) (see after) → IsCompared tells files faults ring w request response after → Answers
+  goes stays compared = record {
+    ring_is = refl;
+    may = record {
+      answers = on_false _ _ (is_control request.path) nodes (on_true _ _ (is_replication_of request) replicas compared);
+      nodes = stays.nodes;
+      runs = λ start r. stays.runs start refl (part_hash ring w.power ready.power) r;
+      cont_runs = λ start r. cont-run-calm start (see w) (see after) stays.nodes stays.calm r;
+    };
+    faults_are = refl;
+    gained = 0;
+    gains = let calm : restarts_in after.lines ≡ restarts_in w.lines = some_is (calm-restarts _ _ stays.calm) in omega (arith, calm);
+    calls_are = none-called (2 ^ ring.lock_bits) (store_calls stores.now) (store_calls stores.now) refl;
+    same_stores = refl;
+    ready = goes_on tells files faults out ring w after stores.now ready stays.nodes;
+  }
+
+  pub compared : IsAnswered see w after ring request response → Answers
+  compared answered = goes (answered-stays see ring request w after response answered) (inl answered)
+
+  pub compared_not : response ≡ bare 500 → IsGivenUp see w after ring request → Answers
+  compared_not reply left = goes (given_up-stays see ring request w after left) (inr (reply, left))
+
+  pub compared_ready : Answers → IsReady out ring after stores.now
+  compared_ready answers = answers.ready
+
+-- ---- any request
+
+-- it was answered by want of memory before anything was done with it
+module _ {V S : Type 0} (tells : V → Bool) (files : V → Folders) (faults : V → ℕ) (store_faults store_calls : S → ℕ) (out : S → ℕ → ℕ → Bool)
+    (ring : Ring) (w : AllNodes V) (stores : MutBor S) (request : Request) (moment : ℕ) (response : Response) (ready : IsReady out ring w stores.now)
+    (reply : response ≡ bare 500) where
+  abbrev MayBe : Bool → Bool → Bool → Type 0
+  MayBe control replicas containers =
+      MatchBool control (IsControlled tells files faults ring w request response w)
+      (MatchBool replicas (IsCompared tells files faults ring w request response w)
+      (MatchBool containers (IsContained tells files faults ring w request response w)
+      (IsRight ring w.lines request moment response w.lines ⊎ IsWanting ring w.lines request response w.lines)))
+
+  whatever : (control replicas containers : Bool) → MayBe control replicas containers
+  whatever true replicas containers = inr (refl, reply)
+  whatever false true containers = inr (reply, inl refl)
+  whatever false false true = inr (reply, inl refl)
+  whatever false false false = inr (reply, inl refl)
+
+  pub unanswered : NodesAnswer tells files faults store_faults store_calls out ring ring w w stores stores request moment response
+  unanswered = record {
+    ring_is = refl;
+    may = record {
+      answers = whatever (is_control request.path) (is_replication_of request) (is_for_containers request);
+      nodes = refl;
+      runs = λ start r. r;
+      cont_runs = λ start r. r;
+    };
+    faults_are = refl;
+    gained = 0;
+    gains = no-line w.lines w.lines refl;
+    calls_are = none-called (2 ^ ring.lock_bits) (store_calls stores.now) (store_calls stores.now) refl;
+    same_stores = refl;
+    ready = ready;
+  }

@@ -1,0 +1,104 @@
+-- Which requests leave a line that tells of a restart, and how the calls of the stores add up.
+use Rattle.std.proofs.Common.{◌≡◌, ℕ, ◌+◌, ◌*◌, ◌^◌, ◌≤◌, List, [], ◌∷◌, ◌++◌, Option, Some, None, Bool, refl, sym, ap, ◌∙◌, inl, inr, ◌⊎◌, arith}
+use Rattle.std.proofs.lemmas.Nat.{rows}
+use Rattle.sw_core.specs.Worlds.{AllNodes, restart_line}
+use Rattle.sw_message.specs.declared.request.Request.{Request}
+use Rattle.sw_message.specs.declared.response.Response.{Response}
+use Rattle.sw_object_server.specs.declared.asked.Asked.{Asked}
+use Rattle.sw_object_server.specs.declared.asked.Asked.TheVariants as asks
+use Rattle.sw_peer.specs.declared.line.Line.{Line}
+use Rattle.sw_ring.specs.declared.ring.Ring.{Ring}
+use Rattle.sw_volume.proofs.Counting.{raised_by-plus}
+use Rattle.sw_volume.specs.Tree.{Folders}
+use Rattle.sw_volume.specs.Volume.{raised_by}
+use Rattle.sw_nodes.specs.Restarts.{AreCalled, restarts_in, restarts_of}
+use Rattle.sw_nodes.specs.Server.{IsDone, IsFiled, IsIdle, IsRestarted, IsRight, IsWanting}
+
+-- ---- lines
+
+pub some_is : {A : Type 0} {x y : A} → Some x ≡ Some y → x ≡ y
+some_is is = cc
+
+pub one-line : (lines : List Line) (line : Line) → restarts_in (lines ++ line ∷ []) ≡ restarts_in lines + restarts_of line.event
+one-line [] line = omega arith
+one-line (first ∷ lines) line = let e = one-line lines line in omega (arith, e)
+
+pub no-line : (before after : List Line) → after ≡ before → restarts_in after ≡ restarts_in before + 0
+no-line before after same = let e = ap restarts_in same in omega (arith, e)
+
+-- one line more, of an event that is none or a restart
+line-of : (before after : List Line) (line : Line) (n : ℕ) → after ≡ before ++ line ∷ [] → restarts_of line.event ≡ n
+    → restarts_in after ≡ restarts_in before + n
+line-of before after line n is event = ap restarts_in is ∙ (one-line before line ∙ ap (λ (k : ℕ). restarts_in before + k) event)
+
+-- no request of the nodes leaves a restart's line
+done-lines : (before after : List Line) (moment : ℕ) (asked : Asked) (response : Response) → IsDone before moment asked response after
+    → restarts_in after ≡ restarts_in before + 0
+done-lines before after moment (asks.Refused status) response done = no-line before after done.0
+done-lines before after moment (asks.Change device name change) response done = line-of before after _ 0 done.1.1 refl
+done-lines before after moment (asks.Read device name head_only) response done = line-of before after _ 0 done.1.1 refl
+
+idle-lines : (before after : List Line) (asked : Asked) → IsIdle before asked after → restarts_in after ≡ restarts_in before + 0
+idle-lines before after (asks.Refused status) idle = absurd idle
+idle-lines before after (asks.Change device name change) idle = line-of before after _ 0 idle.1.1 refl
+idle-lines before after (asks.Read device name head_only) idle = line-of before after _ 0 idle.1.1 refl
+
+pub asked-lines : (ring : Ring) (before after : List Line) (request : Request) (moment : ℕ) (response : Response)
+    → IsRight ring before request moment response after ⊎ IsWanting ring before request response after → restarts_in after ≡ restarts_in before + 0
+asked-lines ring before after request moment response (inl right) = done-lines before after moment right.0 response right.2
+asked-lines ring before after request moment response (inr (reply, inl same)) = no-line before after same
+asked-lines ring before after request moment response (inr (reply, inr idle)) = idle-lines before after idle.0 idle.2
+
+module _ {V : Type 0} (tells : V → Bool) (files : V → Folders) (faults : V → ℕ) where
+  -- nor does a listing
+  pub listed-lines : (w after : AllNodes V) (device : ℕ) (response : Response) → IsFiled tells files faults device w response after
+      → restarts_in after.lines ≡ restarts_in w.lines + 0
+  listed-lines w after device response filed = line-of w.lines after.lines _ 0 (some_is filed.moves.trail) refl
+
+  -- but a restart does
+  pub restart-lines : (w after : AllNodes V) (device : ℕ) → IsRestarted tells files faults device w after
+      → restarts_in after.lines ≡ restarts_in w.lines + 1
+  restart-lines w after device again = line-of w.lines after.lines (restart_line device) 1
+      (ap (λ (x : AllNodes V). x.lines) again.down.rest ∙ ap (λ (x : AllNodes V). x.lines ++ restart_line device ∷ []) again.up.rest) refl
+
+-- ---- calls
+
+pub none-called : (stripes n now : ℕ) → now ≡ n → now ≡ raised_by (0 * stripes) n
+none-called stripes n now same = let e : 0 ≡ 0 * stripes = omega arith in same ∙ ap (λ (k : ℕ). raised_by k n) e
+
+pub once-called : (stripes n now : ℕ) → now ≡ raised_by stripes n → now ≡ raised_by (1 * stripes) n
+once-called stripes n now called = let e : stripes ≡ 1 * stripes = omega arith in called ∙ ap (λ (k : ℕ). raised_by k n) e
+
+pub called-on : (stripes restarts gained restarts_now n mid now : ℕ) → restarts_now ≡ restarts + gained → mid ≡ raised_by (restarts * stripes) n
+    → now ≡ raised_by (gained * stripes) mid → now ≡ raised_by (restarts_now * stripes) n
+called-on stripes restarts gained restarts_now n mid now is first later =
+    later ∙ (ap (raised_by (gained * stripes)) first ∙ (raised_by-plus (gained * stripes) (restarts * stripes) n ∙ ap (λ (k : ℕ). raised_by k n) sum))
+  where
+    sum : gained * stripes + restarts * stripes ≡ restarts_now * stripes
+    sum = rw is (let e : gained * stripes + restarts * stripes ≡ (restarts + gained) * stripes = grind (arith, rows) in e)
+
+-- where no device is out
+pub whole-called : (ring : Ring) (lifted : Option ℕ) (lines : List Line) (n now : ℕ) → now ≡ raised_by (restarts_in lines * 2 ^ ring.lock_bits) n
+    → AreCalled ring lifted lines n now
+whole-called ring lifted lines n now called = record {
+  tried = 0;
+  whole = λ _. refl;
+  most = omega arith;
+  calls_are = called ∙ ap (λ (k : ℕ). raised_by k n)
+      (let e : restarts_in lines * 2 ^ ring.lock_bits ≡ 0 + restarts_in lines * 2 ^ ring.lock_bits = omega arith in e);
+}
+
+-- where one couldn't be started again
+pub out-called : (ring : Ring) (lifted : Option ℕ) (device : ℕ) (lines before : List Line) (n mid now tried : ℕ) → lifted ≡ Some device → lines ≡ before
+    → tried ≤ 2 ^ ring.lock_bits → mid ≡ raised_by (restarts_in before * 2 ^ ring.lock_bits) n → now ≡ raised_by tried mid
+    → AreCalled ring lifted lines n now
+out-called ring lifted device lines before n mid now tried out same most first later = record {
+  tried = tried;
+  whole = λ none. absurd (not-none (sym none ∙ out));
+  most = most;
+  calls_are = later ∙ (ap (raised_by tried) first ∙ (raised_by-plus tried (restarts_in before * 2 ^ ring.lock_bits) n
+      ∙ ap (λ (ls : List Line). raised_by (tried + restarts_in ls * 2 ^ ring.lock_bits) n) (sym same)));
+}
+  where
+    not-none : None ≡ Some device → ⊥
+    not-none is = cc

@@ -1,0 +1,49 @@
+use Rattle.std.proofs.Common.{ap, subst}
+use Rattle.sw_control.specs.Asking.{IsControl, IsPlaced}
+use Rattle.sw_nodes.proofs.Controlling.{came_again, files_listed, push_ready, stayed_away, was_pushed}
+use Rattle.sw_nodes.proofs.server.Nodes.control.Goals as goal
+
+pub returns-in-Ok-Files-clause-served : goal.returns-in-Ok-Files-clause-served
+returns-in-Ok-Files-clause-served g c =
+    files_listed g.S.V.Volume.tells g.S.V.Volume.holds g.S.V.Volume.faults g.S.Stores.faults g.S.Stores.calls g.S.Stores.out c.args.self.now.ring.now
+    c.files.new.self.ring.now c.args.self.now.network.door c.files.new.self.network.door c.args.self.now.stores c.files.new.self.stores c.args.request.now
+    c.args._now
+    c.files.result c.in-Ok-Files.device c.requires.control
+    (subst (IsControl c.args.self.now.ring.now c.args.request.now) c.in-Ok-Files.field-0-is c.in-Ok-Files.ensures.exact)
+    (ap (λ r. r.now) c.files.ensures.same.0) c.files.ensures.same.1 c.requires.ready c.files.ensures.filed
+
+pub returns-in-Ok-Restart-clause-served : goal.returns-in-Ok-Restart-clause-served
+returns-in-Ok-Restart-clause-served g c =
+    came_again g.S.V.Volume.tells g.S.V.Volume.holds g.S.V.Volume.faults g.S.Stores.faults g.S.Stores.calls g.S.Stores.out c.args.self.now.ring.now
+    c.restart.new.self.ring.now c.args.self.now.network.door c.restart.new.self.network.door c.args.self.now.stores c.restart.new.self.stores c.args.request.now
+    c.args._now
+    c.restart.result c.in-Ok-Restart.device c.requires.control
+    (subst (IsControl c.args.self.now.ring.now c.args.request.now) c.in-Ok-Restart.field-0-is c.in-Ok-Restart.ensures.exact)
+    (ap (λ r. r.now) c.restart.ensures.same.0) c.restart.ensures.same.1 c.restart.ensures.kept c.restart.ensures.ready c.restart.ensures.restarted
+
+pub returns-in-Ok-Restart-clause-halted : goal.returns-in-Ok-Restart-clause-halted
+returns-in-Ok-Restart-clause-halted g c =
+    stayed_away g.S.V.Volume.tells g.S.V.Volume.holds g.S.V.Volume.faults g.S.Stores.faults g.S.Stores.calls g.S.Stores.out c.args.self.now.ring.now
+    c.restart.new.self.ring.now c.args.self.now.network.door c.restart.new.self.network.door c.args.self.now.stores c.restart.new.self.stores c.args.request.now
+    g.S.Stores.rests c.restart.result c.in-Ok-Restart.device c.requires.control
+    (subst (IsControl c.args.self.now.ring.now c.args.request.now) c.in-Ok-Restart.field-0-is c.in-Ok-Restart.ensures.exact)
+    (ap (λ r. r.now) c.restart.ensures.same.0) c.restart.ensures.same.1 c.restart.ensures.faults c.restart.ensures.lifted
+
+pub returns-in-Ok-Replicate-clause-served : goal.returns-in-Ok-Replicate-clause-served
+returns-in-Ok-Replicate-clause-served g c =
+    was_pushed g.S.V.Volume.tells g.S.V.Volume.holds g.S.V.Volume.faults g.S.Stores.faults g.S.Stores.calls g.S.Stores.out c.args.self.now.ring.now
+    c.replicate.new.self.ring.now c.args.self.now.network.door c.replicate.new.self.network.door c.args.self.now.stores c.replicate.new.self.stores
+    c.args.request.now
+    c.args._now c.replicate.result c.in-Ok-Replicate.asked c.requires.control
+    (subst (IsControl c.args.self.now.ring.now c.args.request.now) c.in-Ok-Replicate.field-0-is c.in-Ok-Replicate.ensures.exact)
+    (subst (IsPlaced c.args.self.now.ring.now) c.in-Ok-Replicate.field-0-is c.in-Ok-Replicate.ensures.placed)
+    (ap (λ r. r.now) c.replicate.ensures.same.0) c.replicate.ensures.same.1 c.requires.ready c.replicate.ensures.replicated
+
+pub returns-in-Ok-Replicate-clause-ready : goal.returns-in-Ok-Replicate-clause-ready
+returns-in-Ok-Replicate-clause-ready g c =
+    push_ready g.S.V.Volume.tells g.S.V.Volume.holds g.S.V.Volume.faults g.S.Stores.faults g.S.Stores.calls g.S.Stores.out c.args.self.now.ring.now
+    c.replicate.new.self.ring.now c.args.self.now.network.door c.replicate.new.self.network.door c.args.self.now.stores c.replicate.new.self.stores
+    c.args.request.now
+    c.in-Ok-Replicate.asked c.replicate.result
+    (subst (IsControl c.args.self.now.ring.now c.args.request.now) c.in-Ok-Replicate.field-0-is c.in-Ok-Replicate.ensures.exact)
+    (ap (λ r. r.now) c.replicate.ensures.same.0) c.replicate.ensures.same.1 c.requires.ready c.replicate.ensures.replicated

@@ -1,0 +1,4 @@
+pub mod Exchanging
+pub mod Nodes
+pub mod Restarts
+pub mod Server

@@ -1,0 +1,162 @@
+-- What a request is answered, and which lines it leaves in the trail. (OpenStack Swift's servers, in the profile of this product.)
+--
+-- A reply is a relation, since want of memory may be answered in place of any reply. Then no step came, or the one that the request asks
+-- for, which changed nothing.
+use Rattle.std.specs.Prelude.{◌≡◌, ℕ, Bool, true, false, List, ◌∷◌, [], ◌++◌, MatchBool, ◌⊎◌, Result, Ok, Err, IfOk}
+use Rattle.sw_message.specs.declared.request.Request.{Request}
+use Rattle.sw_message.specs.declared.response.Response.{Response}
+use Rattle.sw_ring.specs.declared.ring.Ring.{Ring}
+use Rattle.sw_peer.specs.Steps.{is_entered, write_of}
+use Rattle.sw_peer.specs.declared.answer.Answer.{Answer}
+use Rattle.sw_peer.specs.declared.entry.ObjEntry.{ObjEntry}
+use Rattle.sw_peer.specs.declared.got.Got.{Got}
+use Rattle.sw_peer.specs.declared.line.Event.{Event}
+use Rattle.sw_peer.specs.declared.line.Event.TheVariants.{Changed, Read}
+use Rattle.sw_peer.specs.declared.line.Line.{Line}
+use Rattle.sw_peer.specs.declared.link.Link.TheVariants.{Local}
+use Rattle.sw_object_server.specs.Asking.{IsAsked}
+use Rattle.sw_object_server.specs.Replies.{bare, made_reply, reply_to}
+use Rattle.sw_object_server.specs.Showing.{IsShown}
+use Rattle.sw_object_server.specs.declared.asked.Asked.{Asked}
+use Rattle.sw_object_server.specs.declared.asked.Asked.TheVariants as asks
+use Rattle.sw_container_machine.specs.Machine.{ContMachine}
+use Rattle.sw_container_machine.specs.Standing.{HasContRun}
+use Rattle.sw_container_server.specs.Serving as containers
+use Rattle.sw_container_server.specs.Targets.{is_for_containers}
+use Rattle.sw_replica_server.specs.Serving as replicas
+use Rattle.sw_replica_server.specs.Targets.{is_replication_of}
+use Rattle.sw_control.specs.Asking.{IsControl, is_control}
+use Rattle.sw_control.specs.OutcomeText.{outcome_text}
+use Rattle.sw_control.specs.Texts.{files_text, text_reply}
+use Rattle.sw_control.specs.TrailText.{trail_text}
+use Rattle.sw_control.specs.declared.asking.Control.{Control}
+use Rattle.sw_control.specs.declared.asking.Control.TheVariants as controls
+use Rattle.sw_control.specs.declared.replication.Replication.{Replication}
+use Rattle.sw_object_machine.specs.Doors.{HasRun}
+use Rattle.sw_core.specs.Listing.{AreCalm, ListsFiles, is_failed}
+use Rattle.sw_object_machine.specs.Machine.{Machine}
+use Rattle.sw_core.specs.Worlds.{AllNodes, IsSameWorld, Lifts, SetsDown, sight_of}
+use Rattle.sw_outside.specs.declared.errors.NoMemory.{NoMemory}
+use Rattle.sw_pass.specs.declared.outcome.Outcome.{Outcome}
+use Rattle.sw_peer.specs.Sights.{IsListed}
+use Rattle.sw_steps.specs.Passing.{IsPushedOver}
+use Rattle.sw_volume.specs.Tree.{Folders}
+use Rattle.sw_volume.specs.declared.errors.VolumeError.{VolumeError}
+use Rattle.sw_volume.specs.declared.errors.VolumeError.TheVariants as volume_errors
+
+-- one step more came to this device, said there itself: its line tells what it asked for, its answer, and the entries that it added
+abbrev pub HasLine : List Line → ℕ → Event → List Line → Type 0
+HasLine before device event after =
+    (added : List ObjEntry) × (after ≡ before ++ record { device = device; link = Local; event = event; added = added } ∷ [])
+
+-- what a request asks for was done, and replied to. A refused request makes no step
+abbrev pub IsDone : List Line → ℕ → Asked → Response → List Line → Type 0
+IsDone before moment (asks.Refused status) response after = (after ≡ before) × (response ≡ bare status)
+IsDone before moment (asks.Change device name change) response after =
+    (answer : Answer) × HasLine before device (Changed name change answer) after × (response ≡ reply_to (made_reply (write_of change).kind) answer)
+IsDone before moment (asks.Read device name head_only) response after =
+    (got : Got) × HasLine before device (Read name got) after × IsShown got moment head_only response
+
+-- the one right reply to a request of the nodes
+abbrev pub IsRight : Ring → List Line → Request → ℕ → Response → List Line → Type 0
+IsRight ring before r moment response after = (asked : Asked) × IsAsked ring r asked × IsDone before moment asked response after
+
+-- the step that was asked for came, and entered no write. A refused request has none
+abbrev pub IsIdle : List Line → Asked → List Line → Type 0
+IsIdle before (asks.Refused status) after = ⊥
+IsIdle before (asks.Change device name change) after =
+    (answer : Answer) × HasLine before device (Changed name change answer) after × (is_entered answer ≡ false)
+IsIdle before (asks.Read device name head_only) after = (got : Got) × HasLine before device (Read name got) after
+
+-- want of memory: no step came, or the one that the request asks for, which entered no write
+abbrev pub IsWanting : Ring → List Line → Request → Response → List Line → Type 0
+IsWanting ring before r response after =
+    (response ≡ bare 500) × ((after ≡ before) ⊎ ((asked : Asked) × IsAsked ring r asked × IsIdle before asked after))
+
+-- ---- control requests
+
+-- the reply to a listing of all files of a device: only for the text of what was listed memory may be wanting yet
+abbrev pub IsFilesReply : Result (List (List ℕ)) VolumeError → Response → Type 0
+IsFilesReply (Ok paths) response = (response ≡ text_reply (files_text paths)) ⊎ (response ≡ bare 500)
+IsFilesReply (Err volume_errors.Failed) response = response ≡ bare 507
+IsFilesReply (Err volume_errors.NoMemory) response = response ≡ bare 500
+
+-- the reply to a push: only for the text of what came of it memory may be wanting yet
+abbrev pub IsPushReply : Result Outcome NoMemory → Response → Type 0
+IsPushReply (Ok outcome) response = (response ≡ text_reply (outcome_text outcome)) ⊎ (response ≡ bare 500)
+IsPushReply (Err wanting) response = response ≡ bare 500
+
+module _ {V : Type 0} (tells : V → Bool) (files : V → Folders) (faults : V → ℕ) where
+  -- the files of a device were listed
+  pub record IsFiled (device : ℕ) (w : AllNodes V) (response : Response) (after : AllNodes V) : Type 0 where
+    pub listed : Result (List (List ℕ)) VolumeError
+    pub moves : IsListed device (is_failed listed) (sight_of tells files faults w) (sight_of tells files faults after)
+    pub calm : is_failed listed ≡ false → AreCalm tells files faults w.slots after.slots
+    pub same : IsSameWorld w after
+    pub paths : IfOk listed (ListsFiles tells files w device)
+    pub reply : IsFilesReply listed response
+
+  -- a device was lifted, and set down over the same volumes
+  pub record IsRestarted (device : ℕ) (w after : AllNodes V) : Type 0 where
+    pub given : List V
+    pub mid : AllNodes V
+    pub up : Lifts tells files faults w device given mid
+    pub down : SetsDown mid device given after
+
+  -- A partition was pushed, and what came of it replied. A push that wanted memory was made as far as it came
+  pub record IsReplicated (asked : Replication) (w : AllNodes V) (response : Response) (after : AllNodes V) : Type 0 where
+    pub outcome : Result Outcome NoMemory
+    pub pushed : IsPushedOver asked.from asked.to asked.part asked.acts (sight_of tells files faults w) outcome (sight_of tells files faults after)
+    pub reply : IsPushReply outcome response
+
+  -- what a control request asks for was done
+  abbrev pub IsControlDone : Ring → AllNodes V → Control → Response → AllNodes V → Type 0
+  IsControlDone ring w controls.Trail response after = (after ≡ w) × (response ≡ text_reply (trail_text ring.devices w.lines))
+  IsControlDone ring w (controls.Files device) response after = IsFiled device w response after
+  IsControlDone ring w (controls.Restart device) response after = IsRestarted device w after × (response ≡ text_reply [])
+  IsControlDone ring w (controls.Replicate asked) response after = IsReplicated asked w response after
+  IsControlDone ring w controls.Refused response after = (after ≡ w) × (response ≡ bare 400)
+
+  -- a control request was answered, or memory ran out before anything was done
+  abbrev pub IsControlled : Ring → AllNodes V → Request → Response → AllNodes V → Type 0
+  IsControlled ring w r response after =
+      ((asked : Control) × IsControl ring r asked × IsControlDone ring w asked response after) ⊎ ((after ≡ w) × (response ≡ bare 500))
+
+  -- ---- requests for replicas
+
+  -- The reads that a request for replicas asks for were made, and what they told replied. Or memory ran out: then some first ones of them were
+  -- made, or none
+  abbrev pub IsCompared : Ring → AllNodes V → Request → Response → AllNodes V → Type 0
+  IsCompared ring w r response after =
+      replicas.IsAnswered (sight_of tells files faults) w after ring r response
+      ⊎ ((response ≡ bare 500) × replicas.IsGivenUp (sight_of tells files faults) w after ring r)
+
+  -- ---- requests for containers
+
+  -- The steps that a request for containers asks for came, and what they were answered is replied. Or memory ran out: then no step came, or those
+  -- that the request asks for, which changed nothing
+  abbrev pub IsContained : Ring → AllNodes V → Request → Response → AllNodes V → Type 0
+  IsContained ring w r response after =
+      containers.IsAnswered (sight_of tells files faults) w after ring r response
+      ⊎ ((response ≡ bare 500) × containers.IsGivenUp (sight_of tells files faults) w after ring r)
+
+  -- ---- any request
+
+  -- A reply that may be given: the right one, or want of memory; and what the world is then. Whatever runs of the machines it stood for go on
+  -- by the lines that it kept of this request.
+  pub record MayAnswer (ring : Ring) (w : AllNodes V) (r : Request) (moment : ℕ) (response : Response) (after : AllNodes V) : Type 0 where
+    pub answers : MatchBool (is_control r.path) (IsControlled ring w r response after)
+        (MatchBool (is_replication_of r) (IsCompared ring w r response after)
+        (MatchBool (is_for_containers r) (IsContained ring w r response after)
+        (IsRight ring w.lines r moment response after.lines ⊎ IsWanting ring w.lines r response after.lines)))
+    pub nodes : (sight_of tells files faults after).nodes ≡ (sight_of tells files faults w).nodes
+    pub runs : (start : Machine) → HasRun start (sight_of tells files faults w) → HasRun start (sight_of tells files faults after)
+    pub cont_runs : (start : ContMachine) → HasContRun start (sight_of tells files faults w) → HasContRun start (sight_of tells files faults after)
+
+  -- A restart was asked for, and the device lifted, but its volumes couldn't be started again: it stays out, and no request comes after it
+  pub record MayHalt (ring : Ring) (w : AllNodes V) (r : Request) (after : AllNodes V) : Type 0 where
+    pub control : is_control r.path ≡ true
+    pub device : ℕ
+    pub asked : IsControl ring r (controls.Restart device)
+    pub given : List V
+    pub up : Lifts tells files faults w device given after

@@ -1,0 +1,270 @@
+ghost use Rattle.std.specs.Prelude.{◌≡◌, ◌<◌, ◌≤◌, ◌^◌, ◌⊎◌, true, false, length, None, Ok, IfOk, IfErr, OnOk, OnErr};
+ghost use Rattle.sw_control.specs.Texts.{files_text as files_text_of, text_reply as text_reply_of};
+ghost use Rattle.sw_object_server.specs.Replies.{bare as bare_of};
+ghost use Rattle.sw_volume.specs.Volume.{raised_by};
+ghost use Rattle.sw_nodes.specs.Nodes.{FailsToStart, IsReady, NodesAnswer, NodesHalt, faults_by};
+ghost use Rattle.sw_control.specs.Asking.{IsPlaced, is_control as is_control_path};
+ghost use Rattle.sw_container_server.specs.Targets.{is_for_containers as is_for_containers_of};
+ghost use Rattle.sw_replica_server.specs.Targets.{is_replication_of};
+ghost use Rattle.sw_control.specs.declared.asking.Control.TheVariants as controls;
+ghost use Rattle.sw_nodes.specs.Server.{IsControlDone, IsFiled, IsPushReply, IsReplicated};
+
+use std::alloc::Global;
+use sw_container_server::is_for_containers;
+use sw_control::{
+    Control, Replication, files_text, is_control, outcome_text, read_control, text_reply,
+    trail_text,
+};
+use sw_core::{Parts, World};
+use sw_lossy::Lossy;
+use sw_message::{Request, Response};
+use sw_object_server::bare;
+use sw_outside::{Bytes, BytesList, NoMemory, StoreError};
+use sw_pass::Outcome;
+use sw_replica_server::is_replication;
+use sw_ring::Ring;
+use sw_session::{Server, ServerFault};
+use sw_steps::push_over;
+use sw_stores::Stores;
+use sw_stores::volumes::restart_range;
+use sw_volume::VolumeError;
+
+/// The nodes of a ring, as the server of a session. A control request is answered by what the world tells or by what is done with it, and all
+/// others by its nodes. The volumes of the nodes are those of the stores, which get them back where a device is restarted.
+#[derive(Drop)]
+pub struct Nodes<'a, S: Stores> {
+    pub ring: &'a Ring,
+    /// The nodes, and the door by which messages between them fail where a pass asks for that.
+    pub network: Lossy<World<S::V>>,
+    pub stores: &'a mut S,
+}
+
+impl<S: Stores> Server for Nodes<'_, S> {
+    ghost ready = { λ n. IsReady S.out n.ring.now n.network.door n.stores.now };
+
+    ghost serves = { λ old request moment response new. NodesAnswer S.V.tells S.V.holds S.V.faults S.faults S.calls S.out
+        old.ring.now new.ring.now old.network.door new.network.door old.stores new.stores request moment response };
+
+    ghost halts = { λ old request moment fault new. NodesHalt S.V.tells S.V.holds S.V.faults S.faults S.calls S.rests S.out
+        old.ring.now new.ring.now old.network.door new.network.door old.stores new.stores request fault };
+
+    ghost last = { λ request. false };
+
+    fn answer(
+        &mut self,
+        alloc: Global,
+        request: Request,
+        now: u64,
+    ) -> Result<Response, ServerFault> {
+        match is_control(alloc, &request.path) {
+            Ok(true) => self.control(alloc, &request, now),
+            Ok(false) if is_replication(&request) => Ok(self.compare(alloc, &request, now)),
+            Ok(false) if is_for_containers(&request) => Ok(self.contain(alloc, &request, now)),
+            Ok(false) => Ok(self.serve(alloc, request, now)),
+            Err(NoMemory) => Ok(bare(alloc, 500)),
+        }
+    }
+
+    /// None is: a session over the nodes goes on to the end of its input.
+    fn is_last(&self, _request: &Request) -> bool {
+        false
+    }
+}
+
+impl<S: Stores> Nodes<'_, S> {
+    /// Answers a request for replicas.
+    fn compare(&mut self, alloc: Global, request: &Request, _now: u64) -> Response
+        requires ready { IsReady S.out self.old.ring.now self.old.network.door self.old.stores.now }
+        requires nodes { is_control_path request.now.path ≡ false }
+        requires replicas { is_replication_of request.now ≡ true }
+        ensures ready { IsReady S.out self.new.ring.now self.new.network.door self.new.stores.now }
+        ensures served { NodesAnswer S.V.tells S.V.holds S.V.faults S.faults S.calls S.out
+            self.old.ring.now self.new.ring.now self.old.network.door self.new.network.door self.old.stores self.new.stores request.now _now result }
+    {
+        match sw_replica_server::answer(alloc, &mut self.network.door, self.ring, request) {
+            Ok(response) => response,
+            Err(NoMemory) => bare(alloc, 500),
+        }
+    }
+
+    /// Answers a request for containers.
+    fn contain(&mut self, alloc: Global, request: &Request, _now: u64) -> Response
+        requires ready { IsReady S.out self.old.ring.now self.old.network.door self.old.stores.now }
+        requires nodes { is_control_path request.now.path ≡ false }
+        requires no_replicas { is_replication_of request.now ≡ false }
+        requires containers { is_for_containers_of request.now ≡ true }
+        ensures ready { IsReady S.out self.new.ring.now self.new.network.door self.new.stores.now }
+        ensures served { NodesAnswer S.V.tells S.V.holds S.V.faults S.faults S.calls S.out
+            self.old.ring.now self.new.ring.now self.old.network.door self.new.network.door self.old.stores self.new.stores request.now _now result }
+    {
+        match sw_container_server::answer(alloc, &mut self.network.door, self.ring, request) {
+            Ok(response) => response,
+            Err(NoMemory) => bare(alloc, 500),
+        }
+    }
+
+    /// Answers a request for an object.
+    fn serve(&mut self, alloc: Global, request: Request, now: u64) -> Response
+        requires ready { IsReady S.out self.old.ring.now self.old.network.door self.old.stores.now }
+        requires nodes { is_control_path request.path ≡ false }
+        requires no_replicas { is_replication_of request ≡ false }
+        requires objects { is_for_containers_of request ≡ false }
+        ensures ready { IsReady S.out self.new.ring.now self.new.network.door self.new.stores.now }
+        ensures served { NodesAnswer S.V.tells S.V.holds S.V.faults S.faults S.calls S.out
+            self.old.ring.now self.new.ring.now self.old.network.door self.new.network.door self.old.stores self.new.stores request now result }
+    {
+        match sw_object_server::answer(alloc, &mut self.network.door, self.ring, request, now) {
+            Ok(response) => response,
+            Err(NoMemory) => bare(alloc, 500),
+        }
+    }
+
+    /// Answers a control request.
+    fn control(
+        &mut self,
+        alloc: Global,
+        request: &Request,
+        _now: u64,
+    ) -> Result<Response, ServerFault>
+        requires ready { IsReady S.out self.old.ring.now self.old.network.door self.old.stores.now }
+        requires control { is_control_path request.now.path ≡ true }
+        ensures ready { OnOk result (IsReady S.out self.new.ring.now self.new.network.door self.new.stores.now) }
+        ensures served { IfOk result (λ response. NodesAnswer S.V.tells S.V.holds S.V.faults S.faults S.calls S.out
+            self.old.ring.now self.new.ring.now self.old.network.door self.new.network.door self.old.stores self.new.stores request.now _now response) }
+        ensures halted { IfErr result (λ fault. NodesHalt S.V.tells S.V.holds S.V.faults S.faults S.calls S.rests S.out
+            self.old.ring.now self.new.ring.now self.old.network.door self.new.network.door self.old.stores self.new.stores request.now fault) }
+    {
+        match read_control(alloc, self.ring, request) {
+            Ok(Control::Trail) => Ok(or_wanting(alloc, self.trail(alloc))),
+            Ok(Control::Files(device)) => Ok(self.files(alloc, device)),
+            Ok(Control::Restart(device)) => self.restart(alloc, device),
+            Ok(Control::Replicate(asked)) => Ok(self.replicate(alloc, asked)),
+            Ok(Control::Refused) => Ok(bare(alloc, 400)),
+            Err(NoMemory) => Ok(bare(alloc, 500)),
+        }
+    }
+
+    /// The reply that shows the trail.
+    fn trail(&self, alloc: Global) -> Result<Response, NoMemory>
+        ensures { IfOk result (λ response. IsControlDone S.V.tells S.V.holds S.V.faults
+            self.now.ring.now self.now.network.door controls.Trail response self.now.network.door) }
+    {
+        let text = trail_text(alloc, &self.ring.devices, self.network.door.lines())?;
+        text_reply(alloc, text)
+    }
+
+    /// Lists the files of a device, and replies to that.
+    fn files(&mut self, alloc: Global, device: u8) -> Response
+        requires device { device < self.old.network.door.devices }
+        requires whole { self.old.network.door.lifted ≡ None }
+        ensures filed { IsFiled S.V.tells S.V.holds S.V.faults device self.old.network.door result self.new.network.door
+            ⊎ ((self.new.network.door ≡ self.old.network.door) × (result ≡ bare_of 500)) }
+        ensures same { (self.new.ring ≡ self.old.ring) × (self.new.stores ≡ self.old.stores) }
+    {
+        match self.network.door.files(alloc, device) {
+            Ok(paths) => listed(alloc, &paths),
+            Err(VolumeError::Failed) => bare(alloc, 507),
+            Err(VolumeError::NoMemory) => bare(alloc, 500),
+        }
+    }
+
+    /// Pushes a partition from one device to another, and replies what came of it. A push that wanted memory was made as far as it came.
+    fn replicate(&mut self, alloc: Global, asked: Replication) -> Response
+        requires placed { IsPlaced self.old.ring.now (controls.Replicate asked) }
+        requires ready { IsReady S.out self.old.ring.now self.old.network.door self.old.stores.now }
+        ensures replicated { IsReplicated S.V.tells S.V.holds S.V.faults asked self.old.network.door result self.new.network.door }
+        ensures same { (self.new.ring ≡ self.old.ring) × (self.new.stores ≡ self.old.stores) }
+    {
+        match push_over(
+            alloc,
+            &mut self.network,
+            asked.from,
+            asked.to,
+            asked.part,
+            asked.acts,
+        ) {
+            Ok(outcome) => pushed(alloc, &outcome),
+            Err(NoMemory) => bare(alloc, 500),
+        }
+    }
+
+    /// Restarts a device: its volumes go back to the stores, and are started anew. The reply is made first, so that a device that was
+    /// restarted is told so.
+    fn restart(&mut self, alloc: Global, device: u8) -> Result<Response, ServerFault>
+        requires device { device < length self.old.ring.now.devices }
+        requires ready { IsReady S.out self.old.ring.now self.old.network.door self.old.stores.now }
+        ensures ready { OnOk result (IsReady S.out self.new.ring.now self.new.network.door self.new.stores.now) }
+        ensures restarted { IfOk result (λ response.
+            (IsControlDone S.V.tells S.V.holds S.V.faults self.old.ring.now self.old.network.door (controls.Restart device) response self.new.network.door
+            × (S.calls self.new.stores.now ≡ raised_by (2 ^ self.old.ring.now.lock_bits) (S.calls self.old.stores.now)))
+            ⊎ ((self.new.network.door ≡ self.old.network.door) × (response ≡ bare_of 500) × (S.calls self.new.stores.now ≡ S.calls self.old.stores.now))) }
+        ensures lifted { IfErr result (λ fault. FailsToStart S.V.tells S.V.holds S.V.faults S.calls S.rests S.out
+            self.old.ring.now device self.old.network.door self.new.network.door self.old.stores.now self.new.stores.now) }
+        ensures same { (self.new.ring ≡ self.old.ring) × (self.new.stores.ghost_name ≡ self.old.stores.ghost_name) }
+        ensures kept { OnOk result (S.faults self.new.stores.now ≡ S.faults self.old.stores.now) }
+        ensures faults { IfErr result (λ fault. S.faults self.new.stores.now ≡ faults_by (S.faults self.old.stores.now) fault) }
+    {
+        let Ok(response) = text_reply(alloc, Bytes::from(Vec::new(alloc))) else {
+            return Ok(bare(alloc, 500));
+        };
+        let Ok(parts) = self.network.door.lift(alloc, device) else {
+            return Ok(bare(alloc, 500));
+        };
+        let stripes = stripes(self.ring);
+        let first = usize::from(device) * usize::from(stripes);
+        match restart_range(alloc, self.stores, stripes, first, parts.volumes) {
+            Ok(volumes) => {
+                self.network.door.set_down(alloc, device, Parts { volumes });
+                Ok(response)
+            }
+            Err(StoreError::Failed) => Err(ServerFault::Failed),
+            Err(StoreError::NoMemory) => Err(ServerFault::NoMemory),
+        }
+    }
+}
+
+/// The reply that shows a list of files.
+fn listed(alloc: Global, paths: &BytesList) -> Response
+    ensures { (result ≡ text_reply_of (files_text_of paths.now)) ⊎ (result ≡ bare_of 500) }
+{
+    let Ok(text) = files_text(alloc, paths) else {
+        return bare(alloc, 500);
+    };
+    match text_reply(alloc, text) {
+        Ok(response) => response,
+        Err(NoMemory) => bare(alloc, 500),
+    }
+}
+
+/// The reply that shows what came of a push.
+fn pushed(alloc: Global, outcome: &Outcome) -> Response
+    ensures { IsPushReply (Ok outcome.now) result }
+{
+    let Ok(text) = outcome_text(alloc, outcome) else {
+        return bare(alloc, 500);
+    };
+    match text_reply(alloc, text) {
+        Ok(response) => response,
+        Err(NoMemory) => bare(alloc, 500),
+    }
+}
+
+/// How many object locks a device of the ring has.
+pub fn stripes(ring: &Ring) -> u8
+    ensures value { result ≡ 2 ^ ring.now.lock_bits }
+    ensures least { 1 ≤ result }
+    ensures most { result ≤ 16 }
+{
+    1 << ring.lock_bits
+}
+
+/// The reply, or that of want of memory.
+fn or_wanting(alloc: Global, reply: Result<Response, NoMemory>) -> Response
+    ensures ok { IfOk reply (λ response. result ≡ response) }
+    ensures err { OnErr reply (result ≡ bare_of 500) }
+{
+    match reply {
+        Ok(response) => response,
+        Err(NoMemory) => bare(alloc, 500),
+    }
+}

@@ -1,0 +1,5 @@
+pub mod Doors
+pub mod Laws
+pub mod Limits
+pub mod Machine
+pub mod PartReads
