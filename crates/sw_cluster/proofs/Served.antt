@@ -48,7 +48,7 @@ module _ {V : Type 0} (tells : V → Bool) (files : V → Folders) (faults : V �
   all-go : (w after : AllNodes V) (rounds : List Round) → w.power ≡ ring.power → ServesAll tells files faults ring w rounds after → Goes (see w) (see after)
   all-go w after [] power same = goes-same (see w) (see after) (ap see same)
   all-go w after (round ∷ rounds) power serves =
-      let one = connection-goes see (λ w. refl) ring round.moment w _ _ serves.0 _ power serves.2 in
+      let one = connection-goes see (λ w. refl) ring round.moment w _ _ serves.0 _ power serves.2.answered in
       let round_goes = goes-join (see w) (see serves.0) (see serves.1) one (first-go (length ring.devices) serves.0 serves.1 serves.3) in
       goes-join (see w) (see serves.1) (see after) round_goes (all-go serves.1 after rounds (power-on w serves.1 power round_goes) serves.4)
 
@@ -59,7 +59,7 @@ module _ {V : Type 0} (tells : V → Bool) (files : V → Folders) (faults : V �
     restarting-goes : StopsRestarting tells files faults ring connections began after a b t u s x → Goes (see began) (see after)
     restarting-goes w =
         let first = all-go began w.then w.rounds power w.serves in
-        let one = connection-goes see (λ w. refl) ring w.last.moment w.then _ _ w.served _ (power-on began w.then power first) w.one in
+        let one = connection-goes see (λ w. refl) ring w.last.moment w.then _ _ w.served _ (power-on began w.then power first) w.one.answered in
         goes-join (see began) (see w.then) (see after) first
         (goes-join (see w.then) (see w.served) (see after) one (first-go w.device w.served after w.restarted))
 
@@ -85,7 +85,7 @@ module _ {V : Type 0} (tells : V → Bool) (files : V → Folders) (faults : V �
       → ServesOne tells files faults ring w round after → IsReady out ring after stores
   ready-after out w after stores round ready one =
       goes_on tells files faults out ring w after stores ready (connection-nodes see ring round.moment w (read_in round) (written_in round) after
-      round.finished.status one)
+      round.finished.status one.answered)
 
   -- ---- how the nodes are left
 

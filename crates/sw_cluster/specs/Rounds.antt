@@ -11,6 +11,7 @@ use Rattle.sw_outside.specs.Doors.{Accepted, Finished}
 use Rattle.sw_outside.specs.Readings.{TicksEach}
 use Rattle.sw_outside.specs.Taken.{AppendsPart}
 use Rattle.sw_peer.specs.Journals.{Hash}
+use Rattle.sw_peer.specs.Sights.{Sight}
 use Rattle.sw_quiet.specs.Quiet.{SetsDownQuietly, quiet_sight_of}
 use Rattle.sw_ring.specs.declared.ring.Ring.{Ring}
 use Rattle.sw_session.specs.Passages.{Passage}
@@ -18,7 +19,7 @@ use Rattle.sw_stores.specs.Places.{IsAsItWas}
 use Rattle.sw_stores.specs.Volumes.{AreStarted}
 use Rattle.sw_volume.specs.Tree.{Folders}
 use Rattle.sw_volume.specs.Volume.{raised_by}
-use Rattle.sw_cluster.specs.Connections.{IsConnection}
+use Rattle.sw_cluster.specs.Connections.{IsConnection, PutsForConnection}
 use Rattle.sw_cluster.specs.Ending.{AllTold, AreUnstarted, IsStored}
 use Rattle.sw_cluster.specs.Statuses as statuses
 use Rattle.sw_cluster.specs.Told.{Counts, DoorsTold, IsSilent, Output}
@@ -78,6 +79,19 @@ written_in r = record {
   faults_now = r.finished.sink.faults;
 }
 
+-- both of its ends were its own when it was finished, and no other connection had been accepted since
+pub record IsInItsPlace (r : Round) : Type 0 where
+  pub read_at : r.finished.read_at ≡ r.accepted.number
+  pub written_at : r.finished.written_at ≡ r.accepted.number
+  pub among : r.finished.among ≡ r.accepted.number
+
+-- A connection was served over these nodes: its requests were answered to its own client, before another connection was accepted. Its sink was called once
+-- for each reply, once for each client that was told to go on, and no further time
+pub record IsServed {D : Type 0} (sight : D → Sight) (ring : Ring) (old : D) (r : Round) (new : D) : Type 0 where
+  pub answered : IsConnection sight ring r.moment old (read_in r) (written_in r) new r.finished.status
+  pub in_place : IsInItsPlace r
+  pub puts : PutsForConnection r.accepted.source.left r.accepted.sink.calls r.finished.sink.calls r.finished.status
+
 -- the doors accepted and finished these connections in their order, and the clock was read once for each
 pub record AreHeard (rounds : List Round) (doors doors_now : DoorsTold) (clock clock_now : Option (List ℕ)) : Type 0 where
   pub accepted : doors_now.accepted ≡ doors.accepted ++ map (λ r. r.accepted) rounds
@@ -97,9 +111,9 @@ module _ {V : Type 0} (tells : V → Bool) (files : V → Folders) (faults : V �
   RestartsFirst zero w after = after ≡ w
   RestartsFirst (suc n) w after = (mid : AllNodes V) × RestartsFirst n w mid × RestartsDevice n mid after
 
-  -- the requests of a connection were answered
+  -- a connection was served
   abbrev pub ServesOne : AllNodes V → Round → AllNodes V → Type 0
-  ServesOne w r after = IsConnection (quiet_sight_of tells files faults) ring r.moment w (read_in r) (written_in r) after r.finished.status
+  ServesOne w r after = IsServed (quiet_sight_of tells files faults) ring w r after
 
   -- those of these connections were, each over the nodes as the ones before it left them, and after each all devices were restarted
   abbrev pub ServesAll : AllNodes V → List Round → AllNodes V → Type 0

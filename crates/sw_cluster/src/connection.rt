@@ -112,6 +112,8 @@ pub fn serve_connection<R: Source, W: Sink, D: ReplicaDoor>(
         (passage W.taken W.faults out.old out.new) door.new result }
     ensures puts { PutsForConnection (R.left source.old) (W.calls out.old) (W.calls out.new) result }
     ensures nodes { (D.sight door.new).nodes ≡ (D.sight door.old).nodes }
+    ensures source_number { R.number source.new ≡ R.number source.old }
+    ensures sink_number { W.number out.new ≡ W.number out.old }
 {
     let mut server = DoorServer { ring, door };
     let mut clock = StillClock { now };

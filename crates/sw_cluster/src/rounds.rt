@@ -3,11 +3,10 @@ ghost use Rattle.sw_core.specs.Worlds.{AllNodes, opened};
 ghost use Rattle.sw_outside.specs.Counts.{raised};
 ghost use Rattle.sw_outside.specs.Faults.{faults_after};
 ghost use Rattle.sw_volume.specs.Volume.{raised_by};
-ghost use Rattle.sw_cluster.specs.Connections.{IsConnection};
 ghost use Rattle.sw_nodes.specs.Nodes.{AreNodesOf};
 ghost use Rattle.sw_cluster.specs.Leaving.{AreLeft, FailsToRestart, StopsAmong};
 ghost use Rattle.sw_nodes.specs.Nodes.{IsReady, places_of};
-ghost use Rattle.sw_cluster.specs.Rounds.{AllServed, AreHeard, EndsServing, EndsConnections, IsServedOver, IsServing, IsUnserved, RestartsDevice};
+ghost use Rattle.sw_cluster.specs.Rounds.{AllServed, AreHeard, EndsServing, EndsConnections, IsServedOver, IsServing, IsUnserved, RestartsDevice, IsServed};
 ghost use Rattle.sw_cluster.specs.Rounds.{RestartsFirst};
 ghost use Rattle.sw_cluster.specs.Rounds.{Round, SaysLine, read_in, serve_status, written_in};
 ghost use Rattle.sw_cluster.specs.Told.{counts, doors_told, output};
@@ -220,7 +219,7 @@ fn serve_one<N: Doors, C: Clock, D: ReplicaDoor>(
     requires nodes { AreNodesOf ring.now (D.sight door.old).nodes }
     requires doors { length (N.finished doors.old) ≤ length (N.accepts doors.old) }
     ensures one { OnOk result ((r : Round)
-        × IsConnection D.sight ring.now r.moment door.old (read_in r) (written_in r) door.new r.finished.status
+        × IsServed D.sight ring.now door.old r door.new
         × AreHeard (r ∷ []) (doors_told N.accepts N.finished N.calls N.faults doors.old)
         (doors_told N.accepts N.finished N.calls N.faults doors.new) (C.readings clock.old) (C.readings clock.new)) }
     ensures none { OnErr result ((door.new ≡ door.old) × AreHeard [] (doors_told N.accepts N.finished N.calls N.faults doors.old)

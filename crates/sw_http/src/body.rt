@@ -40,6 +40,7 @@ fn take_plain<R: Source>(
     ensures starved { result ≡ Err ReadError.NoMemory → R.faults source.new ≡ R.faults source.old }
     ensures failed { result ≡ Err ReadError.Failed → HasFailed (R.faults source.old) (R.faults source.new) }
     ensures cut { result ≡ Err ReadError.Failed → IfSeen (prepend_known held.old (R.left source.old)) (R.left source.new) (HasNoBody (Some (Length len)) room) }
+    ensures source_number { R.number source.new ≡ R.number source.old }
 {
     if len > room {
         return Ok(None);
@@ -67,6 +68,7 @@ fn take_chunks<R: Source>(
     ensures starved { result ≡ Err ReadError.NoMemory → R.faults source.new ≡ R.faults source.old }
     ensures failed { result ≡ Err ReadError.Failed → HasFailed (R.faults source.old) (R.faults source.new) }
     ensures cut { result ≡ Err ReadError.Failed → IfSeen (prepend_known held.old (R.left source.old)) (R.left source.new) (HasNoBody (Some Chunked) room) }
+    ensures source_number { R.number source.new ≡ R.number source.old }
 {
     let mut body = unread_body(alloc, 0)?;
     if take_chunked(held, source, room, &mut body)? {
@@ -93,6 +95,7 @@ pub(crate) fn take_body<R: Source>(
     ensures starved { result ≡ Err ReadError.NoMemory → R.faults source.new ≡ R.faults source.old }
     ensures failed { result ≡ Err ReadError.Failed → HasFailed (R.faults source.old) (R.faults source.new) }
     ensures cut { result ≡ Err ReadError.Failed → IfSeen (prepend_known held.old (R.left source.old)) (R.left source.new) (HasNoBody (Some framing) room) }
+    ensures source_number { R.number source.new ≡ R.number source.old }
 {
     match framing {
         Framing::Unframed => Ok(Some(unread_body(alloc, 0)?)),

@@ -47,6 +47,7 @@ fn take_data<R: Source>(
     ensures starved { result ≡ Err ReadError.NoMemory → R.faults source.new ≡ R.faults source.old }
     ensures failed { result ≡ Err ReadError.Failed → HasFailed (R.faults source.old) (R.faults source.new) }
     ensures cut { result ≡ Err ReadError.Failed → IfSeen (prepend_known held.old (R.left source.old)) (R.left source.new) (HasNoData size) }
+    ensures source_number { R.number source.new ≡ R.number source.old }
 {
     if take_content(held, source, size, body)? {
         take_line_end(held, source)
@@ -73,6 +74,7 @@ fn take_sized<R: Source>(
     ensures starved { result ≡ Err ReadError.NoMemory → R.faults source.new ≡ R.faults source.old }
     ensures failed { result ≡ Err ReadError.Failed → HasFailed (R.faults source.old) (R.faults source.new) }
     ensures cut { result ≡ Err ReadError.Failed → IfSeen (prepend_known held.old (R.left source.old)) (R.left source.new) (HasNoData line.size) }
+    ensures source_number { R.number source.new ≡ R.number source.old }
 {
     if fits(line, room) {
         take_data(held, source, line.size, body)
@@ -95,6 +97,7 @@ fn take_chunk<R: Source>(
     ensures starved { result ≡ Err ReadError.NoMemory → R.faults source.new ≡ R.faults source.old }
     ensures failed { result ≡ Err ReadError.Failed → HasFailed (R.faults source.old) (R.faults source.new) }
     ensures cut { result ≡ Err ReadError.Failed → IfSeen (prepend_known held.old (R.left source.old)) (R.left source.new) (HasNoChunked room) }
+    ensures source_number { R.number source.new ≡ R.number source.old }
 {
     let Some(line) = take_chunk_line(held, source, room)? else {
         return Ok(Step::Bad);
@@ -129,6 +132,7 @@ pub(crate) fn take_chunked<R: Source>(
     ensures starved { result ≡ Err ReadError.NoMemory → R.faults source.new ≡ R.faults source.old }
     ensures failed { result ≡ Err ReadError.Failed → HasFailed (R.faults source.old) (R.faults source.new) }
     ensures cut { result ≡ Err ReadError.Failed → IfSeen (prepend_known held.old (R.left source.old)) (R.left source.new) (HasNoChunked room) }
+    ensures source_number { R.number source.new ≡ R.number source.old }
 {
     let mut left = room;
     loop {

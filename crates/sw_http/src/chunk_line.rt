@@ -49,6 +49,7 @@ fn read_digits<R: Source>(held: &mut Held, source: &mut R) -> Result<Option<usiz
     ensures starved { result ≡ Err ReadError.NoMemory → R.faults source.new ≡ R.faults source.old }
     ensures failed { result ≡ Err ReadError.Failed → HasFailed (R.faults source.old) (R.faults source.new) }
     ensures cut { result ≡ Err ReadError.Failed → IfSeen (prepend_known held.old (R.left source.old)) (R.left source.new) HasNoLine }
+    ensures source_number { R.number source.new ≡ R.number source.old }
 {
     loop {
         let run = digit_run(held.rest());
@@ -98,6 +99,7 @@ fn take_extension<R: Source>(
     ensures starved { result ≡ Err ReadError.NoMemory → R.faults source.new ≡ R.faults source.old }
     ensures failed { result ≡ Err ReadError.Failed → HasFailed (R.faults source.old) (R.faults source.new) }
     ensures cut { result ≡ Err ReadError.Failed → IfSeen (prepend_known held.old (R.left source.old)) (R.left source.new) (IsExtensionCut room) }
+    ensures source_number { R.number source.new ≡ R.number source.old }
 {
     if !begins_with(held.rest(), b";") {
         return Ok(Some(0));
@@ -123,6 +125,7 @@ fn take_tail<R: Source>(
     ensures starved { result ≡ Err ReadError.NoMemory → R.faults source.new ≡ R.faults source.old }
     ensures failed { result ≡ Err ReadError.Failed → HasFailed (R.faults source.old) (R.faults source.new) }
     ensures cut { result ≡ Err ReadError.Failed → IfSeen (prepend_known held.old (R.left source.old)) (R.left source.new) (HasNoTail room) }
+    ensures source_number { R.number source.new ≡ R.number source.old }
 {
     let Some(pad) = take_run(Class::Blanks, room, held, source)? else {
         return Ok(None);
@@ -150,6 +153,7 @@ pub(crate) fn take_chunk_line<R: Source>(
     ensures starved { result ≡ Err ReadError.NoMemory → R.faults source.new ≡ R.faults source.old }
     ensures failed { result ≡ Err ReadError.Failed → HasFailed (R.faults source.old) (R.faults source.new) }
     ensures cut { result ≡ Err ReadError.Failed → IfSeen (prepend_known held.old (R.left source.old)) (R.left source.new) (HasNoLineWithin room) }
+    ensures source_number { R.number source.new ≡ R.number source.old }
 {
     let Some(digits) = read_digits(held, source)? else {
         return Ok(None);

@@ -38,6 +38,7 @@ fn hold_some<R: Source>(held: &mut Held, source: &mut R) -> Result<bool, ReadErr
     ensures starved { result ≡ Err ReadError.NoMemory → R.faults source.new ≡ R.faults source.old }
     ensures failed { result ≡ Err ReadError.Failed → HasFailed (R.faults source.old) (R.faults source.new) }
     ensures cut { result ≡ Err ReadError.Failed → IfSeen (prepend_known held.old (R.left source.old)) (R.left source.new) (λ seen. length seen ≡ 0) }
+    ensures source_number { R.number source.new ≡ R.number source.old }
 {
     if !held.rest().is_empty() {
         return Ok(true);
@@ -60,6 +61,7 @@ pub(crate) fn take_content<R: Source>(
     ensures starved { result ≡ Err ReadError.NoMemory → R.faults source.new ≡ R.faults source.old }
     ensures failed { result ≡ Err ReadError.Failed → HasFailed (R.faults source.old) (R.faults source.new) }
     ensures cut { result ≡ Err ReadError.Failed → IfSeen (prepend_known held.old (R.left source.old)) (R.left source.new) (λ seen. length seen < len) }
+    ensures source_number { R.number source.new ≡ R.number source.old }
 {
     let mut taken = 0;
     while taken < len {

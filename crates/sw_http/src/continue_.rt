@@ -29,6 +29,7 @@ pub(crate) fn send_continue<W: Sink>(out: &mut W, fields: &FieldList) -> Result<
     ensures cause { HasCause (W.faults out.old) (W.faults out.new) result }
     ensures puts { W.calls out.new ≡ puts_after fields.now (W.calls out.old) }
     ensures asked { IsErr result → asks_continue fields.now ≡ true }
+    ensures sink_number { W.number out.new ≡ W.number out.old }
 {
     if asks_continue(fields) {
         out.put(CONTINUE)

@@ -46,6 +46,7 @@ pub(crate) fn read_head<R: Source>(
     ensures starved { result ≡ Err ReadError.NoMemory → R.faults source.new ≡ R.faults source.old }
     ensures failed { result ≡ Err ReadError.Failed → HasFailed (R.faults source.old) (R.faults source.new) }
     ensures cut { result ≡ Err ReadError.Failed → IfSeen (prepend_known held.old (R.left source.old)) (R.left source.new) IsHeadCut }
+    ensures source_number { R.number source.new ≡ R.number source.old }
 {
     let mut seen = 0;
     loop {

@@ -59,6 +59,7 @@ impl Held {
         ensures sound { OnOk result (R.faults source.new ≡ R.faults source.old) }
         ensures starved { result ≡ Err ReadError.NoMemory → R.faults source.new ≡ R.faults source.old }
         ensures failed { result ≡ Err ReadError.Failed → HasFailed (R.faults source.old) (R.faults source.new) }
+        ensures source_number { R.number source.new ≡ R.number source.old }
     {
         drop_front(&mut self.bytes, self.at);
         self.at = 0;

@@ -50,6 +50,7 @@ pub(crate) fn read_behind<R: Source>(
     ensures sound { OnOk result (R.faults source.new ≡ R.faults source.old) }
     ensures starved { result ≡ Err ReadError.NoMemory → R.faults source.new ≡ R.faults source.old }
     ensures failed { result ≡ Err ReadError.Failed → HasFailed (R.faults source.old) (R.faults source.new) }
+    ensures source_number { R.number source.new ≡ R.number source.old }
 {
     let had = bytes.len();
     bytes.extend_from_slice(&ZEROS[..room])?;

@@ -18,6 +18,7 @@ fn hold_two<R: Source>(held: &mut Held, source: &mut R) -> Result<bool, ReadErro
     ensures starved { result ≡ Err ReadError.NoMemory → R.faults source.new ≡ R.faults source.old }
     ensures failed { result ≡ Err ReadError.Failed → HasFailed (R.faults source.old) (R.faults source.new) }
     ensures cut { result ≡ Err ReadError.Failed → IfSeen (prepend_known held.old (R.left source.old)) (R.left source.new) (IsShort held.old) }
+    ensures source_number { R.number source.new ≡ R.number source.old }
 {
     while held.rest().len() < CRLF.len() {
         if held.read_more(source)? == 0 {
@@ -35,6 +36,7 @@ pub(crate) fn take_line_end<R: Source>(held: &mut Held, source: &mut R) -> Resul
     ensures starved { result ≡ Err ReadError.NoMemory → R.faults source.new ≡ R.faults source.old }
     ensures failed { result ≡ Err ReadError.Failed → HasFailed (R.faults source.old) (R.faults source.new) }
     ensures cut { result ≡ Err ReadError.Failed → IfSeen (prepend_known held.old (R.left source.old)) (R.left source.new) (IsShort held.old) }
+    ensures source_number { R.number source.new ≡ R.number source.old }
 {
     if !hold_two(held, source)? || !begins_with(held.rest(), CRLF) {
         return Ok(false);

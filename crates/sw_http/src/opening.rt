@@ -42,6 +42,7 @@ fn take_head<R: Source>(
     ensures starved { result ≡ Err ReadError.NoMemory → R.faults source.new ≡ R.faults source.old }
     ensures failed { result ≡ Err ReadError.Failed → HasFailed (R.faults source.old) (R.faults source.new) }
     ensures cut { result ≡ Err ReadError.Failed → IfSeen (prepend_known held.old (R.left source.old)) (R.left source.new) IsHeadCut }
+    ensures source_number { R.number source.new ≡ R.number source.old }
 {
     let mut headers = [EMPTY_HEADER_SPAN; MAX_FIELDS];
     let Some(spans) = read_head(held, source, &mut headers)? else {
@@ -64,6 +65,7 @@ pub(crate) fn take_opening<R: Source>(
     ensures starved { result ≡ Err ReadError.NoMemory → R.faults source.new ≡ R.faults source.old }
     ensures failed { result ≡ Err ReadError.Failed → HasFailed (R.faults source.old) (R.faults source.new) }
     ensures cut { result ≡ Err ReadError.Failed → IfSeen (prepend_known held.old (R.left source.old)) (R.left source.new) BeginsNone }
+    ensures source_number { R.number source.new ≡ R.number source.old }
 {
     let skipped = match skip_run(Class::LineEnds, MAX_SKIPPED, held, source)? {
         Run::Begun(skipped) => skipped,

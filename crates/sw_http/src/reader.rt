@@ -105,6 +105,8 @@ pub fn next_request<R: Source, W: Sink>(
     ensures puts { (W.calls out.new ≡ W.calls out.old) ⊎ IsToldOnce (prepend_known held.old (R.left source.old)) (W.calls out.old) (W.calls out.new) }
     ensures told_once { IfOk result (λ next. IfSome next (λ request. W.calls out.new ≡ puts_after request.fields (W.calls out.old))) }
     ensures no_put { result ≡ Ok None → W.calls out.new ≡ W.calls out.old }
+    ensures source_number { R.number source.new ≡ R.number source.old }
+    ensures sink_number { W.number out.new ≡ W.number out.old }
 {
     let (open, room) = match take_opening(alloc, held, source)? {
         Opening::Head(open, room) => (open, room),
@@ -168,6 +170,8 @@ fn read_body<R: Source, W: Sink>(
     ensures puts { W.calls out.new ≡ puts_after fields.now (W.calls out.old) }
     ensures written_sound { result ≢ Err HttpFault.WriteFault → W.faults out.new ≡ W.faults out.old }
     ensures write_failed { result ≡ Err HttpFault.WriteFault → HasFailed (W.faults out.old) (W.faults out.new) }
+    ensures source_number { R.number source.new ≡ R.number source.old }
+    ensures sink_number { W.number out.new ≡ W.number out.old }
 {
     let Some(framing) = framing_of(fields) else {
         return Ok(None);

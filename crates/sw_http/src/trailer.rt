@@ -54,6 +54,7 @@ fn read_trailer<R: Source>(held: &mut Held, source: &mut R) -> Result<Option<usi
     ensures starved { result ≡ Err ReadError.NoMemory → R.faults source.new ≡ R.faults source.old }
     ensures failed { result ≡ Err ReadError.Failed → HasFailed (R.faults source.old) (R.faults source.new) }
     ensures cut { result ≡ Err ReadError.Failed → IfSeen (prepend_known held.old (R.left source.old)) (R.left source.new) HasNoTrailer }
+    ensures source_number { R.number source.new ≡ R.number source.old }
 {
     let mut headers = [EMPTY_HEADER_SPAN; MAX_FIELDS];
     let mut seen = 0;
@@ -85,6 +86,7 @@ pub(crate) fn take_trailer<R: Source>(
     ensures starved { result ≡ Err ReadError.NoMemory → R.faults source.new ≡ R.faults source.old }
     ensures failed { result ≡ Err ReadError.Failed → HasFailed (R.faults source.old) (R.faults source.new) }
     ensures cut { result ≡ Err ReadError.Failed → IfSeen (prepend_known held.old (R.left source.old)) (R.left source.new) (HasNoTrailerWithin room) }
+    ensures source_number { R.number source.new ≡ R.number source.old }
 {
     match read_trailer(held, source)? {
         Some(len) if len <= room => {

@@ -46,6 +46,7 @@ pub fn write_response<W: Sink>(
     ensures sound { result ≢ Err WriteFault.Failed → W.faults out.new ≡ W.faults out.old }
     ensures put_once { result ≢ Err WriteFault.NoMemory → W.calls out.new ≡ raised (W.calls out.old) }
     ensures no_put { result ≡ Err WriteFault.NoMemory → W.calls out.new ≡ W.calls out.old }
+    ensures sink_number { W.number out.new ≡ W.number out.old }
 {
     let text = text_of(alloc, response)?;
     match out.put(&text) {

@@ -11,6 +11,7 @@ pub record Store : Type 0 where
   pub calls : ℕ  -- how many puts there were
   pub faults : ℕ  -- how many of them failed
   pub starved : ℕ  -- how many of them found no memory
+  pub number : ℕ  -- of the connection that it is an end of
 
 -- how many bytes the put of this number takes, where it is to fail
 abbrev pub breach_at : List FailingPut → ℕ → Option ℕ

@@ -10,6 +10,7 @@ pub record Supply : Type 0 where
   pub failing : List ℕ  -- the numbers of the calls that fail, counted from 0
   pub calls : ℕ  -- how many calls there were
   pub faults : ℕ  -- how many of them failed
+  pub number : ℕ  -- of the connection that it is an end of
 
 -- whether the call of this number is among those that fail
 abbrev pub is_failing : List ℕ → ℕ → Bool

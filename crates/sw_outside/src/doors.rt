@@ -1,4 +1,4 @@
-ghost use Rattle.std.specs.Prelude.{◌≡◌, ℕ, ◌<◌, ◌∷◌, [], ◌++◌, List, length, IfOk, OnOk, OnErr};
+ghost use Rattle.std.specs.Prelude.{◌≡◌, ℕ, ◌+◌, ◌<◌, ◌∷◌, [], ◌++◌, List, length, IfOk, OnOk, OnErr};
 ghost use Rattle.sw_outside.specs.Counts.{raised};
 ghost use Rattle.sw_outside.specs.Doors.{Accepted, Finished, IsUntouched};
 ghost use Rattle.sw_outside.specs.Faults.{faults_after, HasCause};
@@ -38,12 +38,15 @@ pub trait Doors {
         ensures cause { HasCause (faults self.old) (faults self.new) result }
         ensures calls { calls self.new ≡ raised (calls self.old) };
 
-    /// Accepts a connection, and waits for one where none has come yet. Nothing was written to it.
+    /// Accepts a connection, and waits for one where none has come yet. Nothing was written to it. Both ends have its number, counted from 1.
     fn accept(&mut self) -> Result<(Self::In, Self::Out), StoreError>
         ensures accepted { IfOk result (λ ends. accepts self.new ≡ accepts self.old ++ record {
+          number = length (accepts self.old) + 1;
           source = record { left = Self.In.Source.left ends.0; calls = Self.In.Source.calls ends.0; faults = Self.In.Source.faults ends.0 };
           sink = record { taken = Self.Out.Sink.taken ends.1; calls = Self.Out.Sink.calls ends.1; faults = Self.Out.Sink.faults ends.1 };
         } ∷ []) }
+        ensures numbers { IfOk result (λ ends. (Self.In.Source.number ends.0 ≡ length (accepts self.old) + 1)
+            × (Self.Out.Sink.number ends.1 ≡ length (accepts self.old) + 1)) }
         ensures untouched { IfOk result (λ ends. IsUntouched (Self.Out.Sink.taken ends.1)) }
         ensures none { OnErr result (accepts self.new ≡ accepts self.old) }
         ensures finished { finished self.new ≡ finished self.old }
@@ -54,6 +57,9 @@ pub trait Doors {
     fn finish(&mut self, input: Self::In, output: Self::Out, status: u8)
         requires { length (finished self.old) < length (accepts self.old) }
         ensures finished { finished self.new ≡ finished self.old ++ record {
+          read_at = Self.In.Source.number input;
+          written_at = Self.Out.Sink.number output;
+          among = length (accepts self.old);
           source = record { left = Self.In.Source.left input; calls = Self.In.Source.calls input; faults = Self.In.Source.faults input };
           sink = record { taken = Self.Out.Sink.taken output; calls = Self.Out.Sink.calls output; faults = Self.Out.Sink.faults output };
           status = status;

@@ -25,9 +25,10 @@ pub struct MemConnection {
     pub failing_puts: Vec<FailingPut>,
 }
 
-/// A connection that was finished, and its status.
+/// A connection that was finished, its status, and how many had been accepted by then.
 #[derive(Debug, Drop)]
 pub struct MemFinished {
+    pub among: usize,
     pub source: MemSource,
     pub sink: MemSink,
     pub status: u8,
@@ -47,6 +48,7 @@ pub struct MemDoors {
 }
 
 impl Model for MemDoors {
+    ghost use Rattle.std.specs.Prelude.{◌≤◌, length};
     ghost use Rattle.sw_outside.specs.Doors.{MemDoorsState};
 
     ghost Value = { MemDoorsState };
@@ -60,6 +62,8 @@ impl Model for MemDoors {
       accepted = d.finished.promised;
       finished = d.finished.items;
     } };
+
+    ghost invariant = { λ d. d.finished.promised ≤ length d.connections.items };
 }
 
 impl MemDoors {
@@ -162,7 +166,9 @@ impl Doors for MemDoors {
     }
 
     fn accept(&mut self) -> Result<(MemSource, MemSink), StoreError>
-        ensures accepted { IfOk result (λ ends. accepts_of self.new ≡ accepts_of self.old ++ record { source = giving ends.0; sink = taking ends.1 } ∷ []) }
+        ensures accepted { IfOk result (λ ends. accepts_of self.new ≡ accepts_of self.old
+            ++ record { number = length (accepts_of self.old) + 1; source = giving ends.0; sink = taking ends.1 } ∷ []) }
+        ensures numbers { IfOk result (λ ends. (ends.0.number ≡ length (accepts_of self.old) + 1) × (ends.1.number ≡ length (accepts_of self.old) + 1)) }
         ensures untouched { IfOk result (λ ends. IsUntouched (Some ends.1.bytes)) }
         ensures none { OnErr result (accepts_of self.new ≡ accepts_of self.old) }
         ensures finished { finished_of self.new ≡ finished_of self.old }
@@ -177,7 +183,8 @@ impl Doors for MemDoors {
         }
         match self.next() {
             Some(connection) => {
-                let ends = ends_of(self.alloc, connection)?;
+                let number = self.finished.promised() as u64 + 1;
+                let ends = ends_of(self.alloc, connection, number)?;
                 self.finished.promise()?;
                 Ok(ends)
             }
@@ -187,13 +194,28 @@ impl Doors for MemDoors {
 
     fn finish(&mut self, input: MemSource, output: MemSink, status: u8)
         requires { length (finished_of self.old) < length (accepts_of self.old) }
-        ensures finished { finished_of self.new ≡ finished_of self.old ++ record { source = giving input; sink = taking output; status = status } ∷ [] }
+        ensures finished { finished_of self.new ≡ finished_of self.old ++ record {
+          read_at = input.number;
+          written_at = output.number;
+          among = length (accepts_of self.old);
+          source = giving input;
+          sink = taking output;
+          status = status;
+        } ∷ [] }
         ensures accepts { accepts_of self.new ≡ accepts_of self.old }
         ensures faults { self.new.faults ≡ self.old.faults }
         ensures calls { self.new.calls ≡ self.old.calls }
-        ensures after { self.new ≡ record self.old { finished = self.old.finished ++ record { source = input; sink = output; status = status } ∷ [] } }
+        ensures after { self.new ≡ record self.old {
+          finished = self.old.finished ++ record {
+            among = self.old.accepted;
+            source = input;
+            sink = output;
+            status = status;
+          } ∷ [];
+        } }
     {
         self.finished.add(MemFinished {
+            among: self.finished.promised(),
             source: input,
             sink: output,
             status,
@@ -202,15 +224,19 @@ impl Doors for MemDoors {
 }
 
 /// The ends of a connection, before their first calls.
-fn ends_of(alloc: Global, connection: &MemConnection) -> Result<(MemSource, MemSink), NoMemory>
-    ensures { IfOk result (λ ends. (ends.0 ≡ supply_of connection.now) × (ends.1 ≡ store_of connection.now)) }
+fn ends_of(
+    alloc: Global,
+    connection: &MemConnection,
+    number: u64,
+) -> Result<(MemSource, MemSink), NoMemory>
+    ensures { IfOk result (λ ends. (ends.0 ≡ supply_of number connection.now) × (ends.1 ≡ store_of number connection.now)) }
 {
     let bytes = Bytes::copy(alloc, connection.bytes.as_slice())?;
     let pieces = Vec::from_slice(alloc, &connection.pieces)?;
     let failing_reads = Vec::from_slice(alloc, &connection.failing_reads)?;
     let failing_puts = Vec::from_slice(alloc, &connection.failing_puts)?;
     Ok((
-        MemSource::new(bytes, pieces, failing_reads),
-        MemSink::new(alloc, failing_puts),
+        MemSource::new(bytes, pieces, failing_reads).of_connection(number),
+        MemSink::new(alloc, failing_puts).of_connection(number),
     ))
 }

@@ -26,6 +26,7 @@ pub struct MemSink {
     calls: u64,
     faults: u64,
     starved: u64,
+    number: u64,
 }
 
 impl Model for MemSink {
@@ -33,7 +34,14 @@ impl Model for MemSink {
 
     ghost Value = { Store };
 
-    ghost view = { λ s. record { bytes = s.bytes.items; failing = s.failing.items; calls = s.calls; faults = s.faults; starved = s.starved } };
+    ghost view = { λ s. record {
+      bytes = s.bytes.items;
+      failing = s.failing.items;
+      calls = s.calls;
+      faults = s.faults;
+      starved = s.starved;
+      number = s.number;
+    } };
 }
 
 impl MemSink {
@@ -42,6 +50,7 @@ impl MemSink {
         ensures empty { result.bytes ≡ [] }
         ensures failing { result.failing ≡ failing.items }
         ensures counts { (result.calls ≡ 0) × (result.faults ≡ 0) × (result.starved ≡ 0) }
+        ensures number { result.number ≡ 0 }
     {
         MemSink {
             bytes: Vec::new(alloc),
@@ -49,7 +58,15 @@ impl MemSink {
             calls: 0,
             faults: 0,
             starved: 0,
+            number: 0,
         }
+    }
+
+    /// The same as an end of the connection of this number.
+    pub fn of_connection(self, number: u64) -> MemSink
+        ensures { result ≡ record self { number = number } }
+    {
+        MemSink { number, ..self }
     }
 
     /// All that was taken so far.
@@ -74,11 +91,14 @@ impl Sink for MemSink {
 
     ghost calls = { λ s. s.calls };
 
+    ghost number = { λ s. s.number };
+
     fn put(&mut self, bytes: &[u8]) -> Result<(), Failed>
         ensures all { OnOk result (Appends (Some self.old.bytes) (Some self.new.bytes) bytes.now) }
         ensures part { OnErr result (AppendsPart (Some self.old.bytes) (Some self.new.bytes) bytes.now) }
         ensures cause { HasCause self.old.faults self.new.faults result }
         ensures calls { self.new.calls ≡ raised self.old.calls }
+        ensures number { self.new.number ≡ self.old.number }
         ensures planned { IsSome (breach_at self.old.failing self.old.calls) → IsErr result }
         ensures taken { OnOk result (self.new ≡ record self.old { bytes = self.old.bytes ++ bytes.now; calls = raised self.old.calls }) }
         ensures failed { OnErr result (FailsAsPlanned self.old self.new bytes.now ⊎ FindsNoMemory self.old self.new) }

@@ -18,6 +18,7 @@ pub struct MemSource {
     failing: Vec<u64>,
     calls: u64,
     faults: u64,
+    number: u64,
 }
 
 impl Model for MemSource {
@@ -26,7 +27,14 @@ impl Model for MemSource {
 
     ghost Value = { Supply };
 
-    ghost view = { λ s. record { left = drop s.at s.bytes; pieces = s.pieces.items; failing = s.failing.items; calls = s.calls; faults = s.faults } };
+    ghost view = { λ s. record {
+      left = drop s.at s.bytes;
+      pieces = s.pieces.items;
+      failing = s.failing.items;
+      calls = s.calls;
+      faults = s.faults;
+      number = s.number;
+    } };
 
     ghost invariant = { λ s. s.at ≤ length s.bytes };
 }
@@ -39,6 +47,7 @@ impl MemSource {
         ensures pieces { result.pieces ≡ pieces.items }
         ensures failing { result.failing ≡ failing.items }
         ensures counts { (result.calls ≡ 0) × (result.faults ≡ 0) }
+        ensures number { result.number ≡ 0 }
     {
         MemSource {
             bytes,
@@ -47,7 +56,15 @@ impl MemSource {
             failing,
             calls: 0,
             faults: 0,
+            number: 0,
         }
+    }
+
+    /// The same as an end of the connection of this number.
+    pub fn of_connection(self, number: u64) -> MemSource
+        ensures { result ≡ record self { number = number } }
+    {
+        MemSource { number, ..self }
     }
 }
 
@@ -58,6 +75,8 @@ impl Source for MemSource {
 
     ghost calls = { λ s. s.calls };
 
+    ghost number = { λ s. s.number };
+
     fn read(&mut self, into: &mut [u8]) -> Result<usize, Failed>
         requires { 0 < length into.old }
         ensures count { IfOk result (λ n. n ≤ length into.new) }
@@ -66,6 +85,7 @@ impl Source for MemSource {
         ensures fails { is_err result ≡ is_failing self.old.failing self.old.calls }
         ensures piece { IfOk result (λ n. n ≡ min (length into.new) (min (length self.old.left) (piece_at self.old.pieces self.old.calls))) }
         ensures calls { self.new.calls ≡ raised self.old.calls }
+        ensures number { self.new.number ≡ self.old.number }
         ensures given { IfOk result (λ n. self.new ≡ record self.old { left = drop n self.old.left; calls = raised self.old.calls }) }
         ensures untouched { OnErr result (into.new ≡ into.old) }
         ensures failed { OnErr result (self.new ≡ record self.old { calls = raised self.old.calls; faults = raised self.old.faults }) }

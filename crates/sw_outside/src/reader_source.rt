@@ -10,17 +10,33 @@ pub struct ReaderSource<R: Read + Drop> {
     reader: R,
     faults: u64,
     calls: u64,
+    number: u64,
 }
 
 impl<R: Read + Drop> ReaderSource<R> {
     pub fn new(reader: R) -> ReaderSource<R>
-        ensures { result ≡ record { reader = reader; faults = 0; calls = 0 } }
+        ensures { result ≡ record { reader = reader; faults = 0; calls = 0; number = 0 } }
     {
         ReaderSource {
             reader,
             faults: 0,
             calls: 0,
+            number: 0,
         }
+    }
+
+    /// The number of the connection that it is an end of, 0 where it is none of any.
+    pub fn number(&self) -> u64
+        ensures { result ≡ self.now.number }
+    {
+        self.number
+    }
+
+    /// The same as an end of the connection of this number.
+    pub fn of_connection(self, number: u64) -> ReaderSource<R>
+        ensures { result ≡ record self { number = number } }
+    {
+        ReaderSource { number, ..self }
     }
 
     /// How many reads there were, failed ones too. The count stands still at 2^64 - 1.
@@ -44,6 +60,8 @@ impl<R: Read + Drop> Source for ReaderSource<R> {
     ghost faults = { λ s. s.faults };
 
     ghost calls = { λ s. s.calls };
+
+    ghost number = { λ s. s.number };
 
     fn read(&mut self, into: &mut [u8]) -> Result<usize, Failed> {
         self.calls = self.calls.saturating_add(1);

@@ -17,10 +17,14 @@ pub trait Sink {
     /// How many calls there were, failed ones too. The count stands still at 2^64 - 1.
     ghost calls: { Self → ℕ };
 
+    /// The number of the connection that it is an end of: the first that is accepted has 1. No call changes it. Elsewhere it is 0.
+    ghost number: { Self → ℕ };
+
     /// Takes the bytes. After [`Failed`] some front of them was taken, maybe none or all.
     fn put(&mut self, bytes: &[u8]) -> Result<(), Failed>
         ensures all { OnOk result (Appends (taken self.old) (taken self.new) bytes.now) }
         ensures part { OnErr result (AppendsPart (taken self.old) (taken self.new) bytes.now) }
         ensures cause { HasCause (faults self.old) (faults self.new) result }
-        ensures calls { calls self.new ≡ raised (calls self.old) };
+        ensures calls { calls self.new ≡ raised (calls self.old) }
+        ensures number { number self.new ≡ number self.old };
 }

@@ -24,6 +24,8 @@ impl Sink for SoundSink {
 
     ghost calls = { λ s. s.calls };
 
+    ghost number = { λ _. 0 };
+
     fn put(&mut self, _bytes: &[u8]) -> Result<(), Failed> {
         self.calls = self.calls.saturating_add(1);
         Ok(())

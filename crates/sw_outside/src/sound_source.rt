@@ -1,4 +1,4 @@
-ghost use Rattle.std.specs.Prelude.{◌≡◌, ◌<◌, ◌≤◌, min, length, Some, IfOk};
+ghost use Rattle.std.specs.Prelude.{◌≡◌, ℕ, ◌<◌, ◌≤◌, min, length, Some, IfOk};
 ghost use Rattle.std.specs.Io.KnownBytes.{ReadConsumes};
 ghost use Rattle.sw_outside.specs.Counts.{raised};
 ghost use Rattle.sw_outside.specs.Faults.{HasCause};
@@ -47,12 +47,15 @@ impl Source for SoundSource {
 
     ghost calls = { λ s. s.calls };
 
+    ghost number = { λ _. 0 };
+
     fn read(&mut self, into: &mut [u8]) -> Result<usize, Failed>
         requires { 0 < length into.old }
         ensures count { IfOk result (λ n. n ≤ length into.new) }
         ensures bytes { ReadConsumes (Some self.old.left) (Some self.new.left) result into.new }
         ensures cause { HasCause 0 0 result }
         ensures calls { self.new.calls ≡ raised self.old.calls }
+        ensures number { ◌≡◌ {A = ℕ} 0 0 }
         ensures given { result ≡ Ok (min (length into.old) (length self.old.left)) }
     {
         self.calls = self.calls.saturating_add(1);

@@ -63,6 +63,7 @@ fn refuse<W: Sink>(alloc: Global, out: &mut W) -> Result<Option<Request>, Sessio
     ensures refused { IsRefusal (W.taken out.old) (W.taken out.new) result }
     ensures counted { (reads : ℕ) → IsCounted reads reads (W.faults out.old) (W.faults out.new) result }
     ensures puts { PutsForRefusal (W.calls out.old) (W.calls out.new) result }
+    ensures sink_number { W.number out.new ≡ W.number out.old }
 {
     match write_response(alloc, out, &refusal(alloc)) {
         Ok(()) => Err(SessionFault::BadInput),
@@ -83,6 +84,8 @@ fn receive<R: Source, W: Sink>(
     ensures at_end { result ≡ Ok None → IsAtEnd (R.left source.new) }
     ensures counted { IsCounted (R.faults source.old) (R.faults source.new) (W.faults out.old) (W.faults out.new) result }
     ensures puts { PutsForReading (prepend_known held.old (R.left source.old)) (W.calls out.old) (W.calls out.new) result }
+    ensures source_number { R.number source.new ≡ R.number source.old }
+    ensures sink_number { W.number out.new ≡ W.number out.old }
 {
     match next_request(alloc, held, source, out) {
         Ok(request) => Ok(request),
@@ -127,6 +130,8 @@ fn turn<V: Server, R: Source, W: Sink, C: Clock>(
     ensures counted { IsCounted (R.faults source.old) (R.faults source.new) (W.faults out.old) (W.faults out.new) result }
     ensures puts { PutsForTurn (prepend_known held.old (R.left source.old)) (prepend_known held.new (R.left source.new)) (W.calls out.old)
         (W.calls out.new) result }
+    ensures source_number { R.number source.new ≡ R.number source.old }
+    ensures sink_number { W.number out.new ≡ W.number out.old }
 {
     if moments.reserve(1).is_err() {
         return Err(SessionFault::NoMemory);
@@ -165,6 +170,8 @@ pub fn serve<V: Server, R: Source, W: Sink, C: Clock>(
 
     // Each reply is one call of the sink, and so is what tells a client to go on, and a refusal. No other call is made.
     ensures puts { PutsForSession (R.left source.old) moments.new.items (W.calls out.old) (W.calls out.new) result }
+    ensures source_number { R.number source.new ≡ R.number source.old }
+    ensures sink_number { W.number out.new ≡ W.number out.old }
 {
     let mut held = Held::new(alloc);
     for _ in 0..MOST_REQUESTS {

@@ -10,9 +10,12 @@ use sw_outside::{Doors, Failed, ReaderSource, Roll, StoreError, WriterSink};
 /// How many seconds a read or a write waits for the client. One that waits longer has failed: a silent client holds nothing up for ever.
 const PATIENCE: u64 = 60;
 
-/// The counts of a connection that was finished, and its status.
+/// The numbers and the counts of both ends of a connection that was finished, its status, and how many had been accepted by then.
 #[derive(Clone, Copy, Debug)]
 pub struct TcpFinished {
+    pub read_at: u64,
+    pub written_at: u64,
+    pub among: usize,
     pub reads: u64,
     pub failed_reads: u64,
     pub puts: u64,
@@ -90,7 +93,11 @@ impl<'a, R: Net<Listener = TcpListener, Stream = TcpStream> + AllocGlobal> Doors
         match accepted {
             Ok((input, output)) => {
                 self.finished.promise()?;
-                Ok((ReaderSource::new(input), WriterSink::new(output)))
+                let number = self.finished.promised() as u64;
+                Ok((
+                    ReaderSource::new(input).of_connection(number),
+                    WriterSink::new(output).of_connection(number),
+                ))
             }
             Err(error) if error.kind() == ErrorKind::OutOfMemory => Err(StoreError::NoMemory),
             Err(_) => {
@@ -108,6 +115,9 @@ impl<'a, R: Net<Listener = TcpListener, Stream = TcpStream> + AllocGlobal> Doors
         status: u8,
     ) {
         self.finished.add(TcpFinished {
+            read_at: input.number(),
+            written_at: output.number(),
+            among: self.finished.promised(),
             reads: input.calls(),
             failed_reads: input.faults(),
             puts: output.calls(),

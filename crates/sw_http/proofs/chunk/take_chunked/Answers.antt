@@ -12,6 +12,7 @@ loop-len-preserved g c =
       within = chunks_within _ _ _ _ _ _ takes;
       takes = takes;
       sound = omega (arith, c.in_ok-len.ensures.sound);
+      same = omega (arith, c.in_ok-len.ensures.source_number);
     }
 
 pub returns-in-Last-clause-taken : goal.returns-in-Last-clause-taken

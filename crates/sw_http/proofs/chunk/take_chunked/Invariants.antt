@@ -12,6 +12,7 @@ invariant-loop-len g l = record {
   takes : TakesChunks (prepend_known l.initial.held (g.R.Source.left l.initial.source)) (prepend_known l.held (g.R.Source.left l.source)) l.initial.body l.body
       l.room l.left;
   sound : g.R.Source.faults l.source ≡ g.R.Source.faults l.initial.source;
+  same : g.R.Source.number l.source ≡ g.R.Source.number l.initial.source;
 }
 
 abbrev pub decreases-loop-len : goal.decreases-loop-len

@@ -7,6 +7,7 @@ abbrev pub invariant-loop-run : goal.invariant-loop-run
 invariant-loop-run g l = record {
   kept : Keeps (prepend_known l.initial.held (g.R.Source.left l.initial.source)) (prepend_known l.held (g.R.Source.left l.source));
   sound : g.R.Source.faults l.source ≡ g.R.Source.faults l.initial.source;
+  same : g.R.Source.number l.source ≡ g.R.Source.number l.initial.source;
 }
 
 abbrev pub decreases-loop-run : goal.decreases-loop-run

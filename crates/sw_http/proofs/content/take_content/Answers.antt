@@ -12,4 +12,5 @@ loop-taken-preserved g c =
       few = omega arith;
       takes = content_step _ _ _ _ _ _ _ _ _ takes within c.advance.ensures now;
       sound = omega (arith, c.in_ok-hold_some.ensures.sound);
+      same = omega (arith, c.hold_some.ensures.source_number);
     }

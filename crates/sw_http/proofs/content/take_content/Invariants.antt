@@ -10,6 +10,7 @@ invariant-loop-taken g l = record {
   takes : TakesBytes (prepend_known l.initial.held (g.R.Source.left l.initial.source)) (prepend_known l.held (g.R.Source.left l.source)) l.initial.body l.body
       l.taken;
   sound : g.R.Source.faults l.source ≡ g.R.Source.faults l.initial.source;
+  same : g.R.Source.number l.source ≡ g.R.Source.number l.initial.source;
 }
 
 abbrev pub decreases-loop-taken : goal.decreases-loop-taken

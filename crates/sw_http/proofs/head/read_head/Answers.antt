@@ -13,6 +13,7 @@ loop-spans-init g c = record {
   none_seen = no_head_in_none _ refl;
   kept = Keeps-refl _;
   sound = omega arith;
+  same = omega arith;
 }
 
 pub returns-then-seen-ge-MAX_HEAD-clause-none : goal.returns-then-seen-ge-MAX_HEAD-clause-none

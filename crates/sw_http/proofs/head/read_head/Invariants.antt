@@ -13,6 +13,7 @@ invariant-loop-spans g l = record {
   none_seen : HasNoHead (take l.seen l.held);
   kept : Keeps (prepend_known l.initial.held (g.R.Source.left l.initial.source)) (prepend_known l.held (g.R.Source.left l.source));
   sound : g.R.Source.faults l.source ≡ g.R.Source.faults l.initial.source;
+  same : g.R.Source.number l.source ≡ g.R.Source.number l.initial.source;
 }
 
 abbrev pub decreases-loop-spans : goal.decreases-loop-spans

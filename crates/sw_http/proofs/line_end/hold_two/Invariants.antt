@@ -8,6 +8,7 @@ invariant-loop-held g l = record {
   kept : Keeps (prepend_known l.initial.held (g.R.Source.left l.initial.source)) (prepend_known l.held (g.R.Source.left l.source));
   more : length l.initial.held ≤ length l.held;
   sound : g.R.Source.faults l.source ≡ g.R.Source.faults l.initial.source;
+  same : g.R.Source.number l.source ≡ g.R.Source.number l.initial.source;
 }
 
 abbrev pub decreases-loop-held : goal.decreases-loop-held

@@ -50,6 +50,7 @@ loop-skipped-preserved g c =
       few = omega arith;
       taken = run_kept _ _ _ _ _ taken (kept_read _ _ _ _ _ c.in_ok-read_more.ensures.read);
       sound = omega (arith, c.in_ok-read_more.ensures.sound);
+      same = omega (arith, c.read_more.ensures.source_number);
     }
 
 pub returns-in_err-read_more-clause-cut : goal.returns-in_err-read_more-clause-cut

@@ -10,6 +10,7 @@ invariant-loop-skipped g l = record {
   taken : TakesRun (test_of l.class) (prepend_known l.initial.held (g.R.Source.left l.initial.source)) (prepend_known l.held (g.R.Source.left l.source))
       l.skipped;
   sound : g.R.Source.faults l.source ≡ g.R.Source.faults l.initial.source;
+  same : g.R.Source.number l.source ≡ g.R.Source.number l.initial.source;
 }
 
 -- what may still be skipped; a turn that begins with nothing held skips nothing, and holds something at its end

@@ -12,6 +12,7 @@ loop-len-init g c = record {
   none_seen = no_trailer_in_none _ refl;
   kept = Keeps-refl _;
   sound = omega arith;
+  same = omega arith;
 }
 
 pub returns-then-seen-ge-MAX_HEAD-clause-none : goal.returns-then-seen-ge-MAX_HEAD-clause-none

@@ -12,6 +12,8 @@ loop-init g c = record {
   ticks = rw c.requires.none_read refl;
   reads = refl;
   writes = refl;
+  read_at = refl;
+  written_at = refl;
   puts = rw c.requires.none_read (rw c.new-held.ensures (none_put _ _));
 }
 
@@ -61,6 +63,8 @@ loop-preserved g c = record {
   ticks = c.turn.ensures.ticks _ c.loop.invariant.ticks;
   reads = c.in_ok-turn.ensures.counted.0 ∙ c.loop.invariant.reads;
   writes = c.in_ok-turn.ensures.counted.1 ∙ c.loop.invariant.writes;
+  read_at = c.turn.ensures.source_number ∙ c.loop.invariant.read_at;
+  written_at = c.turn.ensures.sink_number ∙ c.loop.invariant.written_at;
   puts = turn_put g.V.Server.last g.V.Server.serves _ _ _ _ _ _ _ _ _ _ _ _ _ c.loop.invariant.puts
       (rw c.in-Answered.is at c.in_ok-turn.ensures.puts) (rw c.in-Answered.is at c.in_ok-turn.ensures.turn);
 }

@@ -13,6 +13,8 @@ invariant-loop g l = record {
   ticks : TicksEach (g.C.Clock.readings l.initial.clock) (g.C.Clock.readings l.clock) l.moments.items;
   reads : g.R.Source.faults l.source ≡ g.R.Source.faults l.initial.source;
   writes : g.W.Sink.faults l.out ≡ g.W.Sink.faults l.initial.out;
+  read_at : g.R.Source.number l.source ≡ g.R.Source.number l.initial.source;
+  written_at : g.W.Sink.number l.out ≡ g.W.Sink.number l.initial.out;
   puts : PutsSoFar (g.R.Source.left l.initial.source) (prepend_known l.held (g.R.Source.left l.source)) (length l.moments.items)
       (g.W.Sink.calls l.initial.out) (g.W.Sink.calls l.out);
 }

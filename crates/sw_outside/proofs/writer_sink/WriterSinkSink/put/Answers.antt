@@ -12,4 +12,5 @@ loop-done-preserved g c = record {
   taken = rw take-add (Appends-trans _ _ _ _ _ c.loop-done.invariant.taken (rw take_rest at c.in-Ok.ensures.bytes));
   sound = c.loop-done.invariant.sound;
   counted = c.loop-done.invariant.counted;
+  same = c.loop-done.invariant.same;
 }
