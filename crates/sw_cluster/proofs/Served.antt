@@ -75,9 +75,8 @@ module _ {V : Type 0} (tells : V → Bool) (files : V → Folders) (faults : V �
   pub ends-go : (port connections : ℕ) (began after : AllNodes V) (a b : DoorsTold) (out : Output) (t u : Option (List ℕ)) (s x : Counts)
       (ended : Result ⊤ ServeFault) → began.power ≡ ring.power → EndsServing tells files faults ring port connections began after a b out t u s x ended
       → Goes (see began) (see after)
-  ends-go port connections began after a b out t u s x ended power (inl deaf) = goes-same (see began) (see after) (ap see deaf.nothing_came)
-  ends-go port connections began after a b out t u s x ended power (inr (inl mute)) = goes-same (see began) (see after) (ap see mute.nothing_came)
-  ends-go port connections began after a b out t u s x ended power (inr (inr over)) =
+  ends-go port connections began after a b out t u s x ended power (inl mute) = goes-same (see began) (see after) (ap see mute.nothing_came)
+  ends-go port connections began after a b out t u s x ended power (inr over) =
       served-goes began after power _ b t u s x connections over.came over.served
 
   -- the nodes are ready for what comes behind a connection

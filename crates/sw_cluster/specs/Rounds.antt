@@ -179,17 +179,7 @@ module _ {V : Type 0} (tells : V → Bool) (files : V → Folders) (faults : V �
       × (doors_now.faults ≡ doors.faults) × (stores_now.faults ≡ stores.faults)
   EndsConnections connections began after doors doors_now clock clock_now stores stores_now (Err serve_faults.Write) = ⊥
 
-  -- ---- from the first call of the doors to the last line
-
-  -- it couldn't be listened
-  pub record IsDeaf (began after : AllNodes V) (doors doors_now : DoorsTold) (out : Output) (clock clock_now : Option (List ℕ))
-      (stores stores_now : Counts) (ended : Result ⊤ ServeFault) : Type 0 where
-    pub ended_is : ended ≡ Err serve_faults.Door
-    pub nothing_came : after ≡ began
-    pub doors_are : doors_now ≡ record doors { calls = raised doors.calls; faults = raised doors.faults }
-    pub nothing_written : IsSilent out
-    pub no_tick : clock_now ≡ clock
-    pub no_start : stores_now ≡ stores
+  -- ---- from the first line to the last
 
   -- it was listened, but that couldn't be said
   pub record IsMute (port : ℕ) (began after : AllNodes V) (doors doors_now : DoorsTold) (out : Output) (clock clock_now : Option (List ℕ))
@@ -197,7 +187,7 @@ module _ {V : Type 0} (tells : V → Bool) (files : V → Folders) (faults : V �
     pub fault : ServeFault
     pub ended_is : ended ≡ Err fault
     pub nothing_came : after ≡ began
-    pub doors_are : doors_now ≡ record doors { calls = raised doors.calls }
+    pub doors_are : doors_now ≡ doors
     pub says : SaysLine (listening_line port) out (Err fault)
     pub no_tick : clock_now ≡ clock
     pub no_start : stores_now ≡ stores
@@ -213,16 +203,15 @@ module _ {V : Type 0} (tells : V → Bool) (files : V → Folders) (faults : V �
     pub said : Option (List ℕ)  -- what the output had taken then, where it tells that
     pub says : Appends out.before said (listening_line port)
     pub came : Result ⊤ ServeFault
-    pub served : EndsConnections connections began after (record doors { calls = raised doors.calls }) doors_now clock clock_now stores stores_now came
+    pub served : EndsConnections connections began after doors doors_now clock clock_now stores stores_now came
     pub concludes : Concludes connections (record out { before = said; calls = raised out.calls }) came ended
 
-  -- how serving ended. One call failed where that ended it, and else none
+  -- how serving ended, once it was listened. One call failed where that ended it, and else none
   abbrev pub EndsServing : ℕ → ℕ → AllNodes V → AllNodes V → DoorsTold → DoorsTold → Output → Option (List ℕ) → Option (List ℕ) → Counts → Counts
       → Result ⊤ ServeFault → Type 0
   EndsServing port connections began after doors doors_now out clock clock_now stores stores_now ended =
-      IsDeaf began after doors doors_now out clock clock_now stores stores_now ended
-      ⊎ (IsMute port began after doors doors_now out clock clock_now stores stores_now ended
-      ⊎ IsOver port connections began after doors doors_now out clock clock_now stores stores_now ended)
+      IsMute port began after doors doors_now out clock clock_now stores stores_now ended
+      ⊎ IsOver port connections began after doors doors_now out clock clock_now stores stores_now ended
 
   -- ---- what rests then
 
@@ -253,7 +242,21 @@ module _ {V : Type 0} (tells : V → Bool) (files : V → Folders) (faults : V �
     pub over : IsServedOver port connections (opened ring volumes) rests_now doors doors_now out clock clock_now
         (record stores { calls = raised_by (length ring.devices * 2 ^ ring.lock_bits) stores.calls }) stores_now status
 
--- none was served: the volumes couldn't be started, or there was no memory for the nodes. Those that were started rest again
+-- it couldn't be listened, and then no volume was touched
+pub record IsDeaf {V : Type 0} (rests rests_now : ℕ → ℕ → Option V) (doors doors_now : DoorsTold) (out : Output) (clock clock_now : Option (List ℕ))
+    (stores stores_now : Counts) (status : ℕ) : Type 0 where
+  pub status_is : status ≡ statuses.door_fault
+  pub doors_are : doors_now ≡ record doors { calls = raised doors.calls; faults = raised doors.faults }
+  pub nothing_written : IsSilent out
+  pub no_tick : clock_now ≡ clock
+  pub no_start : stores_now ≡ stores
+  pub resting : IsAsItWas rests rests_now
+
+-- doors once it is listened
+abbrev pub listened : DoorsTold → DoorsTold
+listened doors = record doors { calls = raised doors.calls }
+
+-- none was served, though it was listened: the volumes couldn't be started, or there was no memory for the nodes. Those that were started rest again
 pub record IsUnserved {V : Type 0} (first : V → Type 0) (ring : Ring) (rests rests_now : ℕ → ℕ → Option V) (doors doors_now : DoorsTold) (out : Output)
     (clock clock_now : Option (List ℕ)) (stores stores_now : Counts) (status : ℕ) : Type 0 where
   pub unstarted : AreUnstarted first ring rests rests_now stores stores_now status
@@ -261,12 +264,25 @@ pub record IsUnserved {V : Type 0} (first : V → Type 0) (ring : Ring) (rests r
   pub nothing_written : IsSilent out
   pub no_tick : clock_now ≡ clock
 
+-- the volumes were started and the connections served over them, or none was served
+abbrev pub ServesListened : {V : Type 0} → (V → Bool) → (V → Folders) → (V → ℕ) → (V → Type 0) → Ring → ℕ → ℕ → (ℕ → ℕ → Option V) → (ℕ → ℕ → Option V)
+    → DoorsTold → DoorsTold → Output → Option (List ℕ) → Option (List ℕ) → Counts → Counts → ℕ → Type 0
+ServesListened tells files faults first ring port connections rests rests_now doors doors_now out clock clock_now stores stores_now status =
+    IsServing tells files faults ring first port connections rests rests_now doors doors_now out clock clock_now stores stores_now status
+    ⊎ IsUnserved first ring rests rests_now doors doors_now out clock clock_now stores stores_now status
+
+-- The port is opened first: where it can't be, no volume is touched.
+abbrev pub ServesAt : {V : Type 0} → (V → Bool) → (V → Folders) → (V → ℕ) → (V → Type 0) → Ring → ℕ → ℕ → (ℕ → ℕ → Option V) → (ℕ → ℕ → Option V)
+    → DoorsTold → DoorsTold → Output → Option (List ℕ) → Option (List ℕ) → Counts → Counts → ℕ → Type 0
+ServesAt tells files faults first ring port connections rests rests_now doors doors_now out clock clock_now stores stores_now status =
+    IsDeaf rests rests_now doors doors_now out clock clock_now stores stores_now status
+    ⊎ ServesListened tells files faults first ring port connections rests rests_now (listened doors) doors_now out clock clock_now stores stores_now status
+
 -- how `serve` goes on with a ring, which it read by one call of the stores: from what rests in them then, which is what rested before
 pub record ServesRing {V : Type 0} (tells : V → Bool) (files : V → Folders) (faults : V → ℕ) (first : V → Type 0) (ring : Ring) (port connections : ℕ)
     (rests rests_now : ℕ → ℕ → Option V) (doors doors_now : DoorsTold) (out : Output) (clock clock_now : Option (List ℕ))
     (stores stores_now : Counts) (status : ℕ) : Type 0 where
   pub began : ℕ → ℕ → Option V
   pub same : IsAsItWas rests began
-  pub ends : IsServing tells files faults ring first port connections began rests_now doors doors_now out clock clock_now
+  pub ends : ServesAt tells files faults first ring port connections began rests_now doors doors_now out clock clock_now
       (record stores { calls = raised stores.calls }) stores_now status
-      ⊎ IsUnserved first ring began rests_now doors doors_now out clock clock_now (record stores { calls = raised stores.calls }) stores_now status

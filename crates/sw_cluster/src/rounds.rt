@@ -6,8 +6,8 @@ ghost use Rattle.sw_volume.specs.Volume.{raised_by};
 ghost use Rattle.sw_nodes.specs.Nodes.{AreNodesOf};
 ghost use Rattle.sw_cluster.specs.Leaving.{AreLeft, FailsToRestart, StopsAmong};
 ghost use Rattle.sw_nodes.specs.Nodes.{IsReady, places_of};
-ghost use Rattle.sw_cluster.specs.Rounds.{AllServed, AreHeard, EndsServing, EndsConnections, IsServedOver, IsServing, IsUnserved, RestartsDevice, IsServed};
-ghost use Rattle.sw_cluster.specs.Rounds.{RestartsFirst};
+ghost use Rattle.sw_cluster.specs.Rounds.{AllServed, AreHeard, EndsServing, EndsConnections, IsServed, IsServedOver, RestartsDevice, RestartsFirst};
+ghost use Rattle.sw_cluster.specs.Rounds.{ServesAt, ServesListened};
 ghost use Rattle.sw_cluster.specs.Rounds.{Round, SaysLine, read_in, serve_status, written_in};
 ghost use Rattle.sw_cluster.specs.Told.{counts, doors_told, output};
 
@@ -40,8 +40,8 @@ pub enum ServeFault {
 /// Listens at a port, and serves so many connections, one after the other, for the devices of a ring, each at the moment that the clock shows once it
 /// was accepted. After each all devices are restarted, so that the journals begin anew. Answers the status.
 ///
-/// The volumes of all object locks are started from the stores first, and given back at the end. Two lines are put on `out`: one once it is listened,
-/// and one once all connections were served.
+/// The port is opened first: where that fails no volume is touched. Then the volumes of all object locks are started from the stores, which are given
+/// back at the end. Two lines are put on `out`: one once connections may come, and one once all were served.
 pub fn serve_connections<W: Sink, S: Stores, N: Doors, C: Clock>(
     alloc: Global,
     ring: &Ring,
@@ -55,11 +55,32 @@ pub fn serve_connections<W: Sink, S: Stores, N: Doors, C: Clock>(
     requires home { (d s : ℕ) → S.out stores.old d s ≡ false }
     requires doors { length (N.finished doors.old) ≤ length (N.accepts doors.old) }
     ensures home { (d s : ℕ) → S.out stores.new d s ≡ false }
-    ensures serving { IsServing S.V.tells S.V.holds S.V.faults ring.now S.first port connections (S.rests stores.old) (S.rests stores.new)
+    ensures serving { ServesAt S.V.tells S.V.holds S.V.faults S.first ring.now port connections (S.rests stores.old) (S.rests stores.new)
         (doors_told N.accepts N.finished N.calls N.faults doors.old) (doors_told N.accepts N.finished N.calls N.faults doors.new)
         (output W.taken W.faults W.calls out.old out.new) (C.readings clock.old) (C.readings clock.new)
-        (counts S.calls S.faults stores.old) (counts S.calls S.faults stores.new) result
-        ⊎ IsUnserved S.first ring.now (S.rests stores.old) (S.rests stores.new)
+        (counts S.calls S.faults stores.old) (counts S.calls S.faults stores.new) result }
+{
+    match doors.listen(port) {
+        Ok(()) => serve_listened(alloc, ring, port, connections, out, stores, doors, clock),
+        Err(Failed) => DOOR_FAULT,
+    }
+}
+
+/// The same once it is listened: starts the volumes, and gives them back at the end.
+fn serve_listened<W: Sink, S: Stores, N: Doors, C: Clock>(
+    alloc: Global,
+    ring: &Ring,
+    port: u16,
+    connections: u32,
+    out: &mut W,
+    stores: &mut S,
+    doors: &mut N,
+    clock: &mut C,
+) -> u8
+    requires home { (d s : ℕ) → S.out stores.old d s ≡ false }
+    requires doors { length (N.finished doors.old) ≤ length (N.accepts doors.old) }
+    ensures home { (d s : ℕ) → S.out stores.new d s ≡ false }
+    ensures serving { ServesListened S.V.tells S.V.holds S.V.faults S.first ring.now port connections (S.rests stores.old) (S.rests stores.new)
         (doors_told N.accepts N.finished N.calls N.faults doors.old) (doors_told N.accepts N.finished N.calls N.faults doors.new)
         (output W.taken W.faults W.calls out.old out.new) (C.readings clock.old) (C.readings clock.new)
         (counts S.calls S.faults stores.old) (counts S.calls S.faults stores.new) result }
@@ -102,7 +123,7 @@ fn serve_over<W: Sink, S: Stores, N: Doors, C: Clock>(
         (counts S.calls S.faults stores.old) (counts S.calls S.faults stores.new) result }
 {
     let mut world = world;
-    let ended = listen(
+    let ended = attend(
         alloc,
         ring,
         &mut world,
@@ -117,8 +138,8 @@ fn serve_over<W: Sink, S: Stores, N: Doors, C: Clock>(
     status_of_serve(ended)
 }
 
-/// Listens, says so, serves the connections, and says how many they were.
-fn listen<W: Sink, S: Stores, N: Doors, C: Clock>(
+/// Says that it is listened, serves the connections, and says how many they were.
+fn attend<W: Sink, S: Stores, N: Doors, C: Clock>(
     alloc: Global,
     ring: &Ring,
     world: &mut QuietWorld<S::V>,
@@ -138,10 +159,6 @@ fn listen<W: Sink, S: Stores, N: Doors, C: Clock>(
         (counts S.calls S.faults stores.old) (counts S.calls S.faults stores.new) result
         × AreLeft S.V.tells S.V.holds S.V.faults S.calls S.rests S.out ring.now after world.new stores.new }
 {
-    match doors.listen(port) {
-        Ok(()) => {}
-        Err(Failed) => return Err(ServeFault::Door),
-    }
     say(alloc, out, b"listening ", u32::from(port))?;
     serve_all(alloc, ring, world, connections, stores, doors, clock)?;
     say(alloc, out, b"connections ", connections)

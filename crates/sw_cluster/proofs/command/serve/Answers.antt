@@ -1,8 +1,8 @@
-use Rattle.std.proofs.Common.{◌⊎◌, refl, subst}
+use Rattle.std.proofs.Common.{refl, subst}
 use Rattle.sw_outside.specs.Counts.{raised}
 use Rattle.sw_cluster.proofs.OpeningLemmas.{not_opened, opened}
 use Rattle.sw_cluster.proofs.Rounding.{counts-same}
-use Rattle.sw_cluster.specs.Rounds.{IsServing, IsUnserved}
+use Rattle.sw_cluster.specs.Rounds.{ServesAt}
 use Rattle.sw_cluster.specs.Told.{Counts, counts, doors_told, output}
 use Rattle.sw_cluster.proofs.command.serve.Goals as goal
 
@@ -13,12 +13,8 @@ returns-in-Ok-clause-ends g c =
     opened _ _ _ _ _ _ _ _ c.in-Ok.ring c.in-Ok.ensures.opening (record {
       began = s.rests c.open_ring.new.stores;
       same = c.in-Ok.ensures.rests;
-      ends = subst (λ (k : Counts). IsServing v.tells v.holds v.faults c.in-Ok.ring s.first c.args.options.port c.args.options.connections
+      ends = subst (λ (k : Counts). ServesAt v.tells v.holds v.faults s.first c.in-Ok.ring c.args.options.port c.args.options.connections
           (s.rests c.open_ring.new.stores) (s.rests run.new.stores)
-          (doors_told n.accepts n.finished n.calls n.faults c.args.doors.now) (doors_told n.accepts n.finished n.calls n.faults run.new.doors)
-          (output g.W.Sink.taken g.W.Sink.faults g.W.Sink.calls c.args.out.now run.new.out)
-          (g.C.Clock.readings c.args.clock.now) (g.C.Clock.readings run.new.clock) k (counts s.calls s.faults run.new.stores) run.result
-          ⊎ IsUnserved s.first c.in-Ok.ring (s.rests c.open_ring.new.stores) (s.rests run.new.stores)
           (doors_told n.accepts n.finished n.calls n.faults c.args.doors.now) (doors_told n.accepts n.finished n.calls n.faults run.new.doors)
           (output g.W.Sink.taken g.W.Sink.faults g.W.Sink.calls c.args.out.now run.new.out)
           (g.C.Clock.readings c.args.clock.now) (g.C.Clock.readings run.new.clock) k (counts s.calls s.faults run.new.stores) run.result)
