@@ -20,8 +20,8 @@ pub struct Entered {
 
 /// The batch of changes that makes these entries where these tables are held, or [`NoMemory`].
 ///
-/// A keeper takes it wherever the container is held in the end. Its time grows with the number of rows, for each row that is
-/// put in.
+/// A keeper takes it wherever the container is held in the end. Its time grows with the logarithm of the number of rows, for
+/// each row that is put in.
 pub fn batch_of(
     alloc: Global,
     tables: Option<Tables>,

@@ -1,9 +1,7 @@
-ghost use Rattle.std.specs.Prelude.{◌≡◌, ◌+◌, ◌-◌, ◌^◌, ◌≤◌, ◌<◌, ◌++◌, true, find, Some, None, IfOk, OnOk};
-ghost use Rattle.std.specs.Option.{option_map};
+ghost use Rattle.std.specs.Prelude.{◌≡◌, ◌+◌, ◌-◌, ◌^◌, ◌≤◌, ◌<◌, ◌++◌, true, Some, None, IfOk, OnOk};
 ghost use Rattle.sw_container_steps.specs.Batches.{changes_of, row_changes};
 ghost use Rattle.sw_container_steps.specs.Entries.{entered, row_count, top_of};
-ghost use Rattle.sw_rows.specs.Rows.{find_named, fits, is_named, merged};
-ghost use Rattle.sw_rows.specs.Left.{rows_left};
+ghost use Rattle.sw_rows.specs.Rows.{find_named, fits, merged};
 
 use crate::cont_entry::ContEntry;
 use std::alloc::Global;
@@ -125,21 +123,9 @@ fn replace(alloc: Global, rows: &Rows, changes: &mut Vec<Change>, row: &Row) -> 
     requires fits { fits (find_named rows.now.list row.now.name) row.now ≡ true }
     ensures { OnOk result (changes.new.items ≡ changes.old.items ++ row_changes rows.now row.now) }
 {
-    if let Some(rowid) = number_of(rows, row.name.as_slice()) {
+    if let Some(rowid) = rows.number_of(row.name.as_slice()) {
         changes.push(Change::CutRow(rowid))?;
     }
     changes.push(Change::PutRow(row.copy(alloc)?, rows.top() + 1))?;
     Ok(())
-}
-
-/// The number (ROWID) of the row of this name.
-fn number_of(rows: &Rows, name: &[u8]) -> Option<u64>
-    ensures { result ≡ option_map (λ n. n.rowid) (find (is_named name.now) rows.now.list) }
-{
-    for (rowid, row) in rows.iter() {
-        if row.name.as_slice() == name {
-            return Some(rowid);
-        }
-    }
-    None
 }

@@ -1,3 +1,5 @@
 pub mod Cutting
 pub mod Keeping
 pub mod Placing
+pub mod Restoring
+pub mod Searching

@@ -1,4 +1,6 @@
-ghost use Rattle.std.specs.Prelude.{◌≡◌, ◌+◌, ◌<◌, ◌≤◌, ◌++◌, ◌∷◌, [], Some, not, filter, vec_len, vec_capacity, length, position};
+ghost use Rattle.std.specs.Prelude.{◌≡◌, ◌+◌, ◌<◌, ◌≤◌, ◌++◌, ◌∷◌, [], Some, not, false, filter, vec_len, vec_capacity, length, nat_lt, slice_get, IsTrue};
+ghost use Rattle.std.specs.List.{prefix_len};
+ghost use Rattle.std.specs.Option.{option_map_or};
 ghost use Rattle.sw_keeper.specs.Changes.{CanChange, IsBatch, all_changed, changed};
 ghost use Rattle.sw_keeper.specs.Ledgers.{tables_of};
 ghost use Rattle.sw_rows.specs.Rows.{is_numbered, IsListed, IsRising};
@@ -75,17 +77,28 @@ fn cut(list: &mut Vec<Numbered>, rowid: u64)
     ensures capacity { vec_capacity list.old ≤ vec_capacity list.new }
     ensures count { vec_len list.new ≤ vec_len list.old }
 {
-    match place_of(list, rowid) {
-        Some(place) => {
-            list.remove(place);
-        }
-        None => {}
+    let place = place_of(list, rowid);
+    if is_number_at(list, place, rowid) {
+        list.remove(place);
     }
 }
 
-/// Where the row of this number stands.
-fn place_of(list: &[Numbered], rowid: u64) -> Option<usize>
-    ensures { result ≡ position (is_numbered rowid) list.now }
+/// How many rows have lower numbers.
+fn place_of(list: &[Numbered], rowid: u64) -> usize
+    requires { IsRising 0 list.now }
+    ensures place { result ≡ prefix_len (λ n. nat_lt n.rowid rowid) list.now }
+    ensures bound { result ≤ length list.now }
 {
-    list.iter().position(|numbered| numbered.rowid == rowid)
+    list.partition_point(|numbered| numbered.rowid < rowid)
+}
+
+/// Whether the row at this index has the number.
+fn is_number_at(list: &[Numbered], index: usize, rowid: u64) -> bool
+    ensures there { result ≡ option_map_or (is_numbered rowid) (slice_get list.now index) false }
+    ensures within { IsTrue result → index < length list.now }
+{
+    match list.get(index) {
+        Some(numbered) => numbered.rowid == rowid,
+        None => false,
+    }
 }

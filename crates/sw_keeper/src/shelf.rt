@@ -1,5 +1,7 @@
 ghost use Rattle.std.specs.Prelude.{◌≡◌, Some, None, IfOk, OnOk, OnErr};
 ghost use Rattle.sw_keeper.specs.Changes.{IsBatch, all_changed, begun};
+ghost use Rattle.sw_keeper.specs.Ledgers.{tables_of};
+ghost use Rattle.sw_rows.specs.Rows.{IsListed};
 
 use crate::batch::Batch;
 use crate::ledger::{Ledger, make_all};
@@ -7,7 +9,7 @@ use std::alloc::Global;
 use std::marker::Model;
 use sw_hashpath::Place;
 use sw_outside::NoMemory;
-use sw_rows::{Numbered, Rows, Tables};
+use sw_rows::{Rows, Tables};
 use sw_timestamp::Timestamp;
 
 /// The tables at one place. Contracts see the place and the tables.
@@ -55,11 +57,10 @@ impl Shelf {
     pub(crate) fn tables(&self, alloc: Global) -> Result<Tables, NoMemory>
         ensures { IfOk result (λ tables. tables ≡ self.now.1) }
     {
-        let list = Numbered::copy_all(alloc, &self.ledger.list)?;
         Ok(Tables {
             put_time: self.ledger.put_time,
             delete_time: self.ledger.delete_time,
-            rows: Rows::from_list(list, self.ledger.top),
+            rows: rows_of(alloc, &self.ledger)?,
         })
     }
 
@@ -75,4 +76,16 @@ impl Shelf {
         make_all(&mut self.ledger, changes);
         Ok(())
     }
+}
+
+/// The rows of a ledger, put in one after the other.
+fn rows_of(alloc: Global, ledger: &Ledger) -> Result<Rows, NoMemory>
+    requires { IsListed (tables_of ledger.now).rows }
+    ensures { IfOk result (λ rows. rows ≡ (tables_of ledger.now).rows) }
+{
+    let mut rows = Rows::empty_at(alloc, ledger.top);
+    for numbered in &ledger.list {
+        let _ = rows.restore(alloc, numbered.rowid, numbered.row.copy(alloc)?)?;
+    }
+    Ok(rows)
 }

@@ -67,13 +67,11 @@ pub(crate) fn change(
 
 /// How many shelves come before a place.
 fn place_of(shelves: &[Shelf], place: &Place) -> usize
+    requires { IsStrictlySortedBy place_cmp (keys_of shelves.now) }
     ensures place { result ≡ prefix_len (λ s. is_lt (place_cmp s.0 place.now)) shelves.now }
     ensures bound { result ≤ length shelves.now }
 {
-    shelves
-        .iter()
-        .take_while(|shelf| compare(shelf.place(), place).is_lt())
-        .count()
+    shelves.partition_point(|shelf| compare(shelf.place(), place).is_lt())
 }
 
 /// Whether the shelf at this index is that of the place.

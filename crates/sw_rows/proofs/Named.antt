@@ -1,11 +1,10 @@
 -- Rows by their names.
-use Rattle.std.proofs.Common.{◌≡◌, ℕ, ◌+◌, ◌<◌, ◌≤◌, suc, Bool, true, false, cond, not, List, [], ◌∷◌, ◌++◌, length, Option, None, Some, refl, sym, ◌∙◌, ap}
-use Rattle.std.proofs.Common.{arith, subst, ◌⊎◌, inl, inr}
-use Rattle.std.specs.List.{filter, find, position, position_or_len, remove}
-use Rattle.std.specs.Option.{option_or}
+use Rattle.std.proofs.Common.{◌≡◌, ℕ, Bool, true, false, cond, not, List, [], ◌∷◌, ◌++◌, Option, None, Some, refl, sym, ◌∙◌, ap}
+use Rattle.std.proofs.Common.{subst}
+use Rattle.std.specs.List.{filter, find}
+use Rattle.std.specs.Option.{option_map, option_or}
 use Rattle.std.specs.Str.{bytes_eq}
-use Rattle.std.proofs.lemmas.Bool.{cases_lt, false_from_ne_true, le-ltb, lt-ltb}
-use Rattle.std.proofs.lemmas.List.Edits.{remove-append_left}
+use Rattle.std.proofs.lemmas.Bool.{false_from_ne_true}
 use Rattle.std.proofs.lemmas.List.Folds.{find-append}
 use Rattle.std.proofs.lemmas.Slice.Eq.{bytes_eq-Decides}
 use Rattle.sw_rows.specs.Rows.{find_named, is_named, IsNamedOnce, without}
@@ -74,59 +73,6 @@ find-without_other name other (n ∷ ns) apart = at (is_named name n) refl (find
         rw not_other rest
     at false is rest = ap (λ (t : Option Numbered). cond (is_named other n) (Some n) t) rest
 
--- the row of a name is taken away at its place
-pub remove-place : (name : List ℕ) (ns : List Numbered) → IsNamedOnce ns → position_or_len (is_named name) ns < length ns
-    → remove ns (position_or_len (is_named name) ns) ≡ without name ns
-remove-place name [] once found = absurd (omega arith)
-remove-place name (n ∷ ns) once found = at (is_named name n) refl (λ inside. remove-place name ns once.1 inside) found
-  where
-    at : (b : Bool) → is_named name n ≡ b
-        → (position_or_len (is_named name) ns < length ns → remove ns (position_or_len (is_named name) ns) ≡ without name ns)
-        → cond (not b) (1 + position_or_len (is_named name) ns) 0 < length (n ∷ ns)
-        → remove (n ∷ ns) (cond (not b) (1 + position_or_len (is_named name) ns) 0) ≡ cond (not b) (n ∷ without name ns) (without name ns)
-    at true is rest found =
-        let P : List ℕ → Type 0 = λ x. find (is_named x) ns ≡ None in
-        sym (without-none name ns (subst P (same_name n.row.name name is) once.0))
-    at false is rest found =
-        let next : 1 + position_or_len (is_named name) ns ≡ suc (position_or_len (is_named name) ns) = omega arith in
-        rw next (ap (λ (t : List Numbered). n ∷ t) (rest (omega arith)))
-
--- the row of a name is behind the last one: there is none
-pub without-past : (name : List ℕ) (ns : List Numbered) → length ns ≤ position_or_len (is_named name) ns → without name ns ≡ ns
-without-past name [] past = refl
-without-past name (n ∷ ns) past = at (is_named name n) (λ inside. without-past name ns inside) past
-  where
-    at : (b : Bool) → (length ns ≤ position_or_len (is_named name) ns → without name ns ≡ ns)
-        → length (n ∷ ns) ≤ cond (not b) (1 + position_or_len (is_named name) ns) 0
-        → cond (not b) (n ∷ without name ns) (without name ns) ≡ n ∷ ns
-    at true rest past = absurd (omega arith)
-    at false rest past = ap (λ (t : List Numbered). n ∷ t) (rest (omega arith))
-
--- a row is put behind the others, and the one of its name is taken away
-pub put_over : (ns : List Numbered) (n : Numbered) (k : ℕ) → IsNamedOnce ns → position (is_named n.row.name) ns ≡ Some k
-    → remove (ns ++ n ∷ []) k ≡ without n.row.name ns ++ n ∷ []
-put_over ns n k once found = at (cases_lt (position_or_len (is_named n.row.name) ns) (length ns))
-  where
-    at : (position_or_len (is_named n.row.name) ns < length ns) ⊎ (length ns ≤ position_or_len (is_named n.row.name) ns)
-        → remove (ns ++ n ∷ []) k ≡ without n.row.name ns ++ n ∷ []
-    at (inl inside) =
-        let is : position (is_named n.row.name) ns ≡ Some (position_or_len (is_named n.row.name) ns) = rw (lt-ltb _ _ inside) refl in
-        let same : position_or_len (is_named n.row.name) ns ≡ k = cc in
-        rw (← same) (remove-append_left ns (n ∷ []) (position_or_len (is_named n.row.name) ns) inside
-        ∙ ap (λ (t : List Numbered). t ++ n ∷ []) (remove-place n.row.name ns once inside))
-    at (inr past) =
-        let is : position (is_named n.row.name) ns ≡ None = rw (le-ltb _ _ past) refl in
-        cc
-
-pub put_new : (ns : List Numbered) (name : List ℕ) → position (is_named name) ns ≡ None → without name ns ≡ ns
-put_new ns name found = at (cases_lt (position_or_len (is_named name) ns) (length ns))
-  where
-    at : (position_or_len (is_named name) ns < length ns) ⊎ (length ns ≤ position_or_len (is_named name) ns) → without name ns ≡ ns
-    at (inl inside) =
-        let is : position (is_named name) ns ≡ Some (position_or_len (is_named name) ns) = rw (lt-ltb _ _ inside) refl in
-        cc
-    at (inr past) = without-past name ns past
-
 pub once-without : (name : List ℕ) (ns : List Numbered) → IsNamedOnce ns → IsNamedOnce (without name ns)
 once-without name [] once = once
 once-without name (n ∷ ns) once = at (is_named name n) (once-without name ns once.1)
@@ -147,24 +93,57 @@ option_or-none : (o : Option Numbered) → option_or o None ≡ o
 option_or-none None = refl
 option_or-none (Some n) = refl
 
--- the rows of names, where a row takes the place of the one of its name
-pub find_named-put : (ns : List Numbered) (n : Numbered) (name : List ℕ)
-    → find_named (without n.row.name ns ++ n ∷ []) name ≡ cond (bytes_eq n.row.name name) (Some n.row) (find_named ns name)
-find_named-put ns n name = at (bytes_eq n.row.name name) refl
+-- what names find, where a row takes the place of the one of its name
+pub find-put : (ns : List Numbered) (n : Numbered) (name : List ℕ)
+    → find (is_named name) (without n.row.name ns ++ n ∷ []) ≡ cond (bytes_eq n.row.name name) (Some n) (find (is_named name) ns)
+find-put ns n name = at (bytes_eq n.row.name name) refl
   where
     joined : find (is_named name) (without n.row.name ns ++ n ∷ []) ≡ option_or (find (is_named name) (without n.row.name ns)) (find (is_named name) (n ∷ []))
     joined = find-append (is_named name) (without n.row.name ns) (n ∷ [])
 
-    at : (b : Bool) → bytes_eq n.row.name name ≡ b → find_named (without n.row.name ns ++ n ∷ []) name ≡ cond b (Some n.row) (find_named ns name)
+    at : (b : Bool) → bytes_eq n.row.name name ≡ b → find (is_named name) (without n.row.name ns ++ n ∷ []) ≡ cond b (Some n) (find (is_named name) ns)
     at true is =
         let named : n.row.name ≡ name = same_name n.row.name name is in
         let P : List ℕ → Type 0 = λ x. find (is_named x) (without n.row.name ns) ≡ None in
         let none : find (is_named name) (without n.row.name ns) ≡ None = subst P named (find-without n.row.name ns) in
         let last : find (is_named name) (n ∷ []) ≡ Some n = rw is refl in
-        let found : find (is_named name) (without n.row.name ns ++ n ∷ []) ≡ Some n = joined ∙ rw (none, last) refl in
-        rw found refl
+        joined ∙ rw (none, last) refl
     at false is =
         let last : find (is_named name) (n ∷ []) ≡ None = rw is refl in
-        let found : find (is_named name) (without n.row.name ns ++ n ∷ []) ≡ find (is_named name) ns =
-        joined ∙ rw last (option_or-none (find (is_named name) (without n.row.name ns))) ∙ find-without_other n.row.name name ns is in
-        rw found refl
+        joined ∙ rw last (option_or-none (find (is_named name) (without n.row.name ns))) ∙ find-without_other n.row.name name ns is
+
+-- the rows of names, where a row takes the place of the one of its name
+pub find_named-put : (ns : List Numbered) (n : Numbered) (name : List ℕ)
+    → find_named (without n.row.name ns ++ n ∷ []) name ≡ cond (bytes_eq n.row.name name) (Some n.row) (find_named ns name)
+find_named-put ns n name = rw (find-put ns n name) (at (bytes_eq n.row.name name))
+  where
+    at : (b : Bool) → option_map (λ m. m.row) (cond b (Some n) (find (is_named name) ns)) ≡ cond b (Some n.row) (find_named ns name)
+    at true = refl
+    at false = refl
+
+-- rows round the one of a name, and the rows without it
+pub record Parted (name : List ℕ) (ns : List Numbered) (n : Numbered) : Type 0 where
+  pub before : List Numbered
+  pub after : List Numbered
+  pub whole : ns ≡ before ++ n ∷ after
+  pub rest : without name ns ≡ before ++ after
+
+pub parted : (name : List ℕ) (ns : List Numbered) (n : Numbered) → IsNamedOnce ns → find (is_named name) ns ≡ Some n → Parted name ns n
+parted name [] n once found = cc
+parted name (m ∷ ms) n once found = at (is_named name m) refl found (λ h. parted name ms n once.1 h)
+  where
+    at : (b : Bool) → is_named name m ≡ b → cond b (Some m) (find (is_named name) ms) ≡ Some n → (find (is_named name) ms ≡ Some n → Parted name ms n)
+        → Parted name (m ∷ ms) n
+    at true is found further =
+        let same : m ≡ n = cc in
+        let P : List ℕ → Type 0 = λ x. find (is_named x) ms ≡ None in
+        let none : without name ms ≡ ms = without-none name ms (subst P (same_name m.row.name name is) once.0) in
+        record { before = []; after = ms; whole = ap (λ (x : Numbered). x ∷ ms) same; rest = rw is none }
+    at false is found further =
+        let p = further found in
+        record {
+          before = m ∷ p.before;
+          after = p.after;
+          whole = ap (λ (t : List Numbered). m ∷ t) p.whole;
+          rest = rw is (ap (λ (t : List Numbered). m ∷ t) p.rest);
+        }

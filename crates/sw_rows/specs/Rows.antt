@@ -1,7 +1,9 @@
 -- Rows of a container: one for each name, and numbers that are used once. (OpenStack Swift's container server numbers its
 -- rows and orders those of one name by created_at; that the deleted row wins at one time is this project's own.)
-use Rattle.std.specs.Prelude.{◌≡◌, ℕ, ◌+◌, ◌<◌, ◌≤◌, Bool, true, not, ◌&&◌, ◌||◌, ◌==◌, nat_lt, List, [], ◌∷◌, ◌++◌, filter, find, Option, None, Some}
+use Rattle.std.specs.Prelude.{◌≡◌, ℕ, ◌+◌, ◌<◌, ◌≤◌, Bool, true, not, ◌&&◌, ◌||◌, ◌==◌, nat_lt, nat_le, List, [], ◌∷◌, ◌++◌, filter, find, is_none, Option}
+use Rattle.std.specs.Prelude.{None, Some}
 use Rattle.std.specs.Prelude.{if◌then◌else◌, All, ⊤}
+use Rattle.std.specs.List.{list_all}
 use Rattle.std.specs.Option.{option_map}
 use Rattle.std.specs.Str.{bytes_eq}
 use Rattle.sw_rows.specs.declared.row.Row.{Row}
@@ -26,6 +28,10 @@ is_named name n = bytes_eq n.row.name name
 abbrev pub find_named : List Numbered → List ℕ → Option Row
 find_named list name = option_map (λ n. n.row) (find (is_named name) list)
 
+-- the number of the row of a name
+abbrev pub number_named : List Numbered → List ℕ → Option ℕ
+number_named list name = option_map (λ n. n.rowid) (find (is_named name) list)
+
 -- whether a row is put in where this one of its name is present
 abbrev pub fits : Option Row → Row → Bool
 fits None row = true
@@ -41,6 +47,19 @@ with_row l row = record { list = without row.name l.list ++ record { rowid = l.t
 
 abbrev pub merged : Listed → Row → Listed
 merged l row = if fits (find_named l.list row.name) row then with_row l row else l
+
+-- no number given out yet but these, and no rows
+abbrev pub no_rows_at : ℕ → Listed
+no_rows_at top = record { list = []; top = top }
+
+-- whether a row can stand behind all others under a number that was given out: it isn't 0, is none above the greatest given
+-- out, is above that of every row, and no row has the name
+abbrev pub can_restore : Listed → ℕ → Row → Bool
+can_restore l rowid row = nat_lt 0 rowid && nat_le rowid l.top && list_all (λ n. nat_lt n.rowid rowid) l.list && is_none (find_named l.list row.name)
+
+-- the row behind all others under its number, where it can stand there
+abbrev pub restored : Listed → ℕ → Row → Listed
+restored l rowid row = if can_restore l rowid row then record l { list = l.list ++ record { rowid = rowid; row = row } ∷ [] } else l
 
 abbrev pub is_numbered : ℕ → Numbered → Bool
 is_numbered rowid n = n.rowid == rowid

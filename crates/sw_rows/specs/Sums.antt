@@ -23,6 +23,10 @@ hash_of list = fold (λ hash n. bit_xor hash (row_hash n.row)) 0 list
 abbrev pub count_of : List Numbered → ℕ
 count_of list = count_by (λ n. not n.row.deleted) list
 
+-- 1 for a live row
+abbrev pub live_count : Row → ℕ
+live_count row = if not row.deleted then 1 else 0
+
 -- how many bytes of a live object a row tells of
 abbrev pub live_size : Row → ℕ
 live_size row = if row.deleted then 0 else row.size

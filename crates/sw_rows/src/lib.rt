@@ -9,15 +9,18 @@
 //! rows, and `sw_keeper`, where tables are kept.
 #![tactic(auto)]
 
-mod edits;
 mod hash;
+mod index;
 pub mod laws;
+mod named_rows;
 mod numbered;
 mod row;
 mod rows;
 mod rows_iter;
+mod sums;
 mod tables;
 
+pub use named_rows::NamedRows;
 pub use numbered::Numbered;
 pub use row::Row;
 pub use rows::Rows;

@@ -1,14 +1,15 @@
-ghost use Rattle.std.specs.Prelude.{◌≡◌, ◌<◌, ◌^◌, ◌-◌, true, IsTrue, IfOk, OnErr};
+ghost use Rattle.std.specs.Prelude.{◌≡◌, ◌<◌, ◌^◌, ◌-◌, ◌++◌, ◌∷◌, [], All, max, true, IsTrue, IfOk, OnOk, OnErr};
 ghost use Rattle.std.specs.Option.{option_copied};
 ghost use Rattle.sw_rows.specs.Left.{rows_left};
-ghost use Rattle.sw_rows.specs.Rows.{find_named, fits, merged, no_rows, IsListed};
+ghost use Rattle.sw_rows.specs.Names.{ListsBetween};
+ghost use Rattle.sw_rows.specs.Rows.{can_restore, find_named, fits, merged, no_rows, no_rows_at, number_named, restored, without, IsListed};
 ghost use Rattle.sw_rows.specs.Sums.{bytes_of, count_of, hash_of};
 
-use crate::edits::{find, replace};
-use crate::hash::{bytes, count, hash};
-use crate::numbered::Numbered;
+use crate::index::Index;
+use crate::named_rows::NamedRows;
 use crate::row::Row;
 use crate::rows_iter::RowsIter;
+use crate::sums::Sums;
 use std::alloc::Global;
 use std::marker::Model;
 use sw_outside::NoMemory;
@@ -16,21 +17,24 @@ use sw_outside::NoMemory;
 /// The rows of a container, one for each name, and the greatest number (ROWID) given out. Contracts see the rows in the
 /// order of their numbers, and that greatest number.
 ///
-/// Numbers begin at 1, rise by one and are used once. The time of each call grows with the number of rows.
+/// Numbers begin at 1, rise by one and are used once. The time of a call for one row grows with the logarithm of the number
+/// of rows; hash, count and bytes run along, so asking for them costs nothing.
 #[derive(Debug, Drop)]
 pub struct Rows {
-    list: Vec<Numbered>,
+    index: Index,
     top: u64,
+    sums: Sums,
 }
 
 impl Model for Rows {
     ghost use Rattle.sw_rows.specs.Rows.{Listed, IsListed};
+    ghost use Rattle.sw_rows.specs.Running.{AreSums};
 
     ghost Value = { Listed };
 
-    ghost view = { λ r. record { list = r.list.items; top = r.top } };
+    ghost view = { λ r. record { list = r.index; top = r.top } };
 
-    ghost invariant = { λ r. IsListed (record { list = r.list.items; top = r.top }) };
+    ghost invariant = { λ r. IsListed (record { list = r.index; top = r.top }) × AreSums r.sums r.index };
 }
 
 impl Rows {
@@ -38,25 +42,51 @@ impl Rows {
     pub fn empty(alloc: Global) -> Rows
         ensures { result ≡ no_rows }
     {
+        Rows::empty_at(alloc, 0)
+    }
+
+    /// No rows, where `top` is the greatest number given out. It takes no memory.
+    pub fn empty_at(alloc: Global, top: u64) -> Rows
+        ensures { result ≡ no_rows_at top }
+    {
         Rows {
-            list: Vec::new(alloc),
-            top: 0,
+            index: Index::empty(alloc),
+            top,
+            sums: Sums::NONE,
         }
     }
 
-    /// These rows, where `top` is the greatest number given out. It takes no memory.
-    pub fn from_list(list: Vec<Numbered>, top: u64) -> Rows
-        requires { IsListed (record { list = list.items; top = top }) }
-        ensures { result ≡ record { list = list.items; top = top } }
+    /// Puts a row behind all others under a number that was given out before, as one who reads rows from where they are kept
+    /// does. It answers false, and changes nothing, where the number is 0, is above the greatest given out or isn't above
+    /// that of every row, or where a row has the name.
+    ///
+    /// After [`NoMemory`] the rows are what they were.
+    pub fn restore(&mut self, alloc: Global, rowid: u64, row: Row) -> Result<bool, NoMemory>
+        ensures ok { IfOk result (λ restored. restored ≡ can_restore self.old rowid row) }
+        ensures rows { IfOk result (λ _. self.new ≡ restored self.old rowid row) }
+        ensures err { OnErr result (self.new ≡ self.old) }
     {
-        Rows { list, top }
+        if !self.can_restore(rowid, &row) {
+            return Ok(false);
+        }
+        self.put(alloc, rowid, row)?;
+        Ok(true)
+    }
+
+    fn can_restore(&self, rowid: u64, row: &Row) -> bool
+        ensures { result ≡ can_restore self.now rowid row.now }
+    {
+        rowid > 0
+            && rowid <= self.top
+            && self.index.is_above(rowid)
+            && self.index.get(row.name.as_slice()).is_none()
     }
 
     /// Puts the row in, under the next number, where the present row of its name doesn't count as much; that one is gone.
     /// It answers whether it did so.
     ///
     /// After [`NoMemory`] the rows are what they were.
-    pub fn merge(&mut self, _alloc: Global, row: Row) -> Result<bool, NoMemory>
+    pub fn merge(&mut self, alloc: Global, row: Row) -> Result<bool, NoMemory>
         requires { IsTrue (fits (find_named self.old.list row.name) row) → self.old.top < 2 ^ 64 - 1 }
         ensures ok { IfOk result (λ changed. changed ≡ fits (find_named self.old.list row.name) row) }
         ensures rows { IfOk result (λ _. self.new ≡ merged self.old row) }
@@ -65,17 +95,33 @@ impl Rows {
         if !self.takes(&row) {
             return Ok(false);
         }
-        let rowid = self.top + 1;
-        replace(&mut self.list, Numbered { rowid, row })?;
-        self.top = rowid;
+        self.put(alloc, self.top + 1, row)?;
         Ok(true)
+    }
+
+    /// Puts the row behind all others under this number, and takes away the one that had its name.
+    fn put(&mut self, alloc: Global, rowid: u64, row: Row) -> Result<(), NoMemory>
+        requires positive { 0 < rowid }
+        requires above { All (λ n. n.rowid < rowid) self.old.list }
+        ensures list { OnOk result (self.new.list ≡ without row.name self.old.list ++ record { rowid = rowid; row = row } ∷ []) }
+        ensures top { OnOk result (self.new.top ≡ max self.old.top rowid) }
+        ensures err { OnErr result (self.new ≡ self.old) }
+    {
+        let _ = self.index.len();
+        let with = self.sums.with(&row);
+        self.sums = match self.index.put(alloc, rowid, row)? {
+            Some(gone) => with.without(&gone),
+            None => with,
+        };
+        self.top = self.top.max(rowid);
+        Ok(())
     }
 
     /// Whether a row would be put in: no row of its name counts as much.
     pub fn takes(&self, row: &Row) -> bool
         ensures { result ≡ fits (find_named self.now.list row.now.name) row.now }
     {
-        match find(&self.list, row.name.as_slice()) {
+        match self.index.get(row.name.as_slice()) {
             Some(present) => !present.is_at_least(row),
             None => true,
         }
@@ -85,7 +131,14 @@ impl Rows {
     pub fn get(&self, name: &[u8]) -> Option<&Row>
         ensures { option_copied result ≡ find_named self.now.list name.now }
     {
-        find(&self.list, name)
+        self.index.get(name)
+    }
+
+    /// The number (ROWID) of the row of this name.
+    pub fn number_of(&self, name: &[u8]) -> Option<u64>
+        ensures { result ≡ number_named self.now.list name.now }
+    {
+        self.index.number_of(name)
     }
 
     /// All rows with their numbers, in the order of these.
@@ -93,7 +146,23 @@ impl Rows {
         ensures rows { rows_left result ≡ self.now.list }
         ensures rule { IsListed self.now }
     {
-        RowsIter { left: &self.list }
+        self.index.iter()
+    }
+
+    /// The rows whose names lie at or above the one bound and below the other, in byte order of their names, or [`NoMemory`].
+    ///
+    /// Its time grows with the logarithm of the number of rows, and so does that of the first row that is taken; each further
+    /// one costs the look for its number.
+    pub fn between(
+        &self,
+        alloc: Global,
+        lower: &[u8],
+        upper: &[u8],
+    ) -> Result<NamedRows<'_>, NoMemory>
+        ensures rows { IfOk result (λ rows. ListsBetween lower.now upper.now self.now.list rows) }
+        ensures rule { IsListed self.now }
+    {
+        self.index.between(alloc, lower, upper)
     }
 
     /// The greatest number given out; 0 where there is none.
@@ -108,21 +177,21 @@ impl Rows {
     pub fn hash(&self) -> u128
         ensures { result ≡ hash_of self.now.list }
     {
-        hash(&self.list)
+        self.sums.hash
     }
 
     /// How many rows are live.
     pub fn count(&self) -> u64
         ensures { result ≡ count_of self.now.list }
     {
-        count(&self.list)
+        self.sums.count
     }
 
     /// How many bytes the live objects have together, at most 2^64 - 1.
     pub fn bytes(&self) -> u64
         ensures { result ≡ bytes_of self.now.list }
     {
-        bytes(&self.list)
+        self.sums.capped_bytes()
     }
 
     /// Rows that are equal to these, or [`NoMemory`].
@@ -130,8 +199,9 @@ impl Rows {
         ensures { IfOk result (λ copy. copy ≡ self.now) }
     {
         Ok(Rows {
-            list: Numbered::copy_all(alloc, &self.list)?,
+            index: self.index.copy(alloc)?,
             top: self.top,
+            sums: self.sums,
         })
     }
 }

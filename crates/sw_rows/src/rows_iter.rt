@@ -1,12 +1,10 @@
-ghost use Rattle.std.specs.Prelude.{◌≡◌};
-
-use crate::numbered::Numbered;
 use crate::row::Row;
+use std::collections::btree_map::Iter;
 
 /// The rows with their numbers, in the order of these: what [`crate::Rows::iter`] gives.
-#[derive(Clone, Copy, Debug)]
+#[derive(Debug, Drop)]
 pub struct RowsIter<'a> {
-    pub(crate) left: &'a [Numbered],
+    pub(crate) entries: Iter<'a, u64, Row>,
 }
 
 impl<'a> Iterator for RowsIter<'a> {
@@ -20,12 +18,9 @@ impl<'a> Iterator for RowsIter<'a> {
     ghost remaining = { item_count rows_left };
 
     fn next(&mut self) -> Option<(u64, &'a Row)> {
-        match self.left {
-            [] => None,
-            [first, rest @ ..] => {
-                self.left = rest;
-                Some((first.rowid, &first.row))
-            }
+        match self.entries.next() {
+            Some((rowid, row)) => Some((*rowid, row)),
+            None => None,
         }
     }
 }
