@@ -10,7 +10,7 @@ use Rattle.atomic_table.specs.Table.{Final, Seen, opening}
 use Rattle.sw_turn.specs.declared.booked.Book.{Book}
 use Rattle.sw_turn.specs.declared.booked.Known.{Known}
 use Rattle.sw_turn.specs.declared.booked.View.{View}
-use Rattle.sw_turn.specs.Known.{times, below, Grows, Tells, taken_in, nothing}
+use Rattle.sw_turn.specs.Known.{below, Grows, Tells, taken_in, nothing}
 use Rattle.sw_turn.specs.Rule.{opened, OwnsAll, Fits, SomeInTurn, Kept}
 use Rattle.sw_turn.proofs.Totals.{times_replicate, length-below}
 use Rattle.sw_turn.proofs.Views.{not_none, same_place}

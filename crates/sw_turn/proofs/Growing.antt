@@ -8,7 +8,7 @@ use borrow.Author.Tests.{leb-true, leb-false}
 use Rattle.sw_turn.specs.declared.booked.Book.{Book}
 use Rattle.sw_turn.specs.declared.booked.Known.{Known}
 use Rattle.sw_turn.specs.declared.booked.Part.{Part}
-use Rattle.sw_turn.specs.Known.{total, hit, times, Grows, GoesOn, taken_in, later, AreParts}
+use Rattle.sw_turn.specs.Known.{hit, times, Grows, GoesOn, taken_in, later, AreParts}
 use Rattle.sw_turn.specs.Rule.{Lives}
 use Rattle.sw_turn.proofs.Totals.{total_append, times_here, times_replicate}
 

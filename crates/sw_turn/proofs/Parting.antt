@@ -1,5 +1,5 @@
 -- A pass that is split in two, and two that are joined, keep the rule.
-use Rattle.std.proofs.Common.{◌≡◌, ◌≢◌, ◌⊎◌, ℕ, suc, ◌+◌, ◌≤◌, eqb, true, false, true≢false, List, [], ◌∷◌, ◌++◌, length, set, sym, refl}
+use Rattle.std.proofs.Common.{◌≡◌, ◌≢◌, ◌⊎◌, ℕ, suc, ◌+◌, ◌≤◌, eqb, false, true≢false, List, [], ◌∷◌, ◌++◌, length, set, sym, refl}
 use Rattle.std.proofs.Common.{Option, None, ap, ◌∙◌, subst, arith, inl, inr, ⊎_elim}
 use mathlib.Core.Option.{some}
 use mathlib.Core.Logic.{dite}
