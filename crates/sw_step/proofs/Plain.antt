@@ -8,7 +8,8 @@ use Rattle.sw_step.specs.Plain.{CanMake, CanRefuse, CanStop, IsReady, with_journ
 use Rattle.sw_step.specs.Rules.{Damages, Ending, Fails, Makes, Refuses, RulesOf}
 use Rattle.sw_step.specs.Steps.{Answers, EndsSeen}
 
-module _ {K V E C A : Type 0} (r : RulesOf K V E C A) (h before : StepHistory K V E) (s : K → V) (key : K) (change : C) (ready : IsReady r h before s key change)
+module _ {K V E C A : Type 0} (r : RulesOf K V E C A) (h before : StepHistory K V E) (s : K → V) (key : K) (change : C)
+    (ready : IsReady r h before s key change)
   where
     before-grows : GrowsOf h before
     before-grows = record {

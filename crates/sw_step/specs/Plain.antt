@@ -33,7 +33,8 @@ module _ {K V E C A : Type 0} (r : RulesOf K V E C A) where
   -- it stops at any of its changes, whose call failed: with the change or without it
   abbrev pub CanStop : Type 0
   CanStop = (h before : StepHistory K V E) (s : K → V) (key : K) (change : C) (answer : A) (first : List (List E)) (here : List E) (behind : List (List E))
-      (was : Bool) → IsReady h before s key change → r.refusal (s key) key change ≡ None → r.has_room before.journal (s key) (r.entries_for (s key) key change) ≡ true
+      (was : Bool) → IsReady h before s key change → r.refusal (s key) key change ≡ None
+      → r.has_room before.journal (s key) (r.entries_for (s key) key change) ≡ true
       → r.ending answer ≡ Fails → r.changes_for (s key) key change ≡ first ++ here ∷ behind
       → StepChanges r true h s key change answer
       (with_journal before (record before.journal { entries = before.journal.entries ++ flat first; doubts = before.journal.doubts ++ here ∷ [] })
