@@ -1,0 +1,4 @@
+pub mod Flat
+pub mod Settlings
+pub mod Singles
+pub mod Words

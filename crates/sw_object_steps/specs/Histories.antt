@@ -1,0 +1,70 @@
+-- One step at one object lock by its rules, and how its histories are told by those words in which a doubt is one entry and a value a state. (This
+-- project's own.)
+use Rattle.std.specs.Prelude.{Bool, true, [], ◌∷◌, map, Result, Ok, Err}
+use Rattle.std.specs.Str.{bytes_eq}
+use Rattle.sw_hashpath.specs.declared.name.Name.{Name}
+use Rattle.sw_peer.specs.Histories.{History}
+use Rattle.sw_peer.specs.Journals.{Hash, Journal, Shows}
+use Rattle.sw_peer.specs.declared.answer.Answer.{Answer}
+use Rattle.sw_peer.specs.declared.change.Change.{Change}
+use Rattle.sw_peer.specs.declared.dir_fault.DirFault.{DirFault}
+use Rattle.sw_peer.specs.declared.dir_fault.DirFault.TheVariants as faults
+use Rattle.sw_peer.specs.declared.got.Got.{Got}
+use Rattle.sw_peer.specs.declared.got.Got.TheVariants as gots
+use Rattle.sw_state.specs.declared.state.State.{State}
+use Rattle.sw_step.specs.Steps.{IsDamaged, IsLost, IsWanting, Look, StepChanges, StepReads, Tells}
+use Rattle.sw_object_steps.specs.Rules.{ObjHistory, ObjJournal, Writes, flat_journal, obj_rules}
+use Rattle.sw_object_steps.specs.Values.{ObjValue, bare}
+
+-- ---- steps
+
+-- a step that may change what stands under a name
+abbrev pub ChangesObject : Bool → ObjHistory → (Hash → ObjValue) → Name → Change → Answer → ObjHistory → ObjValue → Type 0
+ChangesObject alone h s name change answer g t = StepChanges obj_rules alone h s name.hash (Writes name change) answer g t
+
+-- how a read ended
+abbrev pub got_look : Got → Look
+got_look (gots.Found time content heads front) = Tells
+got_look (gots.NotFound time) = Tells
+got_look (gots.Damaged bad) = IsDamaged
+got_look gots.Failed = IsLost
+got_look gots.NoMemory = IsWanting
+
+-- a step that reads what stands under a hash: where the lock is told, the answer is that of one value
+abbrev pub ReadsObject : Bool → ObjHistory → Hash → Got → ObjHistory → (Hash → ObjValue) → Type 0
+ReadsObject alone h hash got g t =
+    StepReads obj_rules alone h (λ key. bytes_eq key hash) (λ doubt. true) got_look (λ read front x. Shows g.told (read hash).state front x) got g t
+
+module _ {A : Type 0} where
+  abbrev pub part_look : Result A DirFault → Look
+  part_look (Ok got) = Tells
+  part_look (Err (faults.Damaged bad)) = IsDamaged
+  part_look (Err faults.Failed) = IsLost
+  part_look (Err faults.NoMemory) = IsWanting
+
+  -- the answer is right of these states
+  abbrev pub IsGiven : ((Hash → State) → A → Type 0) → (Hash → ObjValue) → Result A DirFault → Type 0
+  IsGiven reading read (Ok got) = reading (λ hash. (read hash).state) got
+  IsGiven reading read (Err fault) = ⊥
+
+  -- a step that reads these hashes of a partition, where `reading` tells which answers are right
+  abbrev pub ReadsPart : Bool → ObjHistory → (Hash → Bool) → ((Hash → State) → A → Type 0) → Result A DirFault → ObjHistory → (Hash → ObjValue) → Type 0
+  ReadsPart alone h at reading got g t =
+      StepReads obj_rules alone h at (λ doubt. true) part_look (λ read front x. IsGiven reading read x) got g t
+
+-- ---- the words in which a doubt is one entry, and a value a state
+
+abbrev pub flat_history : ObjHistory → History
+flat_history h = record { told = h.told; opening = λ hash. (h.opening hash).state; journal = flat_journal h.journal; faults = h.faults }
+
+-- each doubt is a change of its own
+abbrev pub single_journal : Journal → ObjJournal
+single_journal j = record {
+  entries = j.entries;
+  doubts = map (λ entry. entry ∷ []) j.doubts;
+  max_entries = j.max_entries;
+  max_bytes = j.max_bytes;
+}
+
+abbrev pub single_history : History → ObjHistory
+single_history h = record { told = h.told; opening = λ hash. bare (h.opening hash); journal = single_journal h.journal; faults = h.faults }

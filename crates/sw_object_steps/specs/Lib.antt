@@ -1,0 +1,4 @@
+pub mod Values
+pub mod Rules
+pub mod Histories
+pub mod Laws

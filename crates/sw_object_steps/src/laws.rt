@@ -1,0 +1,23 @@
+//! Laws of steps at objects. Each function does nothing: its clause is the law.
+
+ghost use Rattle.sw_object_steps.specs.Laws.{ChangesAreFlat, ObjectsAreRules, ReadsAreFlat, SinglesAreFlat};
+
+/// The rules of objects are rules.
+pub fn objects_are_rules()
+    ensures { ObjectsAreRules }
+{}
+
+/// A step by the rules is one over flat histories and states.
+pub fn changes_are_flat()
+    ensures { ChangesAreFlat }
+{}
+
+/// So is a read of a name.
+pub fn reads_are_flat()
+    ensures { ReadsAreFlat }
+{}
+
+/// A history whose doubts are each a change of its own is told flat as it was.
+pub fn singles_are_flat()
+    ensures { SinglesAreFlat }
+{}
