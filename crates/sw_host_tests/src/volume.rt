@@ -255,3 +255,29 @@ fn a_put_that_fails_leaves_the_old_file_or_the_new_one(rt: HostRuntime) -> Resul
     }
     end_folder(&rt, &root)
 }
+
+/// Calls that find nothing, or write: over a folder that is gone none of them is answered.
+const ANYWHERE: [Call; 4] = [
+    List(b"objects", &[], &[]),
+    Read(b"objects/0", b"power", None),
+    Unlink(b"objects/0", b"power"),
+    Put(b"objects/0", b"power", b"3"),
+];
+
+#[test]
+fn a_volume_whose_folder_is_gone_fails_until_it_is_back(rt: HostRuntime) -> Result<(), Fail> {
+    let alloc = rt.alloc();
+    let root = fresh_folder(&rt, "gone")?;
+    let elsewhere = format!(in alloc; "{root}-elsewhere")?;
+    let mut volume = HostVolume::open(&rt, root.clone()?)?;
+    assert_eq!(rt; first_other(alloc, &mut volume, &CALLS, Ok(true)), None);
+    fs::rename(&rt, root.as_str(), elsewhere.as_str())?;
+    let failed = Err(VolumeError::Failed);
+    assert_eq!(rt; first_other(alloc, &mut volume, &ANYWHERE, failed), None);
+    fs::rename(&rt, elsewhere.as_str(), root.as_str())?;
+    assert_eq!(rt;
+        first_other(alloc, &mut volume, &CALLS_LATER, Ok(true)),
+        None
+    );
+    end_folder(&rt, &root)
+}

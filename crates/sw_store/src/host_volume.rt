@@ -152,8 +152,7 @@ fn listing<R: Files + AllocGlobal>(rt: &R, root: &str, dir: &[u8]) -> io::Result
                 add(&mut files, &mut folders, entry)?;
             }
         }
-        Err(error) if error.kind() == ErrorKind::NotFound => {}
-        Err(error) => return Err(error),
+        Err(error) => or_gone(rt, root, error)?,
     }
     Ok(Listing {
         files: in_order(files)?,
@@ -212,8 +211,10 @@ fn contents<R: Files + AllocGlobal>(
     let path = file_path(folder.as_str(), file)?;
     match fs::read(rt, path.as_str()) {
         Ok(bytes) => Ok(Some(Bytes::from(bytes))),
-        Err(error) if error.kind() == ErrorKind::NotFound => Ok(None),
-        Err(error) => Err(error),
+        Err(error) => {
+            or_gone(rt, root, error)?;
+            Ok(None)
+        }
     }
 }
 
@@ -263,7 +264,16 @@ fn unlink<R: Files>(rt: &R, root: &str, dir: &[u8], file: &[u8]) -> io::Result<(
     let path = file_path(folder.as_str(), file)?;
     match fs::remove_file(rt, path.as_str()) {
         Ok(()) => sync(rt, folder.as_str()),
-        Err(error) if error.kind() == ErrorKind::NotFound => Ok(()),
-        Err(error) => Err(error),
+        Err(error) => or_gone(rt, root, error),
     }
+}
+
+/// Whether what a call didn't find may simply not be there. Where the volume's own folder is gone, as that of a disk that isn't mounted, nothing is known of
+/// its files, and the call has failed.
+fn or_gone<R: Files>(rt: &R, root: &str, error: io::Error) -> io::Result<()> {
+    if error.kind() != ErrorKind::NotFound {
+        return Err(error);
+    }
+    fs::metadata(rt, root)?;
+    Ok(())
 }
