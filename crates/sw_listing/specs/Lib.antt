@@ -3,3 +3,4 @@ pub mod Entries
 pub mod Listing
 pub mod Queries
 pub mod Showing
+pub mod Walking

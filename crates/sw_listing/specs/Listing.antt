@@ -2,7 +2,8 @@
 -- folders"; that a rolled-up entry which is the marker itself is left out is this project's own.)
 --
 -- Names are rolled up before they are ordered, and equal entries are one. That is the same as to order the names, to roll
--- each up and to take equal neighbours together, since rolling up keeps the order of names.
+-- each up and to take equal neighbours together, since rolling up keeps the order of names: `rolled_in_order` of
+-- `proofs/Rolls.antt`, on which the walk of `list` stands.
 use Rattle.std.specs.Prelude.{ℕ, Bool, not, ◌&&◌, if◌then◌else◌, List, [], fold, length, reverse, take, Option, None, Some}
 use Rattle.std.specs.BTreeMap.{insert_entry}
 use Rattle.std.specs.Cmp.Lexicographic.{slice_cmp}

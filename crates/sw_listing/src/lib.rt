@@ -16,8 +16,10 @@ mod query;
 mod reading;
 mod rolled;
 mod shown;
+mod span;
 mod text;
 mod texts;
+mod walking;
 
 pub use bad_query::BadQuery;
 pub use entry::{Entries, Entry};

@@ -43,7 +43,7 @@ fn roll_up_at<'a>(name: &'a [u8], behind: usize, delimiter: u8) -> Option<Rolled
 }
 
 /// How many bytes of the name are up to and with the first delimiter behind so many.
-fn rolled_size(name: &[u8], behind: usize, delimiter: u8) -> Option<usize>
+pub(crate) fn rolled_size(name: &[u8], behind: usize, delimiter: u8) -> Option<usize>
     requires { behind ≤ length name.now }
     ensures size { result ≡ rolled_size delimiter behind name.now }
     ensures within { IfSome result (λ size. (0 < size) × (size ≤ length name.now) × (slice_index name.now (size - 1) ≡ delimiter)) }

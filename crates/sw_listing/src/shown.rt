@@ -1,10 +1,9 @@
-ghost use Rattle.std.specs.Prelude.{◌≡◌, List, map, IfOk, true, ◌≤◌, length};
+ghost use Rattle.std.specs.Prelude.{◌≡◌, IfOk, true, ◌≤◌, length};
 ghost use Rattle.std.specs.Option.{option_map};
 ghost use Rattle.std.specs.Str.{IsUtf8};
 ghost use Rattle.sw_listing.specs.Asking.{is_asked};
-ghost use Rattle.sw_listing.specs.Entries.{entry_text};
 ghost use Rattle.sw_listing.specs.Listing.{shows};
-ghost use Rattle.sw_listing.specs.Showing.{shown_entry, shown_entries};
+ghost use Rattle.sw_listing.specs.Showing.{shown_entry};
 
 use crate::entry::Entry;
 use crate::query::Query;
@@ -22,16 +21,7 @@ pub(crate) enum Shown<'a> {
 }
 
 impl<'a> Shown<'a> {
-    pub(crate) fn text(&self) -> &'a [u8]
-        ensures { result.now ≡ entry_text (shown_entry self.now) }
-    {
-        match self {
-            Shown::Row(row) => row.name.as_slice(),
-            Shown::Subdir(rolled) => rolled.text,
-        }
-    }
-
-    fn copy(&self, alloc: Global) -> Result<Entry, NoMemory>
+    pub(crate) fn copy(&self, alloc: Global) -> Result<Entry, NoMemory>
         ensures { IfOk result (λ entry. entry ≡ shown_entry self.now) }
     {
         Ok(match self {
@@ -57,15 +47,4 @@ pub(crate) fn show<'a>(query: &Query, row: &'a Row) -> Option<Shown<'a>>
         Some(rolled) if rolled.text == query.marker.as_slice() => None,
         Some(rolled) => Some(Shown::Subdir(rolled)),
     }
-}
-
-/// The entries themselves, in their order.
-pub(crate) fn copies(alloc: Global, shown: &[&Shown]) -> Result<Vec<Entry>, NoMemory>
-    ensures { IfOk result (λ entries. entries.items ≡ shown_entries shown.now) }
-{
-    let mut entries = Vec::with_capacity(alloc, shown.len())?;
-    for one in shown {
-        entries.push(one.copy(alloc)?)?;
-    }
-    Ok(entries)
 }
