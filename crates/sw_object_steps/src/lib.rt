@@ -5,7 +5,7 @@
 //! and what follows of any rules follows here. [`laws`] has that these are rules, and that such a step is one in the words of `sw_peer` too, in which
 //! a doubt is one entry and a value a state.
 //!
-//! The next layer up is `sw_journal`, the journal of an object lock, and `sw_objdir`, the lock itself.
+//! No lock promises its steps in these words yet: `sw_objdir` does so in those of `sw_peer`.
 #![tactic(auto)]
 
 pub mod laws;
