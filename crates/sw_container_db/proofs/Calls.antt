@@ -3,7 +3,7 @@ use Rattle.std.proofs.Common.{◌≡◌, ◌≢◌, ℕ, ◌≤◌, Bool, true, 
 use Rattle.std.proofs.Common.{inr, Result, Ok, Err}
 use Rattle.sw_hashpath.specs.declared.place.Place.{Place}
 use Rattle.sw_outside.specs.Counts.{raised}
-use Rattle.sw_rows.specs.declared.tables.Tables.{Tables}
+use Rattle.sw_keeper.specs.declared.tables.Tables.{Tables}
 use Rattle.sw_rows.specs.Sums.{bytes_of, count_of, hash_of}
 use Rattle.sw_listing.specs.Listing.{listing}
 use Rattle.sw_listing.specs.declared.entry.Entry.{Entry}

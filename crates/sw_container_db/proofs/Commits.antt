@@ -1,7 +1,7 @@
 -- What a commit of the batch of a step makes, told by the tables that were read before it.
 use Rattle.std.proofs.Common.{◌≡◌, ◌≢◌, ℕ, List, [], Option, Some, None, IsSome, IfSome, sym, ◌∙◌, ap, subst, ◌⊎◌, inl, inr}
 use Rattle.sw_hashpath.specs.declared.place.Place.{Place}
-use Rattle.sw_rows.specs.declared.tables.Tables.{Tables}
+use Rattle.sw_keeper.specs.declared.tables.Tables.{Tables}
 use Rattle.sw_keeper.specs.Changes.{IsBatch, all_changed}
 use Rattle.sw_keeper.specs.Keeping.{Changes, Holdings, IsSame, MayChange}
 use Rattle.sw_keeper.specs.declared.batch.Change.{Change}

@@ -3,7 +3,7 @@ use Rattle.std.proofs.Common.{◌≡◌, ◌≢◌, ℕ, Bool, true, false, cond
 use Rattle.std.specs.Str.{bytes_eq}
 use Rattle.std.proofs.lemmas.Slice.Eq.{bytes_eq-Decides}
 use Rattle.sw_hashpath.specs.declared.place.Place.{Place}
-use Rattle.sw_rows.specs.declared.tables.Tables.{Tables}
+use Rattle.sw_keeper.specs.declared.tables.Tables.{Tables}
 use Rattle.sw_container_steps.specs.Entries.{about, all_entered, entered, is_same_place, place_in}
 use Rattle.sw_container_steps.specs.declared.cont_entry.ContEntry.{ContEntry}
 

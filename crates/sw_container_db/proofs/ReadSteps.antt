@@ -1,7 +1,7 @@
 -- A read of one container, over what was seen of it once its tables were loaded.
 use Rattle.std.proofs.Common.{◌≡◌, ℕ, Bool, true, [], length, Option, Some, sym, ◌∙◌, ap, Result, Err}
 use Rattle.sw_hashpath.specs.declared.place.Place.{Place}
-use Rattle.sw_rows.specs.declared.tables.Tables.{Tables}
+use Rattle.sw_keeper.specs.declared.tables.Tables.{Tables}
 use Rattle.sw_history.specs.Halves.{GrowsOf}
 use Rattle.sw_container_steps.specs.Histories.{OnlySettlesCont, cont_stands}
 use Rattle.sw_container_steps.specs.declared.cont_answer.ContAnswer.{ContAnswer}

@@ -3,7 +3,7 @@
 use Rattle.std.specs.Prelude.{◌≡◌, ℕ, zero, suc, ◌≤◌, Bool, true, false, if◌then◌else◌, List, [], ◌∷◌, Option, None, Some, ◌⊎◌, Result, Ok, Err}
 use Rattle.sw_hashpath.specs.declared.place.Place.{Place}
 use Rattle.sw_outside.specs.Counts.{raised}
-use Rattle.sw_rows.specs.declared.tables.Tables.{Tables}
+use Rattle.sw_keeper.specs.declared.tables.Tables.{Tables}
 use Rattle.sw_container_steps.specs.Entries.{is_same_place}
 use Rattle.sw_container_steps.specs.Steps.{entries_for}
 use Rattle.sw_container_steps.specs.declared.cont_answer.ContAnswer.{ContAnswer}

@@ -1,7 +1,7 @@
 -- What contracts see of the containers of one lock: a keeper, and the journal of what was done with it. (This project's own.)
 use Rattle.std.specs.Prelude.{◌≡◌, ◌≢◌, ℕ, Bool, true, List, [], Option, None, Some, ◌⊎◌, ⊤}
 use Rattle.sw_hashpath.specs.declared.place.Place.{Place}
-use Rattle.sw_rows.specs.declared.tables.Tables.{Tables}
+use Rattle.sw_keeper.specs.declared.tables.Tables.{Tables}
 use Rattle.sw_container_steps.specs.Entries.{about, all_entered}
 use Rattle.sw_container_steps.specs.Histories.{ContHistory, cont_stands}
 use Rattle.sw_container_steps.specs.Journals.{ContJournal}

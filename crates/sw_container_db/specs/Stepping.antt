@@ -1,7 +1,7 @@
 -- What a step at the containers of a lock is: one of its lock, by the relations that every door of container nodes uses. (This project's own.)
 use Rattle.std.specs.Prelude.{◌≡◌, ◌≢◌, ℕ, Bool, true, List, ◌++◌, Option, Result}
 use Rattle.sw_hashpath.specs.declared.place.Place.{Place}
-use Rattle.sw_rows.specs.declared.tables.Tables.{Tables}
+use Rattle.sw_keeper.specs.declared.tables.Tables.{Tables}
 use Rattle.sw_container_steps.specs.Histories.{ContStepChanges, ContStepReads}
 use Rattle.sw_container_steps.specs.declared.cont_answer.ContAnswer.{ContAnswer}
 use Rattle.sw_container_steps.specs.declared.cont_change.ContChange.{ContChange}

@@ -15,8 +15,7 @@ use std::alloc::Global;
 use std::mem;
 use sw_container_steps::ContAnswer;
 use sw_hashpath::Place;
-use sw_keeper::{Keeper, KeeperError};
-use sw_rows::Tables;
+use sw_keeper::{Keeper, KeeperError, Tables};
 
 /// The tables of a place, as the keeper holds them.
 #[derive(Debug, Drop)]

@@ -9,10 +9,9 @@ use crate::loading::tables_in;
 use std::alloc::Global;
 use sw_container_steps::{ContAnswer, Info, info_of, list, times_of};
 use sw_hashpath::Place;
-use sw_keeper::Keeper;
+use sw_keeper::{Keeper, Tables};
 use sw_listing::{Entries, Query};
 use sw_outside::NoMemory;
-use sw_rows::Tables;
 use sw_timestamp::Timestamp;
 
 /// Reads of one container. Each settles the doubt where there is one, loads the container's tables where they aren't loaded, and

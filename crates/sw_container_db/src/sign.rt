@@ -3,7 +3,7 @@ ghost use Rattle.sw_container_steps.specs.Laws.{sign_of};
 
 use sw_container_steps::ContEntry;
 use sw_hashpath::Place;
-use sw_rows::Tables;
+use sw_keeper::Tables;
 use sw_timestamp::Timestamp;
 
 /// The times of a container, and the greatest number given out: what every batch changes.

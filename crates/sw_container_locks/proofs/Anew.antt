@@ -7,7 +7,7 @@ use Rattle.std.proofs.lemmas.Option.{slice_get_within}
 use Rattle.sw_container_db.specs.ContDirs.{ContKept}
 use Rattle.sw_hashpath.specs.declared.place.Place.{Place}
 use Rattle.sw_history.specs.Halves.{HalfRestarts}
-use Rattle.sw_rows.specs.declared.tables.Tables.{Tables}
+use Rattle.sw_keeper.specs.declared.tables.Tables.{Tables}
 use Rattle.sw_container_locks.proofs.Lists.{at-set_other, at-set_same, some-same}
 use Rattle.sw_container_locks.proofs.Placed.{held, held-told, seen, was-told}
 use Rattle.sw_container_locks.specs.Halves.{half_of}

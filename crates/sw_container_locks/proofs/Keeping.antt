@@ -12,7 +12,7 @@ use Rattle.sw_container_db.specs.ContDirs.{ContKept}
 use Rattle.sw_container_db.specs.Stepping.{IsSameDir}
 use Rattle.sw_container_steps.specs.declared.cont_entry.ContEntry.{ContEntry}
 use Rattle.sw_hashpath.specs.declared.place.Place.{Place}
-use Rattle.sw_rows.specs.declared.tables.Tables.{Tables}
+use Rattle.sw_keeper.specs.declared.tables.Tables.{Tables}
 use Rattle.sw_container_locks.proofs.Lists.{at-set_other, at-set_same, found, none-some, some-same, there-is}
 use Rattle.sw_container_locks.specs.Making.{taken}
 use Rattle.sw_container_locks.specs.Slots.{AreLifted, AreLocks, AreSetDown, HasRoom, IsLock, IsOpen, begun, opened}

@@ -18,7 +18,7 @@ use Rattle.sw_peer.specs.ContSights.{IsIn}
 use Rattle.sw_peer.specs.declared.cont_event.ContEvent.{ContEvent}
 use Rattle.sw_peer.specs.declared.line.Line.{Line}
 use Rattle.sw_peer.specs.declared.link.Link.{Link}
-use Rattle.sw_rows.specs.declared.tables.Tables.{Tables}
+use Rattle.sw_keeper.specs.declared.tables.Tables.{Tables}
 use Rattle.sw_container_locks.proofs.Lists.{at-set_other, at-set_same}
 use Rattle.sw_container_locks.specs.Halves.{cont_held_of, cont_seen_of, half_of}
 use Rattle.sw_container_locks.specs.Laws.{ChangeMoves, ChangesAtLock, HasLocks, IsOfDevice, LiftingRestarts, ReadMoves, ReadsAtLock}

@@ -10,7 +10,7 @@ use Rattle.sw_peer.specs.declared.cont_event.ContEvent.{ContEvent}
 use Rattle.sw_peer.specs.declared.cont_event.ContEvent.TheVariants.{Changed}
 use Rattle.sw_peer.specs.declared.line.Line.{Line}
 use Rattle.sw_peer.specs.declared.link.Link.{Link}
-use Rattle.sw_rows.specs.declared.tables.Tables.{Tables}
+use Rattle.sw_keeper.specs.declared.tables.Tables.{Tables}
 use Rattle.sw_container_locks.specs.Halves.{half_of}
 use Rattle.sw_container_locks.specs.Making.{IsChangedAt, IsReadAt, line_of}
 use Rattle.sw_container_locks.specs.Slots.{AreSetDown, Lifts}

@@ -13,7 +13,7 @@ use Rattle.sw_peer.specs.declared.cont_event.ContEvent.TheVariants.{Changed}
 use Rattle.sw_peer.specs.declared.line.Event.TheVariants.{AtContainer}
 use Rattle.sw_peer.specs.declared.line.Line.{Line}
 use Rattle.sw_peer.specs.declared.link.Link.{Link}
-use Rattle.sw_rows.specs.declared.tables.Tables.{Tables}
+use Rattle.sw_keeper.specs.declared.tables.Tables.{Tables}
 use Rattle.sw_container_locks.specs.Slots.{IsLock}
 use Rattle.sw_container_locks.specs.declared.cont_slot.ContSlot.{ContSlot}
 use Rattle.sw_container_locks.specs.declared.cont_slot.ContSlot.TheVariants as slots

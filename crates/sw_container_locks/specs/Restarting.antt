@@ -4,7 +4,7 @@ use Rattle.std.specs.List.{slice_get}
 use Rattle.sw_container_db.specs.ContDirs.{ContKept}
 use Rattle.sw_hashpath.specs.declared.place.Place.{Place}
 use Rattle.sw_history.specs.Halves.{HalfRestarts}
-use Rattle.sw_rows.specs.declared.tables.Tables.{Tables}
+use Rattle.sw_keeper.specs.declared.tables.Tables.{Tables}
 use Rattle.sw_container_locks.specs.Halves.{half_of}
 use Rattle.sw_container_locks.specs.Laws.{HasLocks}
 use Rattle.sw_container_locks.specs.Slots.{AreLocks, IsOpen, begun}

@@ -25,7 +25,7 @@ use Rattle.sw_peer.specs.declared.line.Event.{Event}
 use Rattle.sw_peer.specs.declared.line.Event.TheVariants.{AtContainer, Changed, Listed, Read, ReadPart, Restarted}
 use Rattle.sw_rows.specs.Rows.{Listed as RowList, merged}
 use Rattle.sw_rows.specs.declared.row.Row.{Row}
-use Rattle.sw_rows.specs.declared.tables.Tables.{Tables}
+use Rattle.sw_keeper.specs.declared.tables.Tables.{Tables}
 use Rattle.sw_container_machine.specs.Laws.{AllTell, ContRunsJoin, RunMerges}
 use Rattle.sw_container_machine.specs.Machine.{ContMachine, ContMakes, ContReads, ContRestarts, ContRuns, ContSteps, made_rows, rows_in}
 

@@ -7,7 +7,7 @@ use Rattle.sw_container_steps.specs.declared.cont_change.ContChange.{ContChange}
 use Rattle.sw_hashpath.specs.declared.place.Place.{Place}
 use Rattle.sw_history.specs.Halves.{GrowsOf}
 use Rattle.sw_outside.specs.Faults.{HasRisen}
-use Rattle.sw_rows.specs.declared.tables.Tables.{Tables}
+use Rattle.sw_keeper.specs.declared.tables.Tables.{Tables}
 
 -- a change, from other histories and tables that are the same
 abbrev pub recast : (alone : Bool) (h i : ContHistory) (s u : Option Tables) (place : Place) (change : ContChange) (answer : ContAnswer) (g : ContHistory)

@@ -22,7 +22,7 @@ use Rattle.sw_peer.specs.declared.line.Event.TheVariants.{AtContainer, Changed, 
 use Rattle.sw_peer.specs.declared.line.Line.{Line}
 use Rattle.sw_peer.specs.declared.link.Link.{Link}
 use Rattle.sw_peer.specs.declared.link.Link.TheVariants.{Local}
-use Rattle.sw_rows.specs.declared.tables.Tables.{Tables}
+use Rattle.sw_keeper.specs.declared.tables.Tables.{Tables}
 use Rattle.sw_container_machine.proofs.Merging.{joins}
 use Rattle.sw_container_machine.proofs.Standing.{change_runs, read_runs, restart_runs}
 use Rattle.sw_container_machine.specs.Machine.{ContMachine, ContRuns, ContSteps}

@@ -12,7 +12,7 @@ use Rattle.sw_peer.specs.declared.cont_event.ContEvent.TheVariants as cont_event
 use Rattle.sw_peer.specs.declared.line.Event.{Event}
 use Rattle.sw_peer.specs.declared.line.Event.TheVariants.{AtContainer, Changed, Listed, Read, ReadPart, Restarted}
 use Rattle.sw_rows.specs.declared.row.Row.{Row}
-use Rattle.sw_rows.specs.declared.tables.Tables.{Tables}
+use Rattle.sw_keeper.specs.declared.tables.Tables.{Tables}
 use Rattle.sw_container_machine.specs.Laws.{RunTellsRows, all_rows_told, has_cont_failed, has_entered, is_failed, rows_told}
 use Rattle.sw_container_machine.specs.Machine.{ContMachine, ContSteps, made_rows, rows_in}
 

@@ -11,7 +11,7 @@ use Rattle.sw_peer.specs.declared.line.Event.TheVariants.{AtContainer, Changed, 
 use Rattle.sw_peer.specs.declared.line.Line.{Line}
 use Rattle.sw_rows.specs.Rows.{find_named, is_at_least, merged}
 use Rattle.sw_rows.specs.declared.row.Row.{Row}
-use Rattle.sw_rows.specs.declared.tables.Tables.{Tables}
+use Rattle.sw_keeper.specs.declared.tables.Tables.{Tables}
 use Rattle.sw_container_machine.specs.Machine.{ContMachine, ContRuns, rows_in}
 
 -- every lock tells what it holds

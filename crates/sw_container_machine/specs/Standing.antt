@@ -8,7 +8,7 @@ use Rattle.sw_peer.specs.Sights.{Restarts, Sight, cont_lock}
 use Rattle.sw_peer.specs.declared.cont_event.ContEvent.{ContEvent}
 use Rattle.sw_peer.specs.declared.line.Line.{Line}
 use Rattle.sw_peer.specs.declared.link.Link.{Link}
-use Rattle.sw_rows.specs.declared.tables.Tables.{Tables}
+use Rattle.sw_keeper.specs.declared.tables.Tables.{Tables}
 use Rattle.sw_container_machine.specs.Machine.{ContMachine, ContMakes, ContReads, ContRestarts, ContRuns}
 
 -- the devices hold the machine's tables, and their journals are the machine's; every keeper tells what it holds

@@ -22,7 +22,7 @@ use Rattle.sw_peer.specs.Sights.{Sight, cont_lock}
 use Rattle.sw_peer.specs.declared.cont_event.ContEvent.{ContEvent}
 use Rattle.sw_peer.specs.declared.cont_event.ContEvent.TheVariants.{Informed, Listed}
 use Rattle.sw_peer.specs.declared.link.Link.TheVariants.{Local}
-use Rattle.sw_rows.specs.declared.tables.Tables.{Tables}
+use Rattle.sw_keeper.specs.declared.tables.Tables.{Tables}
 use Rattle.sw_container_server.proofs.Looks.{came, look-moves}
 use Rattle.sw_container_server.specs.Laws.{LeavesHeld, LeavesObjects}
 use Rattle.sw_container_server.specs.Replies.{shows_time}

@@ -14,7 +14,7 @@ use Rattle.sw_keeper.specs.declared.batch.Change.TheVariants.{PutRow}
 use Rattle.sw_rows.specs.Rows.{find_named, fits, is_named, is_numbered, IsListed, IsNamedOnce, IsRising, merged, no_rows, with_row, without}
 use Rattle.sw_rows.specs.declared.numbered.Numbered.{Numbered}
 use Rattle.sw_rows.specs.declared.row.Row.{Row}
-use Rattle.sw_rows.specs.declared.tables.Tables.{Tables}
+use Rattle.sw_keeper.specs.declared.tables.Tables.{Tables}
 use Rattle.sw_rows.proofs.Merging.{listed-with_row}
 use Rattle.sw_rows.proofs.Named.{find-without, same_name, without-none}
 use Rattle.sw_container_steps.specs.Batches.{batch_for, changes_of, cut, replacement, row_changes}

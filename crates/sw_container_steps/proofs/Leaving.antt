@@ -7,7 +7,7 @@ use Rattle.sw_hashpath.specs.declared.place.Place.{Place}
 use Rattle.sw_keeper.specs.Changes.{begun}
 use Rattle.sw_rows.specs.Rows.{Listed, find_named, fits, merged, no_rows}
 use Rattle.sw_rows.specs.declared.row.Row.{Row}
-use Rattle.sw_rows.specs.declared.tables.Tables.{Tables}
+use Rattle.sw_keeper.specs.declared.tables.Tables.{Tables}
 use Rattle.sw_container_steps.specs.Entries.{all_entered, rows_of}
 use Rattle.sw_container_steps.specs.Laws.{RowsAreMerged}
 use Rattle.sw_container_steps.specs.Presence.{deletion_after, is_dotted, is_no_time, is_present}

@@ -8,7 +8,7 @@ use Rattle.sw_hashpath.specs.declared.place.Place.{Place}
 use Rattle.sw_rows.specs.Rows.{Listed, find_named, fits, merged, with_row}
 use Rattle.sw_rows.specs.Sums.{count_of}
 use Rattle.sw_rows.specs.declared.row.Row.{Row}
-use Rattle.sw_rows.specs.declared.tables.Tables.{Tables}
+use Rattle.sw_keeper.specs.declared.tables.Tables.{Tables}
 use Rattle.sw_container_steps.specs.Entries.{all_entered, rows_of}
 use Rattle.sw_container_steps.specs.Laws.{EntriesAreSeen, StepsHold, left, sign_of}
 use Rattle.sw_container_steps.specs.Presence.{deletion_after, is_dotted, is_no_time, is_present}

@@ -1,7 +1,7 @@
 -- What a step comes to over the tables that stand. (This project's own.)
 use Rattle.std.specs.Prelude.{◌≡◌, Option, None, Some}
 use Rattle.sw_hashpath.specs.declared.place.Place.{Place}
-use Rattle.sw_rows.specs.declared.tables.Tables.{Tables}
+use Rattle.sw_keeper.specs.declared.tables.Tables.{Tables}
 use Rattle.sw_container_steps.specs.Steps.{cont_refusal, entries_for}
 use Rattle.sw_container_steps.specs.declared.cont_change.ContChange.{ContChange}
 use Rattle.sw_container_steps.specs.declared.deciding.Decision.{Decision}

@@ -4,7 +4,7 @@ use Rattle.std.specs.Str.{bytes_eq}
 use Rattle.sw_hashpath.specs.declared.place.Place.{Place}
 use Rattle.sw_keeper.specs.Changes.{begun}
 use Rattle.sw_rows.specs.Rows.{Listed, merged, no_rows}
-use Rattle.sw_rows.specs.declared.tables.Tables.{Tables}
+use Rattle.sw_keeper.specs.declared.tables.Tables.{Tables}
 use Rattle.sw_container_steps.specs.declared.cont_entry.ContEntry.{ContEntry}
 use Rattle.sw_container_steps.specs.declared.cont_entry.ContEntry.TheVariants.{Created, Removed, Merged}
 

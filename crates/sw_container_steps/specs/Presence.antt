@@ -2,7 +2,7 @@
 -- put time; accounts that begin with `.` are its own hidden ones.)
 use Rattle.std.specs.Prelude.{ℕ, Bool, true, false, ◌==◌, nat_lt, List, [], ◌∷◌, Option, None, Some, if◌then◌else◌}
 use Rattle.sw_hashpath.specs.declared.place.Place.{Place}
-use Rattle.sw_rows.specs.declared.tables.Tables.{Tables}
+use Rattle.sw_keeper.specs.declared.tables.Tables.{Tables}
 
 -- a delete time that is later than the put time
 abbrev pub deletion_after : ℕ → Option ℕ → Option ℕ

@@ -6,7 +6,7 @@ use Rattle.sw_hashpath.specs.declared.place.Place.{Place}
 use Rattle.sw_rows.specs.Rows.{Listed, find_named, fits, merged}
 use Rattle.sw_rows.specs.Sums.{count_of}
 use Rattle.sw_rows.specs.declared.row.Row.{Row}
-use Rattle.sw_rows.specs.declared.tables.Tables.{Tables}
+use Rattle.sw_keeper.specs.declared.tables.Tables.{Tables}
 use Rattle.sw_container_steps.specs.Entries.{rows_of}
 use Rattle.sw_container_steps.specs.Presence.{deletion, deletion_after, is_dotted, is_no_time, is_present}
 use Rattle.sw_container_steps.specs.declared.cont_answer.ContAnswer.{ContAnswer}

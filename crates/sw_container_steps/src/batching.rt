@@ -7,9 +7,8 @@ ghost use Rattle.sw_rows.specs.Rows.{IsListed};
 use crate::cont_entry::ContEntry;
 use crate::entering::enter;
 use std::alloc::Global;
-use sw_keeper::Batch;
+use sw_keeper::{Batch, Tables};
 use sw_outside::NoMemory;
-use sw_rows::Tables;
 
 /// Entries as a keeper takes them: the batch of changes that makes them, and the tables after it.
 #[derive(Debug, Drop)]

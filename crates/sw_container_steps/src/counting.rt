@@ -2,7 +2,7 @@ ghost use Rattle.std.specs.Prelude.{◌≡◌, ◌+◌, ◌-◌, ◌^◌, ◌≤
 ghost use Rattle.sw_container_steps.specs.Entries.{is_merge, rows_in, top_of};
 
 use crate::cont_entry::ContEntry;
-use sw_rows::Tables;
+use sw_keeper::Tables;
 
 /// Whether the container has numbers (ROWIDs) for all rows that the entries put in.
 pub fn has_numbers(tables: &Option<Tables>, entries: &[ContEntry]) -> bool

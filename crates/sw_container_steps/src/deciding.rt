@@ -10,8 +10,8 @@ use crate::presence::is_present;
 use crate::refusing::refusal;
 use std::alloc::Global;
 use sw_hashpath::Place;
+use sw_keeper::Tables;
 use sw_outside::NoMemory;
-use sw_rows::Tables;
 
 /// What a step comes to.
 #[derive(Debug, Drop)]

@@ -5,9 +5,9 @@ ghost use Rattle.sw_rows.specs.Rows.{find_named, fits, merged};
 
 use crate::cont_entry::ContEntry;
 use std::alloc::Global;
-use sw_keeper::Change;
+use sw_keeper::{Change, Tables};
 use sw_outside::NoMemory;
-use sw_rows::{Row, Rows, Tables};
+use sw_rows::{Row, Rows};
 
 /// Enters an entry: gives the tables after it, and adds to the changes those that make it.
 pub(crate) fn enter(

@@ -10,8 +10,9 @@ use crate::refusing::creator;
 use std::alloc::Global;
 use std::slice;
 use sw_hashpath::Place;
+use sw_keeper::Tables;
 use sw_outside::NoMemory;
-use sw_rows::{Row, Tables};
+use sw_rows::Row;
 use sw_timestamp::Timestamp;
 
 /// The entries that a step adds where it isn't refused.

@@ -7,8 +7,9 @@ ghost use Rattle.sw_rows.specs.Rows.{find_named, fits};
 use crate::cont_entry::ContEntry;
 use std::alloc::Global;
 use sw_hashpath::Place;
+use sw_keeper::Tables;
 use sw_outside::NoMemory;
-use sw_rows::{Row, Rows, Tables};
+use sw_rows::{Row, Rows};
 
 /// The entries of the rows that are put in, each over those before it, behind these entries.
 ///

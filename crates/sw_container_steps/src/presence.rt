@@ -2,7 +2,7 @@ ghost use Rattle.std.specs.Prelude.{◌≡◌};
 ghost use Rattle.sw_container_steps.specs.Presence.{deletion, is_dotted, is_present};
 
 use sw_hashpath::Place;
-use sw_rows::Tables;
+use sw_keeper::Tables;
 use sw_timestamp::Timestamp;
 
 /// Whether the container is there: it was created, and its delete time isn't later than its put time.

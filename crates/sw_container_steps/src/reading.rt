@@ -5,9 +5,9 @@ use crate::cont_answer::ContAnswer;
 use crate::info::Info;
 use crate::presence::is_present;
 use std::alloc::Global;
+use sw_keeper::Tables;
 use sw_listing::{Entries, Query};
 use sw_outside::NoMemory;
-use sw_rows::Tables;
 use sw_timestamp::Timestamp;
 
 /// The put time and the delete time of a container, also of a deleted one; none where it was never created.

@@ -7,7 +7,8 @@ use crate::cont_change::ContChange;
 use crate::presence::{deletion, is_dotted, is_present};
 use std::slice;
 use sw_hashpath::Place;
-use sw_rows::{Row, Tables};
+use sw_keeper::Tables;
+use sw_rows::Row;
 use sw_timestamp::Timestamp;
 
 /// How what stands refuses the step; none where the step is made.

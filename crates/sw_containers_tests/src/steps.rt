@@ -6,8 +6,8 @@ use sw_container_steps::{
     made_answer, times_of,
 };
 use sw_hashpath::Place;
+use sw_keeper::Tables;
 use sw_outside::{Bytes, NoMemory};
-use sw_rows::Tables;
 use sw_timestamp::Timestamp;
 
 /// The MD5 of `o-0000000005.00000` as a number.

@@ -34,7 +34,7 @@ use Rattle.sw_peer.specs.Sights.{Calls, Sight}
 use Rattle.sw_peer.specs.declared.cont_event.ContEvent.{ContEvent}
 use Rattle.sw_peer.specs.declared.line.Line.{Line}
 use Rattle.sw_peer.specs.declared.link.Link.{Link}
-use Rattle.sw_rows.specs.declared.tables.Tables.{Tables}
+use Rattle.sw_keeper.specs.declared.tables.Tables.{Tables}
 use Rattle.sw_volume.specs.Tree.{Folders}
 use Rattle.sw_core.proofs.Anew.{apart-from}
 use Rattle.sw_core.proofs.Placed.{device-of, slice_get-set_other, slice_get-set_same, stripe-below}

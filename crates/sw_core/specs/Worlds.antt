@@ -34,7 +34,7 @@ use Rattle.sw_peer.specs.declared.line.Event.TheVariants.{Restarted}
 use Rattle.sw_peer.specs.declared.line.Line.{Line}
 use Rattle.sw_peer.specs.declared.link.Link.TheVariants.{Local}
 use Rattle.sw_ring.specs.declared.ring.Ring.{Ring}
-use Rattle.sw_rows.specs.declared.tables.Tables.{Tables}
+use Rattle.sw_keeper.specs.declared.tables.Tables.{Tables}
 use Rattle.sw_state.specs.States.{state_of}
 use Rattle.sw_state.specs.declared.state.State.{State}
 use Rattle.sw_volume.specs.Tree.{Folders}

@@ -15,7 +15,7 @@ use Rattle.sw_outside.specs.Counts.{raised}
 use Rattle.sw_outside.specs.Faults.{HasRisen}
 use Rattle.sw_keeper.specs.declared.keeper_error.KeeperError.{KeeperError}
 use Rattle.sw_keeper.specs.declared.keeper_error.KeeperError.TheVariants.{Failed}
-use Rattle.sw_rows.specs.declared.tables.Tables.{Tables}
+use Rattle.sw_keeper.specs.declared.tables.Tables.{Tables}
 use Rattle.sw_keeper.specs.Changes.{all_changed, begun, changed, IsBatch}
 use Rattle.sw_keeper.specs.Keeping.{Changes, HasCause, ListsPlaces}
 use Rattle.sw_keeper.specs.MemState.{with_batch, with_tables}

@@ -3,7 +3,7 @@ use Rattle.std.specs.Prelude.{◌≡◌, ℕ, ◌<◌, ⊤, List, [], ◌∷◌,
 use Rattle.sw_keeper.specs.declared.batch.Change.{Change}
 use Rattle.sw_keeper.specs.declared.batch.Change.TheVariants.{Times, PutRow, CutRow}
 use Rattle.sw_rows.specs.Rows.{find_named, is_numbered, no_rows, with_numbered, without_numbered}
-use Rattle.sw_rows.specs.declared.tables.Tables.{Tables}
+use Rattle.sw_keeper.specs.declared.tables.Tables.{Tables}
 
 -- a container with these times and no rows
 abbrev pub begun : ℕ → Option ℕ → Tables

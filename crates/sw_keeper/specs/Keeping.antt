@@ -11,7 +11,7 @@ use Rattle.sw_keeper.specs.Places.{place_cmp}
 use Rattle.sw_keeper.specs.declared.batch.Change.{Change}
 use Rattle.sw_keeper.specs.declared.keeper_error.KeeperError.{KeeperError}
 use Rattle.sw_keeper.specs.declared.keeper_error.KeeperError.TheVariants.{Failed, NoMemory}
-use Rattle.sw_rows.specs.declared.tables.Tables.{Tables}
+use Rattle.sw_keeper.specs.declared.tables.Tables.{Tables}
 
 -- the tables at each place; none where nothing is held
 abbrev pub Holdings : Type 0

@@ -7,7 +7,7 @@ use Rattle.sw_keeper.specs.Places.{at, place_cmp}
 use Rattle.sw_keeper.specs.declared.batch.Change.{Change}
 use Rattle.sw_outside.specs.declared.failing_call.FailingCall.{FailingCall}
 use Rattle.sw_outside.specs.Counts.{raised}
-use Rattle.sw_rows.specs.declared.tables.Tables.{Tables}
+use Rattle.sw_keeper.specs.declared.tables.Tables.{Tables}
 
 -- a keeper in memory
 pub record MemState : Type 0 where

@@ -5,9 +5,9 @@ ghost use Rattle.sw_keeper.specs.Keeping.{HasCause, Holdings, IsSame, ListsPlace
 
 use crate::batch::Batch;
 use crate::keeper_error::KeeperError;
+use crate::tables::Tables;
 use std::alloc::Global;
 use sw_hashpath::Place;
-use sw_rows::Tables;
 
 /// Where a container node keeps the tables of its containers, each at its place.
 ///

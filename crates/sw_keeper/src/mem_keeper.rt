@@ -12,11 +12,11 @@ use crate::keeper::Keeper;
 use crate::keeper_error::KeeperError;
 use crate::shelf::Shelf;
 use crate::shelves::{change, load, places};
+use crate::tables::Tables;
 use std::alloc::Global;
 use std::marker::Model;
 use sw_hashpath::Place;
 use sw_outside::{Failed, FailingCall, failure_of};
-use sw_rows::Tables;
 
 /// A keeper in memory, which tells what it holds. Tests choose which calls fail. The time of a call grows with the number of
 /// places, with the rows of its place and with what it takes and answers.

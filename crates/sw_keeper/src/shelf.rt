@@ -5,11 +5,12 @@ ghost use Rattle.sw_rows.specs.Rows.{IsListed};
 
 use crate::batch::Batch;
 use crate::ledger::{Ledger, make_all};
+use crate::tables::Tables;
 use std::alloc::Global;
 use std::marker::Model;
 use sw_hashpath::Place;
 use sw_outside::NoMemory;
-use sw_rows::{Rows, Tables};
+use sw_rows::Rows;
 use sw_timestamp::Timestamp;
 
 /// The tables at one place. Contracts see the place and the tables.
@@ -23,7 +24,7 @@ impl Model for Shelf {
     ghost use Rattle.sw_hashpath.specs.declared.place.Place.{Place};
     ghost use Rattle.sw_keeper.specs.Ledgers.{tables_of};
     ghost use Rattle.sw_rows.specs.Rows.{IsListed};
-    ghost use Rattle.sw_rows.specs.declared.tables.Tables.{Tables};
+    ghost use Rattle.sw_keeper.specs.declared.tables.Tables.{Tables};
 
     ghost Value = { Place × Tables };
 

@@ -10,10 +10,10 @@ ghost use Rattle.sw_keeper.specs.Places.{at, is_place_at, place_cmp};
 use crate::batch::Batch;
 use crate::order::compare;
 use crate::shelf::Shelf;
+use crate::tables::Tables;
 use std::alloc::Global;
 use sw_hashpath::Place;
 use sw_outside::NoMemory;
-use sw_rows::Tables;
 
 /// The places of the shelves, in their order.
 pub(crate) fn places(alloc: Global, shelves: &[Shelf]) -> Result<Vec<Place>, NoMemory>

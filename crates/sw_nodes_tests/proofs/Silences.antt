@@ -18,7 +18,7 @@ use Rattle.sw_peer.specs.declared.change.Change.{Change}
 use Rattle.sw_peer.specs.declared.cont_event.ContEvent.{ContEvent}
 use Rattle.sw_peer.specs.declared.got.Got.TheVariants as gots
 use Rattle.sw_peer.specs.declared.link.Link.{Link}
-use Rattle.sw_rows.specs.declared.tables.Tables.{Tables}
+use Rattle.sw_keeper.specs.declared.tables.Tables.{Tables}
 use Rattle.sw_state.specs.States.{state_of}
 use Rattle.sw_state.specs.declared.state.State.{State}
 use Rattle.sw_nodes_tests.specs.Silent.{is_refusal, silent, untold}

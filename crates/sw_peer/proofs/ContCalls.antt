@@ -10,7 +10,7 @@ use Rattle.sw_container_steps.specs.declared.cont_answer.ContAnswer.TheVariants 
 use Rattle.sw_container_steps.specs.declared.cont_change.ContChange.{ContChange}
 use Rattle.sw_hashpath.specs.declared.place.Place.{Place}
 use Rattle.sw_history.proofs.Growing.{grows-refl, half-refl, half-trans}
-use Rattle.sw_rows.specs.declared.tables.Tables.{Tables}
+use Rattle.sw_keeper.specs.declared.tables.Tables.{Tables}
 use Rattle.sw_peer.proofs.Calls.{IsFrame, IsStep, counted, same-refl, trails-counted}
 use Rattle.sw_peer.specs.Carriage.{Carriage}
 use Rattle.sw_peer.specs.ContSights.{ContMoves, IsContMade, IsIn, IsLooked, is_wanting_cont, is_wanting_look}

@@ -6,7 +6,7 @@ use Rattle.sw_container_steps.specs.declared.cont_answer.ContAnswer.TheVariants 
 use Rattle.sw_container_steps.specs.declared.cont_change.ContChange.{ContChange}
 use Rattle.sw_hashpath.specs.declared.place.Place.{Place}
 use Rattle.sw_history.specs.Halves.{HalfMoves}
-use Rattle.sw_rows.specs.declared.tables.Tables.{Tables}
+use Rattle.sw_keeper.specs.declared.tables.Tables.{Tables}
 use Rattle.sw_peer.specs.Sights.{Sight, Trails, cont_lock}
 use Rattle.sw_peer.specs.declared.cont_event.ContEvent.{ContEvent}
 use Rattle.sw_peer.specs.declared.cont_event.ContEvent.TheVariants.{Changed}

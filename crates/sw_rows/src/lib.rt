@@ -5,8 +5,8 @@
 //! one doesn't count as much, under the next number (ROWID), so whoever has read all rows up to a number finds all that is
 //! new above it. The rows' hash, count and bytes are those of the rows that stand, whatever came before.
 //!
-//! [`Tables`] is all that a container at a device stands for. The next layers up are `sw_listing`, which answers queries over
-//! rows, and `sw_keeper`, where tables are kept.
+//! The next layers up are `sw_listing`, which answers queries over rows, and `sw_keeper`, where they are kept beside what else a
+//! container has.
 #![tactic(auto)]
 
 mod hash;
@@ -18,11 +18,9 @@ mod row;
 mod rows;
 mod rows_iter;
 mod sums;
-mod tables;
 
 pub use named_rows::NamedRows;
 pub use numbered::Numbered;
 pub use row::Row;
 pub use rows::Rows;
 pub use rows_iter::RowsIter;
-pub use tables::Tables;

@@ -2,7 +2,7 @@ use Rattle.std.proofs.Common.{◌≡◌, ◌<◌, ◌≤◌, List, length, Optio
 use Rattle.std.specs.Option.{IsSome}
 use Rattle.sw_keeper.specs.Changes.{IsBatch, all_changed}
 use Rattle.sw_keeper.specs.declared.batch.Change.{Change}
-use Rattle.sw_rows.specs.declared.tables.Tables.{Tables}
+use Rattle.sw_keeper.specs.declared.tables.Tables.{Tables}
 use Rattle.sw_container_steps.specs.Batches.{batch_for}
 use Rattle.sw_container_steps.proofs.Batches.{batch-fits, batch-is, left-next, left-none, left-room}
 use Rattle.sw_container_steps.proofs.batching.batch_of.Goals as goal

@@ -1,8 +1,8 @@
 ghost use Rattle.std.specs.Prelude.{◌≡◌, IfOk};
 
-use crate::rows::Rows;
 use std::alloc::Global;
 use sw_outside::NoMemory;
+use sw_rows::Rows;
 use sw_timestamp::Timestamp;
 
 /// What a container at a device stands for.
