@@ -32,12 +32,14 @@ pub draft-put : (l : Listed) (numbers : List ℕ) (rows : List Numbered) (top : 
     → exchanged l numbers (rows ++ record { rowid = rowid; row = row } ∷ []) rowid ≡ with_numbered (exchanged l numbers rows top) row rowid
 draft-put l numbers rows top row rowid = ap (λ (x : List Numbered). listed x rowid) (sym (append_assoc (but_all l.list numbers) rows (numbered row rowid ∷ [])))
 
-pub put-listed : (l : Listed) (numbers : List ℕ) (rows : List Numbered) (top : ℕ) (row : Row) (rowid : ℕ) → IsListed (exchanged l numbers rows top) → top < rowid
+pub put-listed : (l : Listed) (numbers : List ℕ) (rows : List Numbered) (top : ℕ) (row : Row) (rowid : ℕ) → IsListed (exchanged l numbers rows top) →
+    top < rowid
     → find_named (exchanged l numbers rows top).list row.name ≡ None → IsListed (exchanged l numbers (rows ++ record { rowid = rowid; row = row } ∷ []) rowid)
 put-listed l numbers rows top row rowid is above none =
     rw (draft-put l numbers rows top row rowid) (listed-with_numbered (exchanged l numbers rows top) row rowid is above none)
 
-pub put-rising : (l : Listed) (numbers : List ℕ) (rows : List Numbered) (top : ℕ) (row : Row) (rowid : ℕ) → IsListed (exchanged l numbers rows top) → l.top ≤ top
+pub put-rising : (l : Listed) (numbers : List ℕ) (rows : List Numbered) (top : ℕ) (row : Row) (rowid : ℕ) → IsListed (exchanged l numbers rows top) →
+    l.top ≤ top
     → top < rowid → IsRising l.top rows → IsRising l.top (rows ++ record { rowid = rowid; row = row } ∷ [])
 put-rising l numbers rows top row rowid is le above rising =
     let W : Numbered → Type 0 = λ n. n.rowid ≤ top in

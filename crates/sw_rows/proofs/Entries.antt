@@ -309,7 +309,9 @@ remove-numbered low (e ∷ es) rowid rising = at (is_numbered rowid (record { ro
     at : (b : Bool) → (e.0 == rowid) ≡ b → rows_of (remove_entry (is_at (nat_cmp rowid)) es) ≡ but (rows_of es) rowid →
         rows_of (cond (is_at (nat_cmp rowid) e.0) es (e ∷ remove_entry (is_at (nat_cmp rowid)) es))
         ≡ cond (not b) (record { rowid = e.0; row = e.1 } ∷ but (rows_of es) rowid) (but (rows_of es) rowid)
-    at true is rest = rw (at_number rowid e.0, is) (sym (but-above rowid e.0 (rows_of es) (let same : e.0 ≡ rowid = eqb-true e.0 rowid is in omega arith) rising.1))
+    at true is rest =
+        let same : e.0 ≡ rowid = eqb-true e.0 rowid is in
+        rw (at_number rowid e.0, is) (sym (but-above rowid e.0 (rows_of es) (omega arith) rising.1))
     at false is rest = rw (at_number rowid e.0, is) (ap (λ (t : List Numbered). record { rowid = e.0; row = e.1 } ∷ t) rest)
 
 pub get-numbered : (es : List (ℕ × Row)) (rowid : ℕ) → lookup (is_at (nat_cmp rowid)) es ≡ row_numbered (rows_of es) rowid
@@ -317,7 +319,8 @@ get-numbered [] rowid = refl
 get-numbered (e ∷ es) rowid = rw (at_number rowid e.0) (at (e.0 == rowid) (get-numbered es rowid))
   where
     at : (b : Bool) → lookup (is_at (nat_cmp rowid)) es ≡ row_numbered (rows_of es) rowid →
-        cond b (Some e.1) (lookup (is_at (nat_cmp rowid)) es) ≡ option_map (λ m. m.row) (cond b (Some (record { rowid = e.0; row = e.1 })) (find (is_numbered rowid) (rows_of es)))
+        cond b (Some e.1) (lookup (is_at (nat_cmp rowid)) es)
+        ≡ option_map (λ m. m.row) (cond b (Some (record { rowid = e.0; row = e.1 })) (find (is_numbered rowid) (rows_of es)))
     at true rest = refl
     at false rest = rest
 
@@ -332,14 +335,16 @@ no_row (Some n) none = cc
 -- the row of a number is gone from both maps
 pub indexed-cut : (es es' : List (ℕ × Row)) (names names' : List (Vec ℕ Global × ℕ)) (rowid : ℕ) (before : Option ℕ) (row : Row) → IsIndex es names →
     es' ≡ remove_entry (is_at (nat_cmp rowid)) es → row_numbered (rows_of es) rowid ≡ Some row → GoesBack (rows_of es) rowid before →
-    ((q : List ℕ) → number_at names' q ≡ cond (bytes_eq row.name q && option_map_or (λ k. k == rowid) (number_at names row.name) false) before (number_at names q)) →
+    ((q : List ℕ)
+    → number_at names' q ≡ cond (bytes_eq row.name q && option_map_or (λ k. k == rowid) (number_at names row.name) false) before (number_at names q)) →
     IsIndex es' names'
 indexed-cut es es' names names' rowid before row index rows found back given =
     let some = found_row (find (is_numbered rowid) (rows_of es)) row found in
     let all : rows_of es' ≡ but (rows_of es) rowid = ap rows_of rows ∙ remove-numbered 0 es rowid index.rising in
     record {
       rising = rw all (rising-filter (λ n. not (is_numbered rowid n)) 0 (rows_of es) index.rising);
-      numbers = λ q. rw all (given q ∙ rw (index.numbers row.name, index.numbers q, ← some.2) (latest-cut (rows_of es) rowid before some.0 q index.rising some.1 back));
+      numbers = λ q. rw all (given q ∙ rw (index.numbers row.name, index.numbers q, ← some.2)
+          (latest-cut (rows_of es) rowid before some.0 q index.rising some.1 back));
     }
 
 -- where no row has the number, nothing goes

@@ -1,6 +1,6 @@
 -- Rows that are put in and taken away together.
-use Rattle.std.proofs.Common.{◌≡◌, ℕ, ◌+◌, ◌<◌, ◌≤◌, Bool, true, false, cond, not, List, [], ◌∷◌, ◌++◌, Option, None, Some, All, refl, sym, ◌∙◌, ap, subst, arith}
-use Rattle.std.proofs.Common.{get_or, length, take}
+use Rattle.std.proofs.Common.{◌≡◌, ℕ, ◌+◌, ◌<◌, ◌≤◌, Bool, true, false, cond, not, List, [], ◌∷◌, ◌++◌, Option, None, Some, All, refl, sym, ◌∙◌, ap, subst}
+use Rattle.std.proofs.Common.{arith, get_or, length, take}
 use Rattle.std.specs.List.{find}
 use Rattle.std.specs.Option.{option_map, option_or}
 use Rattle.std.proofs.lemmas.Bool.{eq-eqb, ne_eqb}
@@ -74,7 +74,8 @@ latest-there (n ∷ ns) name rowid is none = at (is_numbered rowid n) refl none 
     at false apart none rest = rest (last (latest ns name) (is_named name n) is apart) none
 
 -- where each name has one row before those that come behind, nothing comes back for a row that goes there
-pub goes-back : (xs ys : List Numbered) (rowid : ℕ) → IsRising 0 (xs ++ ys) → IsNamedOnce xs → find (is_numbered rowid) ys ≡ None → GoesBack (xs ++ ys) rowid None
+pub goes-back : (xs ys : List Numbered) (rowid : ℕ) → IsRising 0 (xs ++ ys) → IsNamedOnce xs → find (is_numbered rowid) ys ≡ None →
+    GoesBack (xs ++ ys) rowid None
 goes-back xs ys rowid rising once none n found last =
     let there : find (is_numbered rowid) xs ≡ Some n =
     sym (find-append (is_numbered rowid) xs ys ∙ ap (λ (o : Option Numbered). option_or (find (is_numbered rowid) xs) o) none
@@ -238,8 +239,8 @@ undone base list ps p log =
     name_of : (l : LastPush base list ps p) (m : Numbered) → is_numbered p.rowid (record { rowid = p.rowid; row = l.row }) ≡ true
         → find (is_numbered p.rowid) (l.rest ++ record { rowid = p.rowid; row = l.row } ∷ []) ≡ Some m → m.row.name ≡ l.row.name
     name_of l m itself found =
-        let only : find (is_numbered p.rowid) (record { rowid = p.rowid; row = l.row } ∷ []) ≡ Some (record { rowid = p.rowid; row = l.row }) = rw itself refl in
         let n : Numbered = record { rowid = p.rowid; row = l.row } in
+        let only : find (is_numbered p.rowid) (n ∷ []) ≡ Some n = rw itself refl in
         let same : Some n ≡ Some m =
         sym (find-append (is_numbered p.rowid) l.rest (n ∷ []) ∙ rw (none_below l.rest l.above) only) ∙ found in
         let it : n ≡ m = cc in

@@ -1,6 +1,6 @@
 -- The last row of a name, and rows that are taken away by their numbers.
-use Rattle.std.proofs.Common.{◌≡◌, ℕ, ◌<◌, ◌≤◌, Bool, true, false, cond, not, ◌==◌, ◌&&◌, List, [], ◌∷◌, ◌++◌, Option, None, Some, All, refl, sym, ◌∙◌, ap, subst}
-use Rattle.std.proofs.Common.{arith}
+use Rattle.std.proofs.Common.{◌≡◌, ℕ, ◌<◌, ◌≤◌, Bool, true, false, cond, not, ◌==◌, ◌&&◌, List, [], ◌∷◌, ◌++◌, Option, None, Some, All, refl, sym, ◌∙◌, ap}
+use Rattle.std.proofs.Common.{arith, subst}
 use Rattle.std.specs.List.{find}
 use Rattle.std.specs.Option.{option_map, option_map_or, option_or}
 use Rattle.std.specs.Str.{bytes_eq}
@@ -27,7 +27,8 @@ latest-append (x ∷ xs) ys name =
     ap (λ (o : Option ℕ). option_or o (cond (is_named name x) (Some x.rowid) None)) (latest-append xs ys name)
     ∙ or-assoc (latest ys name) (latest xs name) (cond (is_named name x) (Some x.rowid) None)
 
-pub latest-push : (xs : List Numbered) (n : Numbered) (name : List ℕ) → latest (xs ++ n ∷ []) name ≡ cond (bytes_eq n.row.name name) (Some n.rowid) (latest xs name)
+pub latest-push : (xs : List Numbered) (n : Numbered) (name : List ℕ)
+    → latest (xs ++ n ∷ []) name ≡ cond (bytes_eq n.row.name name) (Some n.rowid) (latest xs name)
 latest-push xs n name = latest-append xs (n ∷ []) name ∙ at (bytes_eq n.row.name name)
   where
     at : (b : Bool) → option_or (cond b (Some n.rowid) None) (latest xs name) ≡ cond b (Some n.rowid) (latest xs name)
@@ -145,7 +146,8 @@ latest-cut ns rowid before n name rising found back = at (bytes_eq n.row.name na
     last None b is = let yes : (n.rowid == rowid) ≡ true = eq-eqb n.rowid rowid a.number in cc
     last (Some k) b is = refl
 
-    here : (t : Bool) → option_map_or (λ k. k == rowid) (latest ns n.row.name) false ≡ t → cond t before (latest ns n.row.name) ≡ latest (but ns rowid) n.row.name
+    here : (t : Bool) → option_map_or (λ k. k == rowid) (latest ns n.row.name) false ≡ t
+        → cond t before (latest ns n.row.name) ≡ latest (but ns rowid) n.row.name
     here true is = back n found (number_of (latest ns n.row.name) is)
     here false is =
         let whole : latest ns n.row.name ≡ option_or (option_or (latest a.after n.row.name) (Some n.rowid)) (latest a.before n.row.name) =

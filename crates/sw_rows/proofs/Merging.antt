@@ -31,7 +31,8 @@ rising-push low top (m ∷ ms) n le above rising within =
     let head : m.rowid ≤ top = All-head P m ms within in
     (rising.0, rising-push m.rowid top ms n head above rising.1 (All-tail P m ms within))
 
-pub rising-below : (low : ℕ) (ns : List Numbered) (n : Numbered) → low < n.rowid → IsRising low ns → All (λ m. m.rowid < n.rowid) ns → IsRising low (ns ++ n ∷ [])
+pub rising-below : (low : ℕ) (ns : List Numbered) (n : Numbered) → low < n.rowid → IsRising low ns → All (λ m. m.rowid < n.rowid) ns →
+    IsRising low (ns ++ n ∷ [])
 rising-below low [] n le rising below = (le, tt)
 rising-below low (m ∷ ms) n le rising below =
     let P : Numbered → Type 0 = λ x. x.rowid < n.rowid in

@@ -223,7 +223,8 @@ sums-cut old new list rowid gone are rising found less =
       small = All-filter (λ m. not (is_numbered rowid m)) (λ m. live_size m.row < 2 ^ 64) list are.small;
     }
 
-pub sums-none : (sums : Sums) (list new : List Numbered) (rowid : ℕ) → AreSums sums list → None ≡ row_numbered list rowid → new ≡ but list rowid → AreSums sums new
+pub sums-none : (sums : Sums) (list new : List Numbered) (rowid : ℕ) → AreSums sums list → None ≡ row_numbered list rowid → new ≡ but list rowid →
+    AreSums sums new
 sums-none sums list new rowid are none is =
     let same : new ≡ list = is ∙ but-none rowid list (not_found (find (is_numbered rowid) list) (sym none)) in
     rw same are

@@ -14,7 +14,8 @@ cut-sums-requires-clause-back g c =
     let left = but_all g.behind.list (take i numbers) in
     let R : List Numbered → Type 0 = λ l. IsRising 0 l in
     let B : List Numbered → Type 0 = λ l. GoesBack l (get_or numbers i 0) None in
-    subst B (sym c.loop-rowid.invariant.rows) (goes-back left g.behind.rows (get_or numbers i 0) (subst R c.loop-rowid.invariant.rows c.loop-rowid.invariant.rising)
+    subst B (sym c.loop-rowid.invariant.rows) (goes-back left g.behind.rows (get_or numbers i 0)
+    (subst R c.loop-rowid.invariant.rows c.loop-rowid.invariant.rising)
     (once-but_all g.behind.list (take i numbers) c.requires.1.0) (c.requires.1.1.1.0 i 0 c.loop-rowid-test.true))
 
 pub loop-rowid-preserved : goal.loop-rowid-preserved

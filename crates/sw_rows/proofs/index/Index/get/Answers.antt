@@ -24,5 +24,6 @@ pub returns-in-None : goal.returns-in-None
 returns-in-None c =
     let es = c.self.inside.by_number.entries in
     let index = found-index es c.self.inside.by_name.entries c.self.invariant (rw c.self.view_is c.requires) in
-    let none : number_named (rows_of es) c.args.name.now ≡ None = sym (index.numbers c.args.name.now) ∙ sym c.get.ensures.value ∙ ap option_copied c.in-None.is in
+    let none : number_named (rows_of es) c.args.name.now ≡ None =
+    sym (index.numbers c.args.name.now) ∙ sym c.get.ensures.value ∙ ap option_copied c.in-None.is in
     sym (none_named (rows_of es) c.args.name.now none) ∙ ap (λ (l : List Numbered). find_named l c.args.name.now) c.self.view_is

@@ -10,8 +10,8 @@ cut-requires c =
     let n : Numbered = record { rowid = c.args.rowid; row = c.args.row } in
     let is : Some c.in-Some.old ≡ latest c.args.self.now c.args.row.name = sym c.in-Some.is ∙ c.in_ok-old.ensures.before in
     let over : Over c.args.self.now n c.in-Some.old =
-    pushed-over c.args.self.now n c.in-Some.old c.in_ok-old.ensures.rising (rising-below 0 c.args.self.now n c.requires.positive c.in_ok-old.ensures.rising c.requires.above)
-    c.requires.once c.requires.above is in
+    pushed-over c.args.self.now n c.in-Some.old c.in_ok-old.ensures.rising
+    (rising-below 0 c.args.self.now n c.requires.positive c.in_ok-old.ensures.rising c.requires.above) c.requires.once c.requires.above is in
     rw c.in_ok-old.ensures.rows over.back
 
 pub returns-in-Some-clause-old : goal.returns-in-Some-clause-old
@@ -19,8 +19,8 @@ returns-in-Some-clause-old c =
     let n : Numbered = record { rowid = c.args.rowid; row = c.args.row } in
     let is : Some c.in-Some.old ≡ latest c.args.self.now c.args.row.name = sym c.in-Some.is ∙ c.in_ok-old.ensures.before in
     let over : Over c.args.self.now n c.in-Some.old =
-    pushed-over c.args.self.now n c.in-Some.old c.in_ok-old.ensures.rising (rising-below 0 c.args.self.now n c.requires.positive c.in_ok-old.ensures.rising c.requires.above)
-    c.requires.once c.requires.above is in
+    pushed-over c.args.self.now n c.in-Some.old c.in_ok-old.ensures.rising
+    (rising-below 0 c.args.self.now n c.requires.positive c.in_ok-old.ensures.rising c.requires.above) c.requires.once c.requires.above is in
     c.cut.ensures.gone ∙ ap (λ (l : List Numbered). row_numbered l c.in-Some.old) c.in_ok-old.ensures.rows ∙ over.gone
 
 pub returns-in-Some-clause-rows : goal.returns-in-Some-clause-rows
@@ -28,8 +28,8 @@ returns-in-Some-clause-rows c =
     let n : Numbered = record { rowid = c.args.rowid; row = c.args.row } in
     let is : Some c.in-Some.old ≡ latest c.args.self.now c.args.row.name = sym c.in-Some.is ∙ c.in_ok-old.ensures.before in
     let over : Over c.args.self.now n c.in-Some.old =
-    pushed-over c.args.self.now n c.in-Some.old c.in_ok-old.ensures.rising (rising-below 0 c.args.self.now n c.requires.positive c.in_ok-old.ensures.rising c.requires.above)
-    c.requires.once c.requires.above is in
+    pushed-over c.args.self.now n c.in-Some.old c.in_ok-old.ensures.rising
+    (rising-below 0 c.args.self.now n c.requires.positive c.in_ok-old.ensures.rising c.requires.above) c.requires.once c.requires.above is in
     c.cut.ensures.rows ∙ ap (λ (l : List Numbered). but l c.in-Some.old) c.in_ok-old.ensures.rows ∙ over.rest
 
 pub returns-in-None-clause-old : goal.returns-in-None-clause-old
