@@ -107,5 +107,18 @@ fn rows_are_put_and_cut_by_their_numbers(rt: HostRuntime) -> Result<(), Fail> {
         (tables.rows.top(), tables.rows.count(), tables.rows.bytes()),
         (3, 1, 4)
     );
+    let newest = row(alloc, "o", 3, 5, false)?;
+    let batch = Batch::from(vec![in alloc; Change::CutRow(3), Change::PutRow(newest, 4)]?);
+    keeper.commit(alloc, &place, &batch)?;
+    let tables = keeper.load(alloc, &place)?.ok_or("nothing is held")?;
+    assert_eq!(rt;
+        (
+            tables.rows.top(),
+            tables.rows.count(),
+            tables.rows.bytes(),
+            tables.rows.number_of(b"o")
+        ),
+        (4, 1, 5, Some(4))
+    );
     Ok(())
 }

@@ -1,6 +1,6 @@
 use crate::making::{merge, row};
 use std::test::Fail;
-use sw_rows::{Rows, laws};
+use sw_rows::{NamedRows, Rows, laws};
 
 /// The MD5 of `o-0000000005.00000` as a number.
 const HASH_OF_O: u128 = 259439173132690071545091498314637949431;
@@ -76,6 +76,75 @@ fn rows_come_in_the_order_of_their_numbers_and_are_copied(rt: HostRuntime) -> Re
     laws::keeps_the_greatest();
     laws::numbers_rise();
     Ok(())
+}
+
+/// Rows restored one after another where 9 numbers were given out: the number, the name, and whether the row was put in.
+const RESTORED: [(u64, &str, bool); 8] = [
+    (0, "a", false),
+    (2, "b", true),
+    (2, "c", false),
+    (1, "c", false),
+    (5, "b", false),
+    (7, "c", true),
+    (9, "a", true),
+    (10, "d", false),
+];
+
+/// Two bounds, and the names between them of rows "a", "b" and "c".
+const BETWEEN: [(&str, &str, &[&str]); 6] = [
+    ("", "z", &["a", "b", "c"]),
+    ("b", "c", &["b"]),
+    ("aa", "cc", &["b", "c"]),
+    ("b", "b", &[]),
+    ("c", "a", &[]),
+    ("d", "z", &[]),
+];
+
+#[test]
+fn rows_are_restored_under_rising_numbers_and_found_by_names(rt: HostRuntime) -> Result<(), Fail> {
+    let alloc = rt.alloc();
+    let mut rows = Rows::empty_at(alloc, 9);
+    for (rowid, name, restored) in RESTORED {
+        let row = row(alloc, name, 1, 1, false)?;
+        assert_eq!(rt;
+            rows.restore(alloc, rowid, row)?,
+            restored,
+            "{name} at {rowid}"
+        );
+    }
+    assert!(rt; is_list(&rows, &[(2, "b"), (7, "c"), (9, "a")]));
+    assert_eq!(rt;
+        (rows.top(), rows.number_of(b"a"), rows.number_of(b"d")),
+        (9, Some(9), None)
+    );
+    for (lower, upper, names) in BETWEEN {
+        let between = rows.between(alloc, lower.as_bytes(), upper.as_bytes())?;
+        assert!(rt; gives(between, names), "from {lower} to {upper}");
+    }
+    Ok(())
+}
+
+/// Whether these are the names that come, where the last one is taken first.
+fn gives(rows: NamedRows<'_>, names: &[&str]) -> bool {
+    let mut rows = rows;
+    let [front @ .., last] = names else {
+        return rows.first().is_none();
+    };
+    if !rows
+        .last()
+        .is_some_and(|row| row.name.as_slice() == last.as_bytes())
+    {
+        return false;
+    }
+    for name in front {
+        if !rows
+            .first()
+            .is_some_and(|row| row.name.as_slice() == name.as_bytes())
+        {
+            return false;
+        }
+    }
+    rows.last().is_none()
 }
 
 fn is_list(rows: &Rows, wanted: &[(u64, &str)]) -> bool {

@@ -1,5 +1,4 @@
-pub mod Cutting
+pub mod Drafting
 pub mod Keeping
 pub mod Placing
-pub mod Restoring
 pub mod Searching

@@ -1,18 +1,14 @@
 -- Where a search in order ends.
-use Rattle.std.proofs.Common.{◌≡◌, ℕ, ◌+◌, ◌<◌, ◌≤◌, zero, suc, Bool, true, false, cond, List, [], ◌∷◌, length, get_or, refl, sym, ◌∙◌, ap, arith}
+use Rattle.std.proofs.Common.{◌≡◌, ℕ, ◌<◌, ◌≤◌, zero, suc, Bool, true, false, List, [], ◌∷◌, length, get_or, refl, ap, arith}
 use Rattle.std.specs.List.{AllByRecursion, prefix_len}
 use Rattle.std.specs.List.Sorted.{IsPartitionedBy, IsPartitionPoint, IsStrictlySortedBy}
 use Rattle.std.specs.Map.{keys_of}
 use Rattle.std.specs.Ordering.{is_lt}
-use Rattle.std.specs.Prelude.{nat_lt}
 use Rattle.std.specs.declared.cmp.Ordering.{Ordering}
 use Rattle.std.specs.declared.cmp.Ordering.TheVariants.{Less, Equal, Greater}
-use Rattle.std.proofs.lemmas.Bool.{lt-ltb, ltb-true}
 use Rattle.std.proofs.lemmas.Map.Keys.{sorted_head, sorted_tail}
 use Rattle.sw_hashpath.specs.declared.place.Place.{Place}
 use Rattle.sw_keeper.specs.Places.{place_cmp}
-use Rattle.sw_rows.specs.Rows.{IsRising}
-use Rattle.sw_rows.specs.declared.numbered.Numbered.{Numbered}
 use Rattle.sw_keeper.proofs.Placing.{place_total}
 
 module _ {X : Type 0} (p : X → Bool) where
@@ -53,22 +49,3 @@ module _ {X : Type 0} where
   shelves_partitioned (e ∷ es) place sorted (suc i) zero d le inside passes = absurd (omega arith)
   shelves_partitioned (e ∷ es) place sorted (suc i) (suc j) d le inside passes =
       shelves_partitioned es place (sorted_tail place_cmp e.0 (keys_of es) sorted) i j d (omega arith) (omega arith) passes
-
-number_at : (low : ℕ) (ns : List Numbered) (j : ℕ) (d : Numbered) → IsRising low ns → j < length ns → low < (get_or ns j d).rowid
-number_at low [] j d rising inside = absurd (omega arith)
-number_at low (n ∷ ns) zero d rising inside = rising.0
-number_at low (n ∷ ns) (suc j) d rising inside =
-    let up : n.rowid < (get_or ns j d).rowid = number_at n.rowid ns j d rising.1 (omega arith) in
-    omega (arith, rising.0)
-
--- of rows whose numbers rise, those below a number come first
-pub rows_partitioned : (low : ℕ) (ns : List Numbered) (rowid : ℕ) → IsRising low ns → IsPartitionedBy (λ n. nat_lt n.rowid rowid) ns
-rows_partitioned low [] rowid rising i j d le inside passes = absurd (omega arith)
-rows_partitioned low (n ∷ ns) rowid rising zero zero d le inside passes = passes
-rows_partitioned low (n ∷ ns) rowid rising zero (suc j) d le inside passes =
-    let up : n.rowid < (get_or ns j d).rowid = number_at n.rowid ns j d rising.1 (omega arith) in
-    let below : (get_or ns j d).rowid < rowid = ltb-true (get_or ns j d).rowid rowid passes in
-    lt-ltb n.rowid rowid (omega arith)
-rows_partitioned low (n ∷ ns) rowid rising (suc i) zero d le inside passes = absurd (omega arith)
-rows_partitioned low (n ∷ ns) rowid rising (suc i) (suc j) d le inside passes =
-    rows_partitioned n.rowid ns rowid rising.1 i j d (omega arith) (omega arith) passes

@@ -1,5 +1,5 @@
 pub mod Changes
+pub mod Drafts
 pub mod Keeping
-pub mod Ledgers
 pub mod MemState
 pub mod Places

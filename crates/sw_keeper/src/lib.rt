@@ -10,9 +10,9 @@
 #![tactic(auto)]
 
 mod batch;
+mod draft;
 mod keeper;
 mod keeper_error;
-mod ledger;
 mod mem_keeper;
 mod order;
 mod shelf;

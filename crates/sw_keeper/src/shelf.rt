@@ -1,10 +1,8 @@
 ghost use Rattle.std.specs.Prelude.{◌≡◌, Some, None, IfOk, OnOk, OnErr};
 ghost use Rattle.sw_keeper.specs.Changes.{IsBatch, all_changed, begun};
-ghost use Rattle.sw_keeper.specs.Ledgers.{tables_of};
-ghost use Rattle.sw_rows.specs.Rows.{IsListed};
 
 use crate::batch::Batch;
-use crate::ledger::{Ledger, make_all};
+use crate::draft::{Draft, draft_of};
 use crate::tables::Tables;
 use std::alloc::Global;
 use std::marker::Model;
@@ -17,20 +15,16 @@ use sw_timestamp::Timestamp;
 #[derive(Debug, Drop)]
 pub(crate) struct Shelf {
     place: Place,
-    ledger: Ledger,
+    tables: Tables,
 }
 
 impl Model for Shelf {
     ghost use Rattle.sw_hashpath.specs.declared.place.Place.{Place};
-    ghost use Rattle.sw_keeper.specs.Ledgers.{tables_of};
-    ghost use Rattle.sw_rows.specs.Rows.{IsListed};
     ghost use Rattle.sw_keeper.specs.declared.tables.Tables.{Tables};
 
     ghost Value = { Place × Tables };
 
-    ghost view = { λ s. (s.place, tables_of s.ledger) };
-
-    ghost invariant = { λ s. IsListed (tables_of s.ledger).rows };
+    ghost view = { λ s. (s.place, s.tables) };
 }
 
 impl Shelf {
@@ -40,11 +34,10 @@ impl Shelf {
     {
         Shelf {
             place,
-            ledger: Ledger {
+            tables: Tables {
                 put_time: Timestamp::from_units(0).unwrap(),
                 delete_time: None,
-                list: Vec::new(alloc),
-                top: 0,
+                rows: Rows::empty(alloc),
             },
         }
     }
@@ -58,35 +51,26 @@ impl Shelf {
     pub(crate) fn tables(&self, alloc: Global) -> Result<Tables, NoMemory>
         ensures { IfOk result (λ tables. tables ≡ self.now.1) }
     {
-        Ok(Tables {
-            put_time: self.ledger.put_time,
-            delete_time: self.ledger.delete_time,
-            rows: rows_of(alloc, &self.ledger)?,
-        })
+        self.tables.copy(alloc)
     }
 
-    /// Makes all changes of a batch, or none where memory runs out. Room is taken before the first one.
+    /// Makes all changes of a batch, or none where memory runs out.
     pub(crate) fn change(&mut self, alloc: Global, batch: &Batch) -> Result<(), NoMemory>
         requires { IsBatch (Some self.old.1) batch.now }
         ensures place { OnOk result (self.new.0 ≡ self.old.0) }
         ensures tables { OnOk result (Some self.new.1 ≡ all_changed (Some self.old.1) batch.now) }
         ensures err { OnErr result (self.new ≡ self.old) }
     {
-        let changes = Vec::from(batch.copy(alloc)?);
-        self.ledger.list.reserve(changes.len())?;
-        make_all(&mut self.ledger, changes);
+        let Draft {
+            put_time,
+            delete_time,
+            numbers,
+            rows,
+            top,
+        } = draft_of(alloc, &self.tables, batch)?;
+        self.tables.rows.exchange(alloc, &numbers, rows, top)?;
+        self.tables.put_time = put_time;
+        self.tables.delete_time = delete_time;
         Ok(())
     }
-}
-
-/// The rows of a ledger, put in one after the other.
-fn rows_of(alloc: Global, ledger: &Ledger) -> Result<Rows, NoMemory>
-    requires { IsListed (tables_of ledger.now).rows }
-    ensures { IfOk result (λ rows. rows ≡ (tables_of ledger.now).rows) }
-{
-    let mut rows = Rows::empty_at(alloc, ledger.top);
-    for numbered in &ledger.list {
-        let _ = rows.restore(alloc, numbered.rowid, numbered.row.copy(alloc)?)?;
-    }
-    Ok(rows)
 }

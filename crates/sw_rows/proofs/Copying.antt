@@ -1,13 +1,12 @@
 -- Rows that are put into another list one after the other.
-use Rattle.std.proofs.Common.{◌≡◌, ℕ, ◌<◌, ◌≤◌, Bool, true, false, cond, List, [], ◌∷◌, ◌++◌, None, Some, All, refl, ◌∙◌, append_assoc, arith}
+use Rattle.std.proofs.Common.{◌≡◌, ℕ, ◌<◌, ◌≤◌, Bool, true, false, cond, List, [], ◌∷◌, ◌++◌, None, Some, All, refl, ◌∙◌, arith}
 use Rattle.std.specs.List.{find, list_all}
 use Rattle.std.specs.Prelude.{nat_le, nat_lt}
 use Rattle.std.proofs.lemmas.Bool.{le-leb, lt-ltb}
 use Rattle.std.proofs.lemmas.List.Elements.{All-cons, All-head, All-tail}
-use Rattle.sw_rows.specs.Rows.{is_named, IsListed, IsNamedOnce, IsRising, restored, without}
+use Rattle.sw_rows.specs.Rows.{is_named, IsListed, IsNamedOnce, IsRising, restored}
 use Rattle.sw_rows.specs.declared.numbered.Numbered.{Numbered}
 use Rattle.sw_rows.proofs.Entries.{name-comm}
-use Rattle.sw_rows.proofs.Named.{without-none}
 
 pub rising-behind : (low : ℕ) (done left : List Numbered) (n : Numbered) → IsRising low (done ++ n ∷ left) → low < n.rowid
 rising-behind low [] left n rising = rising.0
@@ -19,7 +18,7 @@ rising-above low (m ∷ ms) left n rising =
     All-cons (λ x. x.rowid < n.rowid) m ms (rising-behind m.rowid ms left n rising.1) (rising-above m.rowid ms left n rising.1)
 
 -- a row that comes later has another name than the one that isn't found
-apart_from : (name : List ℕ) (done left : List Numbered) (n : Numbered) → find (is_named name) (done ++ n ∷ left) ≡ None → is_named name n ≡ false
+pub apart_from : (name : List ℕ) (done left : List Numbered) (n : Numbered) → find (is_named name) (done ++ n ∷ left) ≡ None → is_named name n ≡ false
 apart_from name [] left n none = at (is_named name n) none
   where
     at : (b : Bool) → cond b (Some n) (find (is_named name) left) ≡ None → b ≡ false
@@ -39,14 +38,6 @@ once-behind [] left n once = refl
 once-behind (m ∷ ms) left n once =
     let apart : is_named n.row.name m ≡ false = name-comm m.row.name n.row.name ∙ apart_from m.row.name ms left n once.0 in
     rw apart (once-behind ms left n once.1)
-
-pub without-done : (done left : List Numbered) (n : Numbered) → IsNamedOnce (done ++ n ∷ left) → without n.row.name done ++ n ∷ [] ≡ done ++ n ∷ []
-without-done done left n once = rw (without-none n.row.name done (once-behind done left n once)) refl
-
-pub one-more : (done left all : List Numbered) (n : Numbered) → done ++ n ∷ left ≡ all → IsNamedOnce all → (without n.row.name done ++ n ∷ []) ++ left ≡ all
-one-more done left all n whole once =
-    let P : List Numbered → Type 0 = λ x. IsNamedOnce x in
-    rw (without-done done left n (rw (← whole) at once)) (rw append_assoc whole)
 
 below-all : (k : ℕ) (ns : List Numbered) → All (λ m. m.rowid < k) ns → list_all (λ m. nat_lt m.rowid k) ns ≡ true
 below-all k [] all = refl

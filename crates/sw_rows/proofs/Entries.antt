@@ -1,39 +1,40 @@
 -- The entries of the two maps of rows.
 use Rattle.std.proofs.Common.{◌≡◌, ℕ, ◌-◌, ◌<◌, ◌≤◌, Bool, true, false, cond, not, ◌==◌, ◌&&◌, ◌⊎◌, inl, inr, List, [], ◌∷◌, ◌++◌, Option, None, Some, All}
 use Rattle.std.proofs.Common.{refl, sym, ◌∙◌, ap, subst, arith}
-use Rattle.std.specs.BTreeMap.{insert_entry, is_at}
+use Rattle.std.specs.BTreeMap.{BTreeMap, insert_entry, is_at, UpdatesBy}
 use Rattle.std.specs.Cmp.Lexicographic.{slice_cmp}
 use Rattle.std.specs.List.{find, list_all}
-use Rattle.std.specs.Map.{keys_of, lookup, remove_entry}
-use Rattle.std.specs.Option.{option_map}
+use Rattle.std.specs.Map.{keys_of, KeepsOthers, lookup, remove_entry}
+use Rattle.std.specs.Option.{option_map, option_map_or}
 use Rattle.std.specs.Ordering.{is_eq, is_lt, match_ordering, nat_cmp}
 use Rattle.std.specs.Str.{bytes_eq}
 use Rattle.std.specs.declared.alloc.Global.{Global}
 use Rattle.std.specs.declared.cmp.Ordering.{Ordering}
 use Rattle.std.specs.declared.cmp.Ordering.TheVariants.{Less, Equal, Greater}
 use Rattle.std.specs.declared.vec.Vec.{Vec}
-use Rattle.std.proofs.lemmas.Bool.{cases_lt, le-ltb, lt-ltb}
+use Rattle.std.proofs.lemmas.Bool.{cases_lt, eq-eqb, eqb-true, le-ltb, lt-ltb}
 use Rattle.std.specs.Prelude.{nat_lt}
 use Rattle.std.proofs.lemmas.Cmp.{nat_cmp_total, nat_list_cmp_total, tied_itself}
 use Rattle.std.proofs.lemmas.List.{map-append}
-use Rattle.std.proofs.lemmas.List.Elements.{All-filter, All-head, All-tail, All-weaker}
+use Rattle.std.proofs.lemmas.List.Elements.{All-head, All-tail, All-weaker}
 use Rattle.std.proofs.lemmas.Map.Keys.{ge_from_not_lt}
 use Rattle.std.proofs.lemmas.Map.Lookups.{exact_bytes, exact_unsigned}
 use Rattle.std.proofs.lemmas.Slice.Eq.{bytes_eq-Decides}
-use Rattle.sw_rows.specs.Index.{IsIndex, number_at, rows_of}
-use Rattle.sw_rows.specs.Rows.{find_named, is_named, IsNamedOnce, IsRising, number_named, without}
+use Rattle.sw_rows.specs.Index.{but, GoesBack, IsIndex, latest, name_cmp, number_at, row_numbered, rows_of}
+use Rattle.sw_rows.specs.Rows.{find_named, is_named, is_numbered, IsNamedOnce, IsRising, number_named}
 use Rattle.sw_rows.specs.declared.numbered.Numbered.{Numbered}
 use Rattle.sw_rows.specs.declared.row.Row.{Row}
 use Rattle.sw_rows.proofs.Merging.{rising-filter, rising-push}
-use Rattle.sw_rows.proofs.Named.{find-put, find-without, name-sym, once-push, once-without, same_name, without-none}
+use Rattle.sw_rows.proofs.Latest.{but-above, but-none, latest-cut, latest-once, latest-push}
+use Rattle.sw_rows.proofs.Named.{name-sym, same_name}
 
 -- ---- numbers
 
-at_itself : (k : ℕ) → is_at (nat_cmp k) k ≡ true
+pub at_itself : (k : ℕ) → is_at (nat_cmp k) k ≡ true
 at_itself k = ap is_eq (tied_itself nat_cmp_total k)
 
 -- a test that answers Equal of two things that differ
-not_at : (o : Ordering) → (o ≡ Equal → ⊥) → is_eq o ≡ false
+pub not_at : (o : Ordering) → (o ≡ Equal → ⊥) → is_eq o ≡ false
 not_at Less apart = refl
 not_at Equal apart = absurd (apart refl)
 not_at Greater apart = refl
@@ -127,30 +128,6 @@ remove-above (e ∷ es) k row above =
     let apart : is_at (nat_cmp k) e.0 ≡ false = at_apart k e.0 head in
     rw apart (ap (λ (t : List (ℕ × Row)). e ∷ t) (remove-above es k row (All-tail P (record { rowid = e.0; row = e.1 }) (rows_of es) above)))
 
--- the row of a name is taken away by its number
-pub remove-named : (low : ℕ) (es fs : List (ℕ × Row)) (name : List ℕ) (number : ℕ) → IsRising low (rows_of es) → IsNamedOnce (rows_of es) →
-    number_named (rows_of es) name ≡ Some number → rows_of (remove_entry (is_at (nat_cmp number)) (es ++ fs)) ≡ without name (rows_of es) ++ rows_of fs
-remove-named low [] fs name number rising once found = cc
-remove-named low (e ∷ es) fs name number rising once found =
-    at (bytes_eq e.1.name name) refl found (λ h. remove-named e.0 es fs name number rising.1 once.1 h)
-  where
-    at : (b : Bool) → bytes_eq e.1.name name ≡ b → option_map (λ m. m.rowid) (cond b (Some (record { rowid = e.0; row = e.1 })) (find (is_named name)
-        (rows_of es))) ≡ Some number →
-        (number_named (rows_of es) name ≡ Some number → rows_of (remove_entry (is_at (nat_cmp number)) (es ++ fs)) ≡ without name (rows_of es) ++ rows_of fs) →
-        rows_of (cond (is_at (nat_cmp number) e.0) (es ++ fs) (e ∷ remove_entry (is_at (nat_cmp number)) (es ++ fs)))
-        ≡ cond (not b) (record { rowid = e.0; row = e.1 } ∷ without name (rows_of es)) (without name (rows_of es)) ++ rows_of fs
-    at true is found rest =
-        let same : e.0 ≡ number = cc in
-        let there : is_at (nat_cmp number) e.0 ≡ true = ap (λ (x : ℕ). is_at (nat_cmp x) e.0) (sym same) ∙ at_itself e.0 in
-        let P : List ℕ → Type 0 = λ x. find (is_named x) (rows_of es) ≡ None in
-        let none : without name (rows_of es) ≡ rows_of es = without-none name (rows_of es) (subst P (same_name e.1.name name is) once.0) in
-        let whole : rows_of (es ++ fs) ≡ rows_of es ++ rows_of fs = map-append (λ
-        (x : ℕ × Row). let n : Numbered = record { rowid = x.0; row = x.1 } in n) es fs in
-        rw (there, none) whole
-    at false is found rest =
-        let apart : is_at (nat_cmp number) e.0 ≡ false = at_apart number e.0 (below_found (is_named name) number e.0 (rows_of es) rising.1 found) in
-        rw apart (ap (λ (t : List Numbered). record { rowid = e.0; row = e.1 } ∷ t) (rest found))
-
 -- ---- names
 
 pub name-comm : (a b : List ℕ) → bytes_eq a b ≡ bytes_eq b a
@@ -206,16 +183,39 @@ number_at-insert (e ∷ es) key number name = at (by_items key e.0) refl (number
         let apart : bytes_eq key.items e.0.items ≡ false = sym (at_name key.items e.0.items) ∙ ap is_eq is in
         rw (at_name name e.0.items) (other (bytes_eq name e.0.items) refl apart rest)
 
--- the numbers of names, where a row takes the place of the one of its name
-pub number_named-put : (ns : List Numbered) (n : Numbered) (name : List ℕ)
-    → number_named (without n.row.name ns ++ n ∷ []) name ≡ cond (bytes_eq n.row.name name) (Some n.rowid) (number_named ns name)
-number_named-put ns n name = rw (find-put ns n name) (at (bytes_eq n.row.name name))
+-- the numbers of names, where one was given another number or lost its own
+pub numbers-updated : (m n : BTreeMap (Vec ℕ Global) ℕ) (name : List ℕ) (w : Option ℕ) → UpdatesBy by_items (name_cmp name) m n w → (q : List ℕ)
+    → number_at n.entries q ≡ cond (bytes_eq name q) w (number_at m.entries q)
+unfolding KeepsOthers
+numbers-updated m n name w up q = at (bytes_eq name q) refl
   where
-    at : (b : Bool) → option_map (λ m. m.rowid) (cond b (Some n) (find (is_named name) ns)) ≡ cond b (Some n.rowid) (number_named ns name)
-    at true = refl
-    at false = refl
+    named : (k : Vec ℕ Global) (a : List ℕ) → is_at (name_cmp a) k ≡ true → a ≡ k.items
+    named k a is = same_name a k.items (sym (at_name a k.items) ∙ is)
+
+    key_test : (x y : Vec ℕ Global) → is_at (name_cmp q) x ≡ true → is_at (name_cmp q) y ≡ is_eq (by_items x y)
+    key_test x y is = ap (λ (a : List ℕ). is_at (name_cmp a) y) (named x q is)
+
+    other : bytes_eq name q ≡ false → (k : Vec ℕ Global) → is_at (name_cmp name) k ≡ true → is_at (name_cmp q) k ≡ false
+    other apart k is =
+        let not_q : bytes_eq k.items q ≡ false = ap (λ (a : List ℕ). bytes_eq a q) (sym (named k name is)) ∙ apart in
+        at_name q k.items ∙ name-comm q k.items ∙ not_q
+
+    at : (b : Bool) → bytes_eq name q ≡ b → number_at n.entries q ≡ cond b w (number_at m.entries q)
+    at true is = ap (λ (a : List ℕ). number_at n.entries a) (sym (same_name name q is)) ∙ up.1
+    at false is = up.3 (is_at (name_cmp q)) key_test (other is)
 
 -- ---- both maps
+
+-- the two maps of rows of which each name has one
+pub record IsFound (entries : List (ℕ × Row)) (names : List (Vec ℕ Global × ℕ)) : Type 0 where
+  pub rising : IsRising 0 (rows_of entries)
+  pub numbers : (name : List ℕ) → number_at names name ≡ number_named (rows_of entries) name
+
+pub found-index : (es : List (ℕ × Row)) (names : List (Vec ℕ Global × ℕ)) → IsIndex es names → IsNamedOnce (rows_of es) → IsFound es names
+found-index es names index once = record {
+  rising = index.rising;
+  numbers = λ name. index.numbers name ∙ latest-once (rows_of es) name once;
+}
 
 pub same-index : (es es' : List (ℕ × Row)) (names names' : List (Vec ℕ Global × ℕ)) → IsIndex es names → es' ≡ es → names' ≡ names → IsIndex es' names'
 same-index es es' names names' index e n =
@@ -223,41 +223,29 @@ same-index es es' names names' index e n =
     let Q : List (Vec ℕ Global × ℕ) → Type 0 = λ x. IsIndex es' x in
     subst Q (sym n) (subst P (sym e) index)
 
--- a row was put behind the others in both maps, and the one of its name is gone
-pub indexed-put : (es es' : List (ℕ × Row)) (names names' : List (Vec ℕ Global × ℕ)) (key : Vec ℕ Global) (rowid : ℕ) (row : Row) → IsIndex es names →
+pub rows-push : (es : List (ℕ × Row)) (rowid : ℕ) (row : Row) → rows_of (es ++ (rowid, row) ∷ []) ≡ rows_of es ++ record { rowid = rowid; row = row } ∷ []
+rows-push es rowid row = map-append (λ (x : ℕ × Row). let n : Numbered = record { rowid = x.0; row = x.1 } in n) es ((rowid, row) ∷ [])
+
+-- a row was put behind the others in both maps
+pub indexed-push : (es es' : List (ℕ × Row)) (names names' : List (Vec ℕ Global × ℕ)) (key : Vec ℕ Global) (rowid : ℕ) (row : Row) → IsIndex es names →
     0 < rowid →
-    All (λ n. n.rowid < rowid) (rows_of es) → key.items ≡ row.name → rows_of es' ≡ without row.name (rows_of es) ++ record { rowid = rowid; row = row } ∷ [] →
-    names' ≡ insert_entry by_items names key rowid → IsIndex es' names'
-indexed-put es es' names names' key rowid row index positive above named rows put =
+    All (λ n. n.rowid < rowid) (rows_of es) → key.items ≡ row.name → es' ≡ es ++ (rowid, row) ∷ [] → names' ≡ insert_entry by_items names key rowid →
+    IsIndex es' names'
+indexed-push es es' names names' key rowid row index positive above named rows put =
     let n : Numbered = record { rowid = rowid; row = row } in
-    let kept : Numbered → Bool = λ m. not (is_named row.name m) in
     let B : Numbered → Type 0 = λ m. m.rowid < rowid in
     let W : Numbered → Type 0 = λ m. m.rowid ≤ rowid - 1 in
-    let within : All W (without row.name (rows_of es)) =
-    All-filter kept W (rows_of es) (All-weaker B W (λ m below. let b : m.rowid < rowid = below in omega arith) (rows_of es) above) in
-    let R : List Numbered → Type 0 = λ x. IsRising 0 x in
-    let O : List Numbered → Type 0 = λ x. IsNamedOnce x in
+    let within : All W (rows_of es) = All-weaker B W (λ m below. let b : m.rowid < rowid = below in omega arith) (rows_of es) above in
+    let all : rows_of es' ≡ rows_of es ++ n ∷ [] = ap rows_of rows ∙ rows-push es rowid row in
     record {
-      rising = subst R (sym rows) (rising-push 0 (rowid - 1) (without row.name (rows_of es)) n (omega arith) (omega arith)
-          (rising-filter kept 0 (rows_of es) index.rising) within);
-      once = subst O (sym rows) (once-push (without row.name (rows_of es)) n (once-without row.name (rows_of es) index.once) (find-without row.name
-          (rows_of es)));
-      numbers = λ name. rw (put, rows) (number_at-insert names key rowid name ∙ rw (named, index.numbers name) (sym (number_named-put (rows_of es) n name)));
+      rising = rw all (rising-push 0 (rowid - 1) (rows_of es) n (omega arith) (omega arith) index.rising within);
+      numbers = λ name. rw (put, all) (number_at-insert names key rowid name ∙ rw (named, index.numbers name) (sym (latest-push (rows_of es) n name)));
     }
 
-pub rows-put_over : (es : List (ℕ × Row)) (names : List (Vec ℕ Global × ℕ)) (old rowid : ℕ) (row : Row) → IsIndex es names →
-    All (λ n. n.rowid < rowid) (rows_of es) →
-    number_named (rows_of es) row.name ≡ Some old →
-    rows_of (remove_entry (is_at (nat_cmp old)) (insert_entry nat_cmp es rowid row)) ≡ without row.name (rows_of es) ++ record { rowid = rowid; row = row } ∷ []
-rows-put_over es names old rowid row index above found =
-    rw (insert-above es rowid row above) (remove-named 0 es ((rowid, row) ∷ []) row.name old index.rising index.once found)
-
-pub old-put_over : (es : List (ℕ × Row)) (names : List (Vec ℕ Global × ℕ)) (old rowid : ℕ) (row : Row) → IsIndex es names →
-    All (λ n. n.rowid < rowid) (rows_of es) →
-    number_named (rows_of es) row.name ≡ Some old →
-    lookup (is_at (nat_cmp old)) (insert_entry nat_cmp es rowid row) ≡ find_named (rows_of es) row.name
-old-put_over es names old rowid row index above found =
-    rw (insert-above es rowid row above) (get-found (is_named row.name) old 0 es ((rowid, row) ∷ []) index.rising found)
+-- the number that a name had
+pub number-before : (es : List (ℕ × Row)) (names : List (Vec ℕ Global × ℕ)) (key : Vec ℕ Global) (name : List ℕ) (o : Option ℕ) → IsIndex es names →
+    key.items ≡ name → o ≡ number_at names key.items → o ≡ latest (rows_of es) name
+number-before es names key name o index named is = is ∙ ap (λ (x : List ℕ). number_at names x) named ∙ index.numbers name
 
 -- no row is found, where no number is
 none_found : (o : Option Numbered) → option_map (λ n. n.rowid) o ≡ None → o ≡ None
@@ -266,13 +254,6 @@ none_found (Some n) none = cc
 
 pub none_named : (ns : List Numbered) (name : List ℕ) → number_named ns name ≡ None → find_named ns name ≡ None
 none_named ns name none = rw (none_found (find (is_named name) ns) none) refl
-
-pub rows-put_new : (es : List (ℕ × Row)) (rowid : ℕ) (row : Row) → All (λ n. n.rowid < rowid) (rows_of es) → number_named (rows_of es) row.name ≡ None →
-    rows_of (insert_entry nat_cmp es rowid row) ≡ without row.name (rows_of es) ++ record { rowid = rowid; row = row } ∷ []
-rows-put_new es rowid row above none =
-    let gone : without row.name (rows_of es) ≡ rows_of es = without-none row.name (rows_of es) (none_found (find (is_named row.name) (rows_of es)) none) in
-    rw (insert-above es rowid row above, gone)
-    (map-append (λ (x : ℕ × Row). let n : Numbered = record { rowid = x.0; row = x.1 } in n) es ((rowid, row) ∷ []))
 
 -- ---- the greatest number
 
@@ -311,8 +292,65 @@ above-last es last k row found up_to = at (cases_lt last k)
     at (inl below) = rw (lt-ltb last k below) (sym (below-all es last k below up_to))
     at (inr above) = rw (le-ltb last k above) (sym (not-below-all es last k row above found))
 
--- what a map by name has at a name, as a number of its row
-pub number-found : (es : List (ℕ × Row)) (names : List (Vec ℕ Global × ℕ)) (key : Vec ℕ Global) (name : List ℕ) (o : Option ℕ) → IsIndex es names →
-    key.items ≡ name →
-    o ≡ number_at names key.items → number_named (rows_of es) name ≡ o
-number-found es names key name o index named is = sym (index.numbers name) ∙ ap (λ (x : List ℕ). number_at names x) (sym named) ∙ sym is
+-- ---- a row that is taken away by its number
+
+at_number : (a b : ℕ) → is_at (nat_cmp a) b ≡ (b == a)
+at_number a b = at (b == a) refl
+  where
+    at : (v : Bool) → (b == a) ≡ v → is_at (nat_cmp a) b ≡ v
+    at true is = ap (λ (x : ℕ). is_at (nat_cmp a) x) (eqb-true b a is) ∙ at_itself a
+    at false is = not_at (nat_cmp a b) (λ tied. let yes : (b == a) ≡ true = eq-eqb b a (sym (exact_unsigned a b tied)) in cc)
+
+pub remove-numbered : (low : ℕ) (es : List (ℕ × Row)) (rowid : ℕ) → IsRising low (rows_of es) →
+    rows_of (remove_entry (is_at (nat_cmp rowid)) es) ≡ but (rows_of es) rowid
+remove-numbered low [] rowid rising = refl
+remove-numbered low (e ∷ es) rowid rising = at (is_numbered rowid (record { rowid = e.0; row = e.1 })) refl (remove-numbered e.0 es rowid rising.1)
+  where
+    at : (b : Bool) → (e.0 == rowid) ≡ b → rows_of (remove_entry (is_at (nat_cmp rowid)) es) ≡ but (rows_of es) rowid →
+        rows_of (cond (is_at (nat_cmp rowid) e.0) es (e ∷ remove_entry (is_at (nat_cmp rowid)) es))
+        ≡ cond (not b) (record { rowid = e.0; row = e.1 } ∷ but (rows_of es) rowid) (but (rows_of es) rowid)
+    at true is rest =
+        let same : e.0 ≡ rowid = eqb-true e.0 rowid is in
+        rw (at_number rowid e.0, is) (sym (but-above rowid e.0 (rows_of es) (omega arith) rising.1))
+    at false is rest = rw (at_number rowid e.0, is) (ap (λ (t : List Numbered). record { rowid = e.0; row = e.1 } ∷ t) rest)
+
+pub get-numbered : (es : List (ℕ × Row)) (rowid : ℕ) → lookup (is_at (nat_cmp rowid)) es ≡ row_numbered (rows_of es) rowid
+get-numbered [] rowid = refl
+get-numbered (e ∷ es) rowid = rw (at_number rowid e.0) (at (e.0 == rowid) (get-numbered es rowid))
+  where
+    at : (b : Bool) → lookup (is_at (nat_cmp rowid)) es ≡ row_numbered (rows_of es) rowid →
+        cond b (Some e.1) (lookup (is_at (nat_cmp rowid)) es)
+        ≡ option_map (λ m. m.row) (cond b (Some (record { rowid = e.0; row = e.1 })) (find (is_numbered rowid) (rows_of es)))
+    at true rest = refl
+    at false rest = rest
+
+pub found_row : (o : Option Numbered) (row : Row) → option_map (λ n. n.row) o ≡ Some row → (n : Numbered) × (o ≡ Some n) × (n.row ≡ row)
+found_row None row found = cc
+found_row (Some n) row found = (n, refl, cc)
+
+no_row : (o : Option Numbered) → option_map (λ n. n.row) o ≡ None → o ≡ None
+no_row None none = refl
+no_row (Some n) none = cc
+
+-- the row of a number is gone from both maps
+pub indexed-cut : (es es' : List (ℕ × Row)) (names names' : List (Vec ℕ Global × ℕ)) (rowid : ℕ) (before : Option ℕ) (row : Row) → IsIndex es names →
+    es' ≡ remove_entry (is_at (nat_cmp rowid)) es → row_numbered (rows_of es) rowid ≡ Some row → GoesBack (rows_of es) rowid before →
+    ((q : List ℕ)
+    → number_at names' q ≡ cond (bytes_eq row.name q && option_map_or (λ k. k == rowid) (number_at names row.name) false) before (number_at names q)) →
+    IsIndex es' names'
+indexed-cut es es' names names' rowid before row index rows found back given =
+    let some = found_row (find (is_numbered rowid) (rows_of es)) row found in
+    let all : rows_of es' ≡ but (rows_of es) rowid = ap rows_of rows ∙ remove-numbered 0 es rowid index.rising in
+    record {
+      rising = rw all (rising-filter (λ n. not (is_numbered rowid n)) 0 (rows_of es) index.rising);
+      numbers = λ q. rw all (given q ∙ rw (index.numbers row.name, index.numbers q, ← some.2)
+          (latest-cut (rows_of es) rowid before some.0 q index.rising some.1 back));
+    }
+
+-- where no row has the number, nothing goes
+pub indexed-none : (es es' : List (ℕ × Row)) (names : List (Vec ℕ Global × ℕ)) (rowid : ℕ) → IsIndex es names →
+    es' ≡ remove_entry (is_at (nat_cmp rowid)) es → row_numbered (rows_of es) rowid ≡ None → IsIndex es' names
+indexed-none es es' names rowid index rows none =
+    let all : rows_of es' ≡ rows_of es = ap rows_of rows ∙ remove-numbered 0 es rowid index.rising
+    ∙ but-none rowid (rows_of es) (no_row (find (is_numbered rowid) (rows_of es)) none) in
+    record { rising = rw all index.rising; numbers = λ q. index.numbers q ∙ ap (λ (l : List Numbered). latest l q) (sym all) }

@@ -1,5 +1,7 @@
 pub mod Copying
 pub mod Entries
+pub mod Exchanging
+pub mod Latest
 pub mod Merging
 pub mod Named
 pub mod Numbering

@@ -31,6 +31,13 @@ rising-push low top (m ∷ ms) n le above rising within =
     let head : m.rowid ≤ top = All-head P m ms within in
     (rising.0, rising-push m.rowid top ms n head above rising.1 (All-tail P m ms within))
 
+pub rising-below : (low : ℕ) (ns : List Numbered) (n : Numbered) → low < n.rowid → IsRising low ns → All (λ m. m.rowid < n.rowid) ns →
+    IsRising low (ns ++ n ∷ [])
+rising-below low [] n le rising below = (le, tt)
+rising-below low (m ∷ ms) n le rising below =
+    let P : Numbered → Type 0 = λ x. x.rowid < n.rowid in
+    (rising.0, rising-below m.rowid ms n (All-head P m ms below) rising.1 (All-tail P m ms below))
+
 pub listed-with_row : (l : Listed) (row : Row) → IsListed l → IsListed (with_row l row)
 listed-with_row l row is =
     let kept : Numbered → Bool = λ n. not (is_named row.name n) in

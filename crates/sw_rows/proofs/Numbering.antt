@@ -12,7 +12,7 @@ use Rattle.sw_rows.specs.declared.row.Row.{Row}
 use Rattle.sw_rows.proofs.Merging.{rising-filter, rising-push}
 use Rattle.sw_rows.proofs.Named.{find-filter, once-push, without-none}
 
-once-filter : (p : Numbered → Bool) (ns : List Numbered) → IsNamedOnce ns → IsNamedOnce (filter p ns)
+pub once-filter : (p : Numbered → Bool) (ns : List Numbered) → IsNamedOnce ns → IsNamedOnce (filter p ns)
 once-filter p [] once = once
 once-filter p (n ∷ ns) once = at (p n) (once-filter p ns once.1)
   where

@@ -19,12 +19,12 @@ use Rattle.std.proofs.lemmas.List.Elements.{All-head, All-tail, All-weaker}
 use Rattle.std.proofs.lemmas.Map.Entries.{lookup-filter-keys}
 use Rattle.std.proofs.lemmas.Cmp.{nat_list_cmp_total}
 use Rattle.std.proofs.lemmas.Map.Lookups.{exact_bytes}
-use Rattle.sw_rows.specs.Index.{IsIndex, name_cmp, number_at, rows_of}
+use Rattle.sw_rows.specs.Index.{name_cmp, number_at, rows_of}
 use Rattle.sw_rows.specs.Names.{HasRow, HaveRows, is_between, ListsBetween, row_of, rows_named}
 use Rattle.sw_rows.specs.Rows.{find_named, is_named, number_named}
 use Rattle.sw_rows.specs.declared.numbered.Numbered.{Numbered}
 use Rattle.sw_rows.specs.declared.row.Row.{Row}
-use Rattle.sw_rows.proofs.Entries.{at_name, by_items, found_number, get-found, name-comm, none_named}
+use Rattle.sw_rows.proofs.Entries.{at_name, by_items, found_number, get-found, IsFound, name-comm, none_named}
 use Rattle.sw_rows.proofs.Named.{same_name}
 
 -- ---- one step of an iterator
@@ -105,12 +105,12 @@ found_named name (m ∷ ms) n found = at (is_named name m) refl found (λ h. fou
     at false is found rest = rest found
 
 -- by the number of a name stands its row
-number-row : (entries : List (ℕ × Row)) (names : List (Vec ℕ Global × ℕ)) (index : IsIndex entries names) (name : List ℕ) (number : ℕ) →
+number-row : (entries : List (ℕ × Row)) (names : List (Vec ℕ Global × ℕ)) (index : IsFound entries names) (name : List ℕ) (number : ℕ) →
     number_named (rows_of entries) name ≡ Some number → lookup (is_at (nat_cmp number)) entries ≡ find_named (rows_of entries) name
 number-row entries names index name number found =
     rw append-nil at (get-found (is_named name) number 0 entries [] index.rising found)
 
-has-row : (entries : List (ℕ × Row)) (names : List (Vec ℕ Global × ℕ)) → IsIndex entries names → (e : Vec ℕ Global × ℕ) → number_at names e.0.items ≡ Some e.1 →
+has-row : (entries : List (ℕ × Row)) (names : List (Vec ℕ Global × ℕ)) → IsFound entries names → (e : Vec ℕ Global × ℕ) → number_at names e.0.items ≡ Some e.1 →
     HasRow entries e
 has-row entries names index e there =
     let found : number_named (rows_of entries) e.0.items ≡ Some e.1 = sym (index.numbers e.0.items) ∙ there in
@@ -122,7 +122,7 @@ has-row entries names index e there =
       named = found_named e.0.items (rows_of entries) some.0 some.1;
     }
 
-pub have-rows : (entries : List (ℕ × Row)) (names : List (Vec ℕ Global × ℕ)) → IsIndex entries names → (es : List (Vec ℕ Global × ℕ)) →
+pub have-rows : (entries : List (ℕ × Row)) (names : List (Vec ℕ Global × ℕ)) → IsFound entries names → (es : List (Vec ℕ Global × ℕ)) →
     All (λ e. number_at names e.0.items ≡ Some e.1) es → HaveRows entries es
 have-rows entries names index [] all = tt
 have-rows entries names index (e ∷ es) all =
@@ -131,13 +131,13 @@ have-rows entries names index (e ∷ es) all =
 
 -- what a range of the map by name gives
 pub have-range : (entries : List (ℕ × Row)) (m : BTreeMap (Vec ℕ Global) ℕ) (lower upper : Vec ℕ Global) (es : List (Vec ℕ Global × ℕ)) →
-    IsIndex entries m.entries →
+    IsFound entries m.entries →
     All (IsEntryInRange by_items (Included lower) (Excluded upper) m) es → HaveRows entries es
 have-range entries m lower upper es index all =
     have-rows entries m.entries index es
     (All-weaker (IsEntryInRange by_items (Included lower) (Excluded upper) m) (λ e. number_at m.entries e.0.items ≡ Some e.1) (λ e h. h.1) es all)
 
-exact-between : (entries : List (ℕ × Row)) (names : List (Vec ℕ Global × ℕ)) (lower upper : Vec ℕ Global) → IsIndex entries names →
+exact-between : (entries : List (ℕ × Row)) (names : List (Vec ℕ Global × ℕ)) (lower upper : Vec ℕ Global) → IsFound entries names →
     HaveRows entries (entries_between by_items (Included lower) (Excluded upper) names) → (name : List ℕ) →
     row_of (rows_named entries (entries_between by_items (Included lower) (Excluded upper) names)) name
     ≡ cond (is_between lower.items upper.items name) (find_named (rows_of entries) name) None
@@ -190,7 +190,7 @@ kept-rise p (e ∷ es) sorted = at (p e.0) (kept-rise p es sorted.1)
     at true rest = (all-kept (λ y. by_items e.0 y ≡ Less) p es sorted.0, rest)
     at false rest = rest
 
-pub lists-between : (entries : List (ℕ × Row)) (names es : List (Vec ℕ Global × ℕ)) (lower upper : Vec ℕ Global) → IsIndex entries names →
+pub lists-between : (entries : List (ℕ × Row)) (names es : List (Vec ℕ Global × ℕ)) (lower upper : Vec ℕ Global) → IsFound entries names →
     IsStrictlySortedBy by_items (keys_of names) → es ≡ entries_between by_items (Included lower) (Excluded upper) names → HaveRows entries es →
     ListsBetween lower.items upper.items (rows_of entries) (rows_named entries es)
 lists-between entries names es lower upper index sorted is have =

@@ -1,3 +1,4 @@
+pub mod Exchanging
 pub mod Index
 pub mod Laws
 pub mod Left

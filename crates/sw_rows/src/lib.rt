@@ -9,11 +9,13 @@
 //! container has.
 #![tactic(auto)]
 
+mod exchange;
 mod hash;
 mod index;
 pub mod laws;
 mod named_rows;
 mod numbered;
+mod numbers;
 mod row;
 mod rows;
 mod rows_iter;

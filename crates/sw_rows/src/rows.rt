@@ -1,12 +1,15 @@
-ghost use Rattle.std.specs.Prelude.{◌≡◌, ◌<◌, ◌^◌, ◌-◌, ◌++◌, ◌∷◌, [], All, max, true, IsTrue, IfOk, OnOk, OnErr};
+ghost use Rattle.std.specs.Prelude.{◌≡◌, ◌<◌, ◌≤◌, ◌^◌, ◌-◌, ◌++◌, ◌∷◌, [], All, max, true, IsTrue, IfOk, OnOk, OnErr};
 ghost use Rattle.std.specs.Option.{option_copied};
+ghost use Rattle.sw_rows.specs.Exchanging.{exchanged};
 ghost use Rattle.sw_rows.specs.Left.{rows_left};
 ghost use Rattle.sw_rows.specs.Names.{ListsBetween};
-ghost use Rattle.sw_rows.specs.Rows.{can_restore, find_named, fits, merged, no_rows, no_rows_at, number_named, restored, without, IsListed};
+ghost use Rattle.sw_rows.specs.Rows.{can_restore, find_named, fits, merged, no_rows, no_rows_at, number_named, restored, without, IsListed, IsRising};
 ghost use Rattle.sw_rows.specs.Sums.{bytes_of, count_of, hash_of};
 
+use crate::exchange::exchange;
 use crate::index::Index;
 use crate::named_rows::NamedRows;
+use crate::numbered::Numbered;
 use crate::row::Row;
 use crate::rows_iter::RowsIter;
 use crate::sums::Sums;
@@ -114,6 +117,29 @@ impl Rows {
             None => with,
         };
         self.top = self.top.max(rowid);
+        Ok(())
+    }
+
+    /// Takes the rows of these numbers away, and puts others behind all that are left, under numbers of their own above the
+    /// greatest given out; `top` is the greatest given out from then on. A number that no row has is passed over.
+    ///
+    /// All of it is made or, after [`NoMemory`], nothing. Its time grows with the numbers and rows that it is given, each of
+    /// them with the logarithm of the number of rows.
+    pub fn exchange(
+        &mut self,
+        alloc: Global,
+        numbers: &[u64],
+        rows: Vec<Numbered>,
+        top: u64,
+    ) -> Result<(), NoMemory>
+        requires given { All (λ rowid. rowid ≤ self.old.top) numbers.now }
+        requires rising { IsRising self.old.top rows.items }
+        requires listed { IsListed (exchanged self.old numbers.now rows.items top) }
+        ensures rows { OnOk result (self.new ≡ exchanged self.old numbers.now rows.items top) }
+        ensures err { OnErr result (self.new ≡ self.old) }
+    {
+        self.sums = exchange(&mut self.index, alloc, self.sums, numbers, rows)?;
+        self.top = top;
         Ok(())
     }
 

@@ -1,0 +1,84 @@
+ghost use Rattle.std.specs.Prelude.{◌≡◌, Some, IfOk, not, filter};
+ghost use Rattle.sw_keeper.specs.Changes.{CanChange, IsBatch, all_changed, changed};
+ghost use Rattle.sw_keeper.specs.Drafts.{drafted, IsDraft};
+ghost use Rattle.sw_keeper.specs.declared.tables.Tables.{Tables};
+ghost use Rattle.sw_rows.specs.Rows.{is_numbered};
+
+use crate::batch::{Batch, Change};
+use crate::tables::Tables;
+use std::alloc::Global;
+use sw_outside::NoMemory;
+use sw_rows::Numbered;
+use sw_timestamp::Timestamp;
+
+/// What a batch makes of tables, taken together: the numbers of the rows that go, the rows that come, the greatest number given
+/// out then and the times. No change of the batch is made yet.
+#[derive(Debug, Drop)]
+pub(crate) struct Draft {
+    pub(crate) put_time: Timestamp,
+    pub(crate) delete_time: Option<Timestamp>,
+    pub(crate) numbers: Vec<u64>,
+    pub(crate) rows: Vec<Numbered>,
+    pub(crate) top: u64,
+}
+
+/// The draft of a batch.
+pub(crate) fn draft_of(alloc: Global, tables: &Tables, batch: &Batch) -> Result<Draft, NoMemory>
+    requires { IsBatch (Some tables.now) batch.now }
+    ensures is { IfOk result (λ draft. IsDraft tables.now draft) }
+    ensures tables { IfOk result (λ draft. Some (drafted tables.now draft) ≡ all_changed (Some tables.now) batch.now) }
+{
+    let mut draft = begin(alloc, tables);
+    for change in batch.as_slice() {
+        add(alloc, tables, &mut draft, change)?;
+    }
+    Ok(draft)
+}
+
+/// The draft of no changes. It takes no memory.
+fn begin(alloc: Global, tables: &Tables) -> Draft
+    ensures is { IsDraft tables.now result }
+    ensures tables { drafted tables.now result ≡ tables.now }
+{
+    let _ = tables.rows.iter();
+    Draft {
+        put_time: tables.put_time,
+        delete_time: tables.delete_time,
+        numbers: Vec::new(alloc),
+        rows: Vec::new(alloc),
+        top: tables.rows.top(),
+    }
+}
+
+/// The draft with a change more.
+fn add(alloc: Global, tables: &Tables, draft: &mut Draft, change: &Change) -> Result<(), NoMemory>
+    requires is { IsDraft tables.now draft.old }
+    requires fits { CanChange (Some (drafted tables.now draft.old)) change.now }
+    ensures is { IfOk result (λ _. IsDraft tables.now draft.new) }
+    ensures tables { IfOk result (λ _. Some (drafted tables.now draft.new) ≡ changed (Some (drafted tables.now draft.old)) change.now) }
+{
+    match change {
+        Change::Times {
+            put_time,
+            delete_time,
+        } => {
+            draft.put_time = *put_time;
+            draft.delete_time = *delete_time;
+        }
+        Change::PutRow(row, rowid) => {
+            let row = row.copy(alloc)?;
+            draft.rows.push(Numbered { rowid: *rowid, row })?;
+            draft.top = *rowid;
+        }
+        Change::CutRow(rowid) if *rowid > tables.rows.top() => cut(&mut draft.rows, *rowid),
+        Change::CutRow(rowid) => draft.numbers.push(*rowid)?,
+    }
+    Ok(())
+}
+
+/// Takes the row of this number away.
+fn cut(rows: &mut Vec<Numbered>, rowid: u64)
+    ensures { rows.new.items ≡ filter (λ n. not (is_numbered rowid n)) rows.old.items }
+{
+    rows.retain(|numbered| numbered.rowid != rowid);
+}
