@@ -102,7 +102,8 @@ writes-after a b c dir names name w before now same wrote = record {
 
 module _ {V : Type 0} (tells : V → Bool) (files : V → Folders) (faults calls lists : V → ℕ) where
   -- a directory in which only another volume came, with the same files
-  pub dir-still : {at : Hash → Bool} (m n : Kept V) → IsDir tells files faults m → LooksAt tells files faults at m n → n.journal ≡ m.journal → IsDir tells files faults n
+  pub dir-still : {at : Hash → Bool} (m n : Kept V) → IsDir tells files faults m → LooksAt tells files faults at m n → n.journal ≡ m.journal
+      → IsDir tells files faults n
   dir-still m n dir looks same = record {
     same = looks.same.told ∙ (dir.same ∙ ap tells (sym looks.same.began));
     order = λ told. rw (looks.same.secrets, looks.same.power)

@@ -1,5 +1,6 @@
 -- A read of one file, once the doubt of its hash is settled.
-use Rattle.std.proofs.Common.{arith, Some, ◌≡◌, ◌≢◌, ℕ, ◌≤◌, ◌∷◌, Bool, true, false, List, [], Option, refl, sym, ◌∙◌, ap, subst, inl, inr, Ok, Err, IfSome, Result}
+use Rattle.std.proofs.Common.{arith, Some, ◌≡◌, ◌≢◌, ℕ, ◌≤◌, ◌∷◌, Bool, true, false, List, [], Option, refl, sym, ◌∙◌, ap, subst, inl, inr}
+use Rattle.std.proofs.Common.{Ok, Err, IfSome, Result}
 use Rattle.std.proofs.lemmas.Bool.{cases_Bool}
 use Rattle.std.specs.Option.{option_map}
 use Rattle.std.specs.Str.{bytes_eq}

@@ -1,5 +1,6 @@
 -- Steps by the rules, of a journal with several doubts, one of each hash at most; what they keep, and how a doubt is settled: over plain histories.
-use Rattle.std.proofs.Common.{◌≡◌, ◌≢◌, ℕ, ◌+◌, ◌≤◌, Bool, true, false, List, [], ◌∷◌, ◌++◌, length, refl, sym, ◌∙◌, ap, subst, arith, if◌then◌else◌, inl, inr, ◌⊎◌}
+use Rattle.std.proofs.Common.{◌≡◌, ◌≢◌, ℕ, ◌+◌, ◌≤◌, Bool, true, false, List, [], ◌∷◌, ◌++◌, length, refl, sym, ◌∙◌, ap, subst, arith}
+use Rattle.std.proofs.Common.{if◌then◌else◌, inl, inr, ◌⊎◌}
 use Rattle.std.proofs.Common.{length-append, map}
 use Rattle.std.specs.List.{fold}
 use Rattle.std.specs.Str.{bytes_eq}
@@ -208,7 +209,8 @@ module _ (h : History) (now : Hash → State) (kept : IsKept h now) (xs ys : Lis
     kept-settled = record {
       can = λ told hash. by told hash (bytes_eq hash name.hash) refl;
       single = λ hash.
-          let more = one-more xs ys name w hash in let one = single-here hash in let is = ap (λ (ds : List ObjEntry). length (written hash ds)) (doubts-are b h.journal xs name w ys) in
+          let more = one-more xs ys name w hash in let one = single-here hash in
+          let is = ap (λ (ds : List ObjEntry). length (written hash ds)) (doubts-are b h.journal xs name w ys) in
           omega (arith, more, one, is);
     }
       where

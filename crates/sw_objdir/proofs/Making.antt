@@ -122,7 +122,8 @@ module _ {V : Type 0} (tells : V → Bool) (files : V → Folders) (faults : V �
       entered = with_entry k.journal name (write_of change)
 
       pub step-enters : (front : ℕ) → front ≡ length entered.entries
-          → IsStep tells files faults k name change (made_answer o change front) (record k { volume = v; journal = with_entry k.journal name (write_of change) })
+          → IsStep tells files faults k name change (made_answer o change front)
+          (record k { volume = v; journal = with_entry k.journal name (write_of change) })
       step-enters front at = step-of tells files faults k (moved entered) name change (made_answer o change front)
           (record { began = refl; secrets = refl; power = refl; told = told_is })
           (others-held entered (λ told. (joins told).others))

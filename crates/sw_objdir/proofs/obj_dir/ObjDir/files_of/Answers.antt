@@ -35,7 +35,8 @@ returns-in-Err-clause-read g c =
     let v = g.V.Volume in let k = c.args.self.now in let e = c.in-Err.error in
     let r : Result (Vec DirLine Global) VolumeError = Err e in
     part-of v.tells v.holds v.faults k c.settle_all.new.self (λ hash. (partition_of hash k.power == c.args.part) && (suffix_of hash == c.args.suffix))
-    (λ hash. IsOfPart k.power c.args.part hash × (suffix_of hash ≡ c.args.suffix)) false (λ told s got. AreLines k.power c.args.part c.args.suffix told s got.items)
+    (λ hash. IsOfPart k.power c.args.part hash × (suffix_of hash ≡ c.args.suffix)) false
+    (λ told s got. AreLines k.power c.args.part c.args.suffix told s got.items)
     (Err c.fault_of_volume.result) c.settle_all.ensures.looks c.settle_all.ensures.dir
     (lines-flat (λ (got : Vec DirLine Global). got.items) k.power c.args.part c.args.suffix)
     (undamaged r (Err c.fault_of_volume.result)
@@ -47,7 +48,8 @@ returns-clause-reads g c =
     let v = g.V.Volume in let i = c.self.inside in let k = c.args.self.now in
     let m : Kept _ = record { volume = i.volume; began = i.opening.value; secrets = i.secrets; power = i.power; journal = i.journal } in
     let looks : LooksAt v.tells v.holds v.faults (is_in k.power (scopes.Suffix c.args.part c.args.suffix)) k m =
-    subst (λ (x : Kept _). LooksAt v.tells v.holds v.faults (is_in k.power (scopes.Suffix c.args.part c.args.suffix)) k x) (sym c.self.view_is) c.settle_all.ensures.looks in
+    subst (λ (x : Kept _). LooksAt v.tells v.holds v.faults (is_in k.power (scopes.Suffix c.args.part c.args.suffix)) k x)
+    (sym c.self.view_is) c.settle_all.ensures.looks in
     let settled : IsSettled k.power (scopes.Suffix c.args.part c.args.suffix) m.journal.doubts =
     subst (λ (p : ℕ). IsSettled p (scopes.Suffix c.args.part c.args.suffix) m.journal.doubts) looks.same.power
     (subst (λ (x : Kept _). IsSettled x.power (scopes.Suffix c.args.part c.args.suffix) x.journal.doubts) (sym c.self.view_is) c.in_default.ensures.settled) in
@@ -68,14 +70,17 @@ returns-clause-read g c =
     let v = g.V.Volume in let i = c.self.inside in let k = c.args.self.now in
     let m : Kept _ = record { volume = i.volume; began = i.opening.value; secrets = i.secrets; power = i.power; journal = i.journal } in
     let looks : LooksAt v.tells v.holds v.faults (is_in k.power (scopes.Suffix c.args.part c.args.suffix)) k m =
-    subst (λ (x : Kept _). LooksAt v.tells v.holds v.faults (is_in k.power (scopes.Suffix c.args.part c.args.suffix)) k x) (sym c.self.view_is) c.settle_all.ensures.looks in
+    subst (λ (x : Kept _). LooksAt v.tells v.holds v.faults (is_in k.power (scopes.Suffix c.args.part c.args.suffix)) k x)
+    (sym c.self.view_is) c.settle_all.ensures.looks in
     let fine = ap (λ (x : Kept _). v.faults x.volume) c.self.view_is ∙ c.in_default.ensures.cause.kept in
     let is : c.match-lines_of.result ≡ told_as c.lines_of.result = elim c.match-lines_of.branch [
       | in-Ok w ↦ w.result-is ∙ ap told_as (sym w.in-Ok.is)
       | in-Err-lines_of w ↦ w.result-is ∙ (ap Err w.fault_of_volume-in-Err-lines_of.ensures ∙ ap told_as (sym w.in-Err-lines_of.is))
     ] in
-    part-of v.tells v.holds v.faults k (record m { volume = c.lines_of.new.volume }) (λ hash. (partition_of hash k.power == c.args.part) && (suffix_of hash == c.args.suffix))
-    (λ hash. IsOfPart k.power c.args.part hash × (suffix_of hash ≡ c.args.suffix)) false (λ told s got. AreLines k.power c.args.part c.args.suffix told s got.items)
+    part-of v.tells v.holds v.faults k (record m { volume = c.lines_of.new.volume })
+    (λ hash. (partition_of hash k.power == c.args.part) && (suffix_of hash == c.args.suffix))
+    (λ hash. IsOfPart k.power c.args.part hash × (suffix_of hash ≡ c.args.suffix)) false
+    (λ told s got. AreLines k.power c.args.part c.args.suffix told s got.items)
     c.match-lines_of.result
     (moved-looks v.tells v.holds v.faults k m looks c.self.invariant fine c.lines_of.new.volume c.lines_of.ensures.told c.lines_of.ensures.same
     c.lines_of.result c.lines_of.ensures.cause)

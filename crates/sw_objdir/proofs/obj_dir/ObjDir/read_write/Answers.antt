@@ -4,7 +4,8 @@ use Rattle.std.specs.Str.{bytes_eq}
 use Rattle.sw_hashdir.specs.Places.{dir_text}
 use Rattle.sw_hashdir.specs.Readings.{IsDamagedAt}
 use Rattle.sw_hashdir.specs.Steps.{is_hashed}
-use Rattle.sw_objdir.proofs.FileReads.{damaged-as, file-dir, file-given, file-looks, file-part, file-refused, found-before, one-settled, read-looks, refused-calls}
+use Rattle.sw_objdir.proofs.FileReads.{damaged-as, file-dir, file-given, file-looks, file-part, file-refused, found-before}
+use Rattle.sw_objdir.proofs.FileReads.{one-settled, read-looks, refused-calls}
 use Rattle.sw_objdir.proofs.FileReads.{settled-looks, unsettled-calls}
 use Rattle.sw_objdir.proofs.Looking.{dir-moved}
 use Rattle.sw_objdir.proofs.PartReads.{cause-as, part-told}
