@@ -171,6 +171,10 @@ abbrev pub IsSecondRead : Secrets → Hash → Folders → List ℕ → Picked �
 IsSecondRead secrets hash folders dir picked second =
     (found : Option Write) × IsFoundAt secrets hash folders dir (expiry_file picked) found × (second ≡ second_of found)
 
+-- the second is one that some write says, and none where there is no file that says one
+abbrev pub IsSecondOf : Option FileName → Option ℕ → Type 0
+IsSecondOf file second = (found : Option Write) × (file ≡ None → found ≡ None) × (second ≡ second_of found)
+
 -- in whatever ring: where all is in order, the second is that of what the hash stands for
 abbrev pub IsExpiryIn : Secrets → Hash → Folders → List ℕ → Picked → Option ℕ → Type 0
 IsExpiryIn secrets hash folders dir picked second =

@@ -2,7 +2,7 @@ ghost use Rattle.std.specs.Prelude.{◌≡◌, ℕ, ◌≤◌, true, None, Some,
 ghost use Rattle.sw_outside.specs.Counts.{raised};
 ghost use Rattle.sw_volume.specs.Tree.{contents};
 ghost use Rattle.sw_volume.specs.Volume.{IsSame};
-ghost use Rattle.sw_hashdir.specs.Readings.{IfDamaged, IsDamagedAt, IsExpiryIn, IsOutOfOrder, IsSecondRead};
+ghost use Rattle.sw_hashdir.specs.Readings.{IfDamaged, IsDamagedAt, IsExpiryIn, IsOutOfOrder, IsSecondOf, IsSecondRead};
 ghost use Rattle.sw_hashdir.specs.Readings.{OnFailedRead, UnlessFailedRead, expiry_file, raised_where, second_of};
 
 use crate::reading::{ReadFault, data_of, read_given};
@@ -26,6 +26,7 @@ pub fn read_expiry<V: Volume>(
 ) -> Result<Option<u64>, ReadFault>
     ensures second { IfOk result (λ second. V.tells volume.old ≡ true → IsSecondRead secrets.now hash.now (V.holds volume.old) dir.now picked.now second) }
     ensures expiry { IfOk result (λ second. V.tells volume.old ≡ true → IsExpiryIn secrets.now hash.now (V.holds volume.old) dir.now picked.now second) }
+    ensures said { IfOk result (λ second. IsSecondOf (expiry_file picked.now) second) }
     ensures damaged { IfDamaged result (λ bad. V.tells volume.old ≡ true
         → IsDamagedAt secrets.now hash.now (V.holds volume.old) dir.now (expiry_file picked.now) bad) }
     ensures disorder { IfDamaged result (λ bad. V.tells volume.old ≡ true → IsOutOfOrder secrets.now hash.now (V.holds volume.old) dir.now picked.now) }

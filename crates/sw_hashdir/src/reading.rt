@@ -132,6 +132,7 @@ pub(crate) fn read_given<V: Volume>(
     ensures found { IfOk result (λ found. V.tells volume.old ≡ true → IsFoundAt secrets.now hash.now (V.holds volume.old) dir.now file.now found) }
     ensures damaged { IfDamaged result (λ bad. V.tells volume.old ≡ true → IsDamagedAt secrets.now hash.now (V.holds volume.old) dir.now file.now bad) }
     ensures given { OnErr result (IsSome file.now) }
+    ensures absent { IfOk result (λ found. file.now ≡ None → found ≡ None) }
     ensures same { V.tells volume.old ≡ true → IsSame (contents (V.holds volume.old)) (contents (V.holds volume.new)) }
     ensures told { V.tells volume.new ≡ V.tells volume.old }
     ensures failed { OnFailedRead result (V.faults volume.new ≡ raised (V.faults volume.old)) }

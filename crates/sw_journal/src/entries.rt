@@ -3,7 +3,7 @@ ghost use Rattle.std.specs.Str.{bytes_eq};
 ghost use Rattle.sw_journal.specs.Entries.{IsFirstOf, entry_hash, entry_size, is_new_entry};
 ghost use Rattle.sw_peer.specs.Journals.{body_size, written};
 
-use sw_peer::{ObjEntry, Outline};
+use sw_peer::{ObjEntry, Outline, Seen};
 use sw_state::{Kind, Write};
 
 /// Where the first entry of a hash stands.
@@ -48,6 +48,13 @@ pub(crate) fn size_in(entry: ObjEntry) -> u64
     ensures { result ≡ entry_size entry }
 {
     size_of(&entry)
+}
+
+/// What contracts see of an entry that goes.
+pub(crate) fn seen_in(entry: ObjEntry) -> Seen<ObjEntry>
+    ensures { result ≡ entry }
+{
+    Seen::of(&entry)
 }
 
 fn body_size(write: &Write) -> u64

@@ -8,20 +8,22 @@ ghost use Rattle.sw_peer.specs.declared.entry.ObjEntry.{ObjEntry};
 ghost use Rattle.sw_peer.specs.declared.entry.ObjEntry.TheVariants.{Wrote};
 ghost use Rattle.sw_state.specs.declared.write.Write.{Write};
 
-use crate::entries::{first_of, is_new, is_of, size_in, size_of};
+use crate::entries::{first_of, is_new, is_of, seen_in, size_in, size_of};
 use std::alloc::Global;
 use std::marker::Model;
 use sw_outside::NoMemory;
-use sw_peer::{Added, ObjEntry, Outline};
+use sw_peer::{Added, ObjEntry, Outline, Seen};
 use sw_state::Write;
 
 /// What was done since a lock began: an entry for each write that was made, and a doubt for each that may have been.
 ///
+/// Of the entries only contracts see the writes: they take no memory, but their bodies count. A doubt keeps its write, until it is settled.
+///
 /// A write is doubted before its file is put; when its call of the volume is answered, it becomes an entry, or goes, or stays a doubt. So a
-/// write that fails needs no memory to be remembered, and settling needs none either: there is always a place for the entry of each doubt.
+/// write that fails needs no memory to be remembered, and settling needs none either.
 #[derive(Drop)]
 pub struct Journal {
-    entries: Vec<ObjEntry>,
+    entries: Vec<Seen<ObjEntry>>,
     doubts: Vec<ObjEntry>,
     used: u64,
     max_entries: u64,
@@ -119,7 +121,7 @@ impl Journal {
         ensures { (doubts : List ObjEntry) (entry : ObjEntry) → self.old.doubts ≡ doubts ++ entry ∷ [] → self.new ≡ with_last_entered self.old doubts entry }
     {
         if let Some(entry) = self.doubts.pop() {
-            self.entries.push_reserved(entry);
+            self.entries.push_reserved(seen_in(entry));
         }
     }
 
@@ -146,7 +148,7 @@ impl Journal {
         if is_new(outline, &entry) {
             self.used -= size_in(entry);
         } else {
-            self.entries.push_reserved(entry);
+            self.entries.push_reserved(seen_in(entry));
         }
     }
 }

@@ -1,6 +1,7 @@
 -- A changing step: what refuses it, and the calls of the volume that it made.
 use Rattle.std.proofs.Common.{◌≡◌, ℕ, suc, ◌+◌, ◌-◌, ◌<◌, ◌≤◌, ◌^◌, Bool, true, false, List, [], ◌∷◌, ◌++◌, length, refl, sym, ◌∙◌, ap, subst, arith, Option}
 use Rattle.std.proofs.Common.{Some, None, IsSome, ◌⊎◌, inl, inr, nat_le, ◌&&◌}
+use Rattle.std.proofs.lemmas.List.{append-nil}
 use Rattle.std.proofs.lemmas.Bool.{cases_Bool, cond-true, cond-false, leb-true, leb-false}
 use Rattle.std.proofs.Math.Nat.{min-eq_left, min-eq_right}
 use Rattle.sw_cleanup.specs.Cleaning.{AreListedIn, obsolete_of}
@@ -17,18 +18,21 @@ use Rattle.sw_peer.specs.Outlines.{picked_outline}
 use Rattle.sw_hashpath.specs.declared.name.Name.{Name}
 use Rattle.sw_metafile.specs.Texts.{file_text}
 use Rattle.sw_journal.specs.Settling.{SettlesFirst}
-use Rattle.sw_objdir.proofs.Journaling.{fits-here, stays}
-use Rattle.sw_objdir.proofs.Looking.{held-same, looks-trans, order-same, tells-now, told-same}
+use Rattle.sw_object_steps.proofs.Singles.{room-single}
+use Rattle.sw_object_steps.specs.Histories.{single_journal}
+use Rattle.sw_object_steps.specs.Rules.{Writes as Changes, obj_ending, obj_rules}
+use Rattle.sw_object_steps.specs.Values.{bare}
+use Rattle.sw_objdir.proofs.Journaling.{seen-step}
+use Rattle.sw_objdir.proofs.Looking.{held-same, looks-trans, order-same, step-of, tells-now, told-same}
 use Rattle.sw_objdir.specs.Calling.{Called, Looked, NoListing, WritesFile, Written, Wrote, read_calls, reads_of}
-use Rattle.sw_objdir.specs.Directories.{Fits, IsDir, Kept, held, history_of, is_told}
-use Rattle.sw_objdir.specs.Stepping.{IsStep, OnlyLooks}
+use Rattle.sw_objdir.specs.Directories.{IsDir, Kept, held, history_of, is_told, steps_of}
+use Rattle.sw_objdir.specs.Stepping.{IsSeenAs, IsStep, LooksAt}
 use Rattle.sw_outside.specs.Counts.{raised}
 use Rattle.sw_outside.specs.Faults.{HasRisen}
-use Rattle.sw_peer.proofs.Answering.{expiry-unasked, is_refusal}
-use Rattle.sw_peer.specs.Histories.{stands}
-use Rattle.sw_peer.specs.Journals.{Answers, Hash, Journal, bodies, body_size, has_room, with_doubt, with_entry, written}
+use Rattle.sw_peer.proofs.Answering.{is_refusal}
+use Rattle.sw_peer.specs.Journals.{Hash, Journal, bodies, body_size, has_room, with_doubt, with_entry, written}
 use Rattle.sw_peer.specs.Outlines.{has_object, outline_of, standing_expiry}
-use Rattle.sw_peer.specs.Steps.{asks_expiry, deletion_answer, is_entered, made_answer, refusal_by, refusal_of, write_of}
+use Rattle.sw_peer.specs.Steps.{asks_expiry, deletion_answer, is_entered, made_answer, refusal_by, write_of}
 use Rattle.sw_peer.specs.declared.answer.Answer.{Answer}
 use Rattle.sw_peer.specs.declared.answer.Answer.TheVariants as answers
 use Rattle.sw_peer.specs.declared.change.Change.{Change}
@@ -36,38 +40,24 @@ use Rattle.sw_peer.specs.declared.change.Change.TheVariants.{Put, Post, Delete, 
 use Rattle.sw_peer.specs.declared.outline.Outline.{Outline}
 use Rattle.sw_state.specs.declared.state.State.{State}
 use Rattle.sw_state.specs.declared.write.Write.{Write}
+use Rattle.sw_step.specs.Rules.{CanStand, Ending, Fails, Overflows, Refuses}
+use Rattle.sw_step.specs.Steps.{EndsSeen}
 use Rattle.sw_volume.specs.Tree.{Folders, contents}
 use Rattle.sw_volume.specs.Volume.{Contents, IsSame, MaySet, Sets, raised_by}
 
 -- ---- refusals
 
-pub refused-answers : (told : Bool) (s : State) (j : Journal) (name : Name) (change : Change) (answer : Answer) → is_refusal answer ≡ true
-    → (told ≡ true → refusal_of s change ≡ Some answer)
-    → Answers told s j name change answer false j
-refused-answers told s j name change (answers.Done front) is refused = absurd cc
-refused-answers told s j name change (answers.Buried front) is refused = absurd cc
-refused-answers told s j name change (answers.Conflict time) is refused = record { leaves = record { not_made = refl; same = refl }; refused = refused }
-refused-answers told s j name change (answers.NotFound time) is refused = record { leaves = record { not_made = refl; same = refl }; refused = refused }
-refused-answers told s j name change (answers.Mismatch second) is refused = record { leaves = record { not_made = refl; same = refl }; refused = refused }
-refused-answers told s j name change answers.Exists is refused = record { leaves = record { not_made = refl; same = refl }; refused = refused }
-refused-answers told s j name change answers.JournalFull is refused = absurd cc
-refused-answers told s j name change (answers.Damaged bad) is refused = absurd cc
-refused-answers told s j name change answers.Failed is refused = absurd cc
-refused-answers told s j name change answers.NoMemory is refused = absurd cc
-
-pub refusal-never : (answer : Answer) → is_refusal answer ≡ true → answer ≡ answers.Failed → ⊥
-refusal-never answer is same = let no : is_refusal answer ≡ false = ap is_refusal same in cc
-
--- what an outline and the second that it asks for refuse, the state refuses
-pub refusal-seen : (o : Outline) (s : State) (e : Option ℕ) (change : Change) (r : Option Answer) → o ≡ outline_of s
-    → (asks_expiry o change ≡ true → e ≡ standing_expiry s) → refusal_by o e change ≡ r
-    → refusal_of s change ≡ r
-refusal-seen o s e change r same second is =
-    ap (λ (x : Outline). refusal_by x (standing_expiry s) change) (sym same) ∙ (by (asks_expiry o change) refl ∙ is)
-  where
-    by : (b : Bool) → asks_expiry o change ≡ b → refusal_by o (standing_expiry s) change ≡ refusal_by o e change
-    by true asked = ap (λ (x : Option ℕ). refusal_by o x change) (sym (second asked))
-    by false unasked = expiry-unasked o (standing_expiry s) e change unasked
+pub refusal-ends : (answer : Answer) → is_refusal answer ≡ true → obj_ending answer ≡ Refuses
+refusal-ends (answers.Done front) is = cc
+refusal-ends (answers.Buried front) is = cc
+refusal-ends (answers.Conflict time) is = refl
+refusal-ends (answers.NotFound time) is = refl
+refusal-ends (answers.Mismatch second) is = refl
+refusal-ends answers.Exists is = refl
+refusal-ends answers.JournalFull is = cc
+refusal-ends (answers.Damaged bad) is = cc
+refusal-ends answers.Failed is = cc
+refusal-ends answers.NoMemory is = cc
 
 pub reads-most : (p : Picked) (change : Change) → reads_of p change ≤ 1
 reads-most p change = elim (cases_Bool (asks_expiry (picked_outline p) change)) [
@@ -112,32 +102,28 @@ writes-after a b c dir names name w before now same wrote = record {
 
 module _ {V : Type 0} (tells : V → Bool) (files : V → Folders) (faults calls lists : V → ℕ) where
   -- a directory in which only another volume came, with the same files
-  pub dir-still : (m n : Kept V) → IsDir tells files faults m → OnlyLooks tells files faults m n → n.journal ≡ m.journal → IsDir tells files faults n
+  pub dir-still : {at : Hash → Bool} (m n : Kept V) → IsDir tells files faults m → LooksAt tells files faults at m n → n.journal ≡ m.journal
+      → IsDir tells files faults n
   dir-still m n dir looks same = record {
     same = looks.same.told ∙ (dir.same ∙ ap tells (sym looks.same.began));
     order = λ told. rw (looks.same.secrets, looks.same.power)
         (order-same m.secrets m.power (files m.volume) (files n.volume) (looks.still (tells-now tells files faults m dir (told-of told)))
         (dir.order (told-of told)));
     kept = record {
-      fits = λ told hash. subst (λ (s : State). Fits (written hash n.journal.doubts) s (stands (history_of tells files faults n) hash))
+      can = λ told hash. subst (λ (s : State). CanStand obj_rules (steps_of tells files faults n) hash (bare s))
           (sym (held-same tells files faults m n dir looks.same looks.still hash))
-          (subst (λ (s : State). Fits (written hash n.journal.doubts) (held tells files faults m hash) s) (sym (stands-same hash))
-          (subst (λ (j : Journal). Fits (written hash j.doubts) (held tells files faults m hash) (stands (history_of tells files faults m) hash)) (sym same)
-          (dir.kept.fits (told-of told) hash)));
+          (rw (same, looks.same.began, looks.same.secrets, looks.same.power) (dir.kept.can (told-of told) hash));
       single = λ hash. subst (λ (j : Journal). length (written hash j.doubts) ≤ 1) (sym same) (dir.kept.single hash);
     };
     least = subst (λ (p : ℕ). 1 ≤ p) (sym looks.same.power) dir.least;
     greatest = subst (λ (p : ℕ). p ≤ 32) (sym looks.same.power) dir.greatest;
   }
     where
-      stands-same : (hash : Hash) → stands (history_of tells files faults n) hash ≡ stands (history_of tells files faults m) hash
-      stands-same hash = rw (same, looks.same.began, looks.same.secrets, looks.same.power) refl
-
       told-of : is_told tells files faults n ≡ true → is_told tells files faults m ≡ true
       told-of told = rw (sym looks.same.began, sym looks.same.secrets, sym looks.same.power) told
 
   -- a listing still tells the files that it told
-  pub listed-still : (k m : Kept V) → OnlyLooks tells files faults k m → (dir : List ℕ) (names : List FileName)
+  pub listed-still : {at : Hash → Bool} (k m : Kept V) → LooksAt tells files faults at k m → (dir : List ℕ) (names : List FileName)
       → (tells k.volume ≡ true → AreListedIn (contents (files k.volume)) dir names)
       → tells m.volume ≡ true → AreListedIn (contents (files m.volume)) dir names
   listed-still k m looks dir names are told = record {
@@ -158,13 +144,8 @@ module _ {V : Type 0} (tells : V → Bool) (files : V → Folders) (faults calls
       back : (f : FileName) → StandsIn (contents (files m.volume)) dir f → StandsIn (contents (files k.volume)) dir f
       back f stands = record { is_time = stands.is_time; stands = subst (λ (o : Option (List ℕ)). IsSome o) (looks.still old dir (name_text f)) stands.stands }
 
-  -- what the name stands for is what its hash holds, where its doubts are settled
-  pub stands-held : (n : Kept V) → IsDir tells files faults n → (name : Name) → written name.hash n.journal.doubts ≡ [] → is_told tells files faults n ≡ true
-      → stands (history_of tells files faults n) name.hash ≡ held tells files faults n name.hash
-  stands-held n dir name settled told = fits-here (history_of tells files faults n) (held tells files faults n) dir.kept name settled told
-
   -- what was seen of the directory tells what the hash still holds
-  module _ (k n : Kept V) (dir : IsDir tells files faults k) (looks : OnlyLooks tells files faults k n) (hash : Hash) (o : Outline) where
+  module _ {at : Hash → Bool} (k n : Kept V) (dir : IsDir tells files faults k) (looks : LooksAt tells files faults at k n) (hash : Hash) (o : Outline) where
     told-before : is_told tells files faults n ≡ true → is_told tells files faults k ≡ true
     told-before told = sym (told-same tells files faults k n looks.same) ∙ told
 
@@ -172,36 +153,41 @@ module _ {V : Type 0} (tells : V → Bool) (files : V → Folders) (faults calls
         ≡ outline_of (held tells files faults n hash)
     outline-still seen told = seen (told-before told) ∙ ap outline_of (sym (held-same tells files faults k n dir looks.same looks.still hash))
 
-    pub second-still : (asked : Bool) (e : Option ℕ) → (is_told tells files faults n ≡ true → asked ≡ true → e
-        ≡ standing_expiry (held tells files faults n hash))
-        → is_told tells files faults k ≡ true → asked ≡ true → e ≡ standing_expiry (held tells files faults k hash)
-    second-still asked e second told is = second (told-same tells files faults k n looks.same ∙ told) is
-        ∙ ap standing_expiry (held-same tells files faults k n dir looks.same looks.still hash)
+    pub second-now : (asked : Bool) (e : Option ℕ) → (is_told tells files faults k ≡ true → asked ≡ true → e ≡ standing_expiry (held tells files faults k hash))
+        → is_told tells files faults n ≡ true → asked ≡ true → e ≡ standing_expiry (held tells files faults n hash)
+    second-now asked e second told is = second (told-before told) is
+        ∙ ap standing_expiry (sym (held-same tells files faults k n dir looks.same looks.still hash))
 
-    pub refused-of : (e : Option ℕ) (change : Change) (r : Option Answer)
-        → (is_told tells files faults k ≡ true → o ≡ outline_of (held tells files faults k hash))
-        → (is_told tells files faults k ≡ true → asks_expiry o change ≡ true → e ≡ standing_expiry (held tells files faults k hash)) → refusal_by o e change ≡ r
-        → is_told tells files faults n ≡ true → refusal_of (held tells files faults n hash) change ≡ r
-    refused-of e change r seen second is told =
-        subst (λ (s : State). refusal_of s change ≡ r) (sym (held-same tells files faults k n dir looks.same looks.still hash))
-        (refusal-seen o (held tells files faults k hash) e change r (seen (told-before told)) (second (told-before told)) is)
+  -- a step that what stands refuses, or the journal, where the doubts of its name are settled
+  module _ (n : Kept V) (dir : IsDir tells files faults n) (name : Name) (settled : written name.hash n.journal.doubts ≡ []) (o : Outline)
+      (change : Change) where
+    unmade : (answer : Answer) (e : Ending) → obj_ending answer ≡ e → (e ≡ Fails → ⊥) → (refused : Option Answer)
+        → (seen : IsSeenAs tells files faults n name.hash o change refused)
+        → EndsSeen obj_rules e (bare seen.state) (single_journal n.journal) name.hash (Changes name change) answer [] (single_journal n.journal)
+        → IsStep tells files faults n name change answer n
+    unmade answer e ends never refused seen so = step-of tells files faults n n name change answer
+        (record { began = refl; secrets = refl; power = refl; told = refl }) (λ hash apart. refl)
+        (seen-step (history_of tells files faults n) (held tells files faults n) dir.kept name change answer n.journal (faults n.volume)
+        (record { entries = ([], sym (append-nil n.journal.entries)); max_entries = refl; max_bytes = refl }) (omega arith) e ends
+        (λ is. absurd (never is)) settled seen.state seen.held_is [] so (held tells files faults n name.hash) (λ told. refl))
 
-  -- a step that what stands refuses, where the doubts of its name are settled
-  pub step-refused : (n : Kept V) → IsDir tells files faults n → (name : Name) → written name.hash n.journal.doubts ≡ [] → (change : Change) (answer : Answer)
-      → Answers (is_told tells files faults n) (stands (history_of tells files faults n) name.hash) n.journal name change answer false n.journal
-      → (answer ≡ answers.Failed → ⊥)
-      → IsStep tells files faults n name change answer n
-  step-refused n dir name settled change answer answered never = record {
-    same = record { began = refl; secrets = refl; power = refl; told = refl };
-    others = λ hash apart. refl;
-    made = stays (history_of tells files faults n) (held tells files faults n) dir.kept name settled (faults n.volume)
-        (held tells files faults n name.hash) change answer (omega arith) refl answered (λ is. absurd (never is));
-  }
+    pub step-refused : (answer : Answer) → is_refusal answer ≡ true → IsSeenAs tells files faults n name.hash o change (Some answer)
+        → IsStep tells files faults n name change answer n
+    step-refused answer is seen = unmade answer Refuses (refusal-ends answer is) (λ same. cc) (Some answer) seen
+        (record { leaves = record { not_made = refl; same = refl }; refused = seen.refuses })
+
+    pub step-full : IsSeenAs tells files faults n name.hash o change None → has_room n.journal (write_of change) ≡ false
+        → IsStep tells files faults n name change answers.JournalFull n
+    step-full seen full = unmade answers.JournalFull Overflows refl (λ same. cc) None seen (record {
+      leaves = record { not_made = refl; same = refl };
+      not_refused = seen.refuses;
+      full = room-single n.journal (write_of change) ∙ full;
+    })
 
   -- what the listing and the read told: the counts of both
-  abbrev pub looked-so : (k m n : Kept V) (name : Name) (change : Change) (names : List FileName) (picked : Picked)
+  abbrev pub looked-so : {at : Hash → Bool} (k m n : Kept V) (name : Name) (change : Change) (names : List FileName) (picked : Picked)
       → (tells k.volume ≡ true → AreListedIn (contents (files k.volume)) (dir_text k.power name.hash) names)
-      → IsPicked names picked → OnlyLooks tells files faults k m → OnlyLooks tells files faults m n
+      → IsPicked names picked → LooksAt tells files faults at k m → LooksAt tells files faults at m n
       → calls m.volume ≡ raised (calls k.volume) → lists m.volume ≡ raised (lists k.volume) → faults m.volume ≡ faults k.volume
       → calls n.volume ≡ raised_by (reads_of picked change) (calls m.volume) → lists n.volume ≡ lists m.volume → faults n.volume ≡ faults m.volume
       → SettlesFirst name.hash (picked_outline picked) k.journal m.journal → n.journal ≡ m.journal → (refused : Option Answer) (second : Option ℕ)

@@ -1,7 +1,9 @@
 -- A read of one file, once the doubt of its hash is settled.
-use Rattle.std.proofs.Common.{arith, Some, ◌≡◌, ◌≢◌, ℕ, ◌≤◌, ◌∷◌, Bool, true, false, List, [], Option, refl, sym, ◌∙◌, ap, subst, inl, inr, Ok, Err, IfSome}
+use Rattle.std.proofs.Common.{arith, Some, ◌≡◌, ◌≢◌, ℕ, ◌≤◌, ◌∷◌, Bool, true, false, List, [], Option, refl, sym, ◌∙◌, ap, subst, inl, inr}
+use Rattle.std.proofs.Common.{Ok, Err, IfSome, Result}
 use Rattle.std.proofs.lemmas.Bool.{cases_Bool}
 use Rattle.std.specs.Option.{option_map}
+use Rattle.std.specs.Str.{bytes_eq}
 use Rattle.sw_diskfile.specs.FileNames.{name_text}
 use Rattle.sw_diskfile.specs.StateFiles.{name_of}
 use Rattle.sw_diskfile.specs.declared.file_name.FileName.{FileName}
@@ -12,19 +14,19 @@ use Rattle.sw_hashdir.specs.declared.reading.ReadFault.{ReadFault}
 use Rattle.sw_hashdir.specs.declared.reading.ReadFault.TheVariants as reads
 use Rattle.sw_hashpath.specs.declared.decode_error.BadFile.{BadFile}
 use Rattle.sw_hashpath.specs.declared.secrets.Secrets.{Secrets}
-use Rattle.sw_objdir.proofs.Looking.{dir-moved, looks-moved, looks-trans, part-reads, tells-now}
+use Rattle.sw_object_steps.proofs.Parts.{file-reads}
+use Rattle.sw_objdir.proofs.Looking.{all-held, dir-moved, held-told, looks-moved, looks-trans, part-of, part-reads, tells-now}
 use Rattle.sw_objdir.proofs.OneFile.{IsReadIn, damaged-never, is-file}
-use Rattle.sw_objdir.proofs.PartReads.{stands-held}
 use Rattle.sw_objdir.proofs.Reading.{found-still, risen-once}
 use Rattle.sw_objdir.specs.Comparing.{HasDoubt, IfDamagedPart, Looks, ReadsOnce, SettlesDoubt, fault_of_read, fault_of_volume, listings_of}
-use Rattle.sw_objdir.specs.Directories.{IsDir, Kept, history_of, is_told}
-use Rattle.sw_objdir.specs.Stepping.{IsPartStep, OnlyLooks, SameFiles}
+use Rattle.sw_objdir.specs.Directories.{IsDir, Kept, held, is_told}
+use Rattle.sw_objdir.specs.Stepping.{IsPartStep, LooksAt, ReadsHashes, SameFiles}
 use Rattle.sw_objdir.specs.declared.comparing.Scope.TheVariants as scopes
 use Rattle.sw_outside.specs.Counts.{raised}
+use Rattle.sw_outside.specs.Faults.{HasRisen}
 use Rattle.sw_peer.proofs.Hashes.{hash-same, hash-self}
-use Rattle.sw_peer.specs.Histories.{stands}
 use Rattle.sw_peer.specs.Journals.{Hash, Journal, written}
-use Rattle.sw_peer.specs.Parts.{IsFile}
+use Rattle.sw_peer.specs.Parts.{IsFile, IsOfPart, ShowsPart}
 use Rattle.sw_peer.specs.declared.dir_fault.DirFault.{DirFault}
 use Rattle.sw_peer.specs.declared.dir_fault.DirFault.TheVariants as faulted
 use Rattle.sw_peer.specs.declared.entry.ObjEntry.{ObjEntry}
@@ -88,7 +90,8 @@ refused-calls calls lists A k n listings fault e is looks =
 -- ---- what stands in the files
 
 -- what was found after the listing stood there before it
-pub found-before : {V : Type 0} (tells : V → Bool) (files : V → Folders) (faults : V → ℕ) (k m : Kept V) → OnlyLooks tells files faults k m → (hash : Hash)
+pub found-before : {V : Type 0} (tells : V → Bool) (files : V → Folders) (faults : V → ℕ) {at : Hash → Bool} (k m : Kept V)
+    → LooksAt tells files faults at k m → (hash : Hash)
     (path dir : List ℕ) → path ≡ dir → (file : FileName) (found : Option Write)
     → (tells m.volume ≡ true → IsFoundAt m.secrets hash (files m.volume) path (Some file) found)
     → tells k.volume ≡ true → IsFoundAt k.secrets hash (files k.volume) dir (Some file) found
@@ -104,37 +107,59 @@ damaged-as A B (reads.Damaged bad) e P Q is f there = subst (λ (x : DirFault). 
 damaged-as A B reads.Failed e P Q is f there = subst (λ (x : DirFault). IfDamagedPart {A = B} (Err x) Q) (sym is) tt
 damaged-as A B reads.NoMemory e P Q is f there = subst (λ (x : DirFault). IfDamagedPart {A = B} (Err x) Q) (sym is) tt
 
-module _ {V : Type 0} (tells : V → Bool) (files : V → Folders) (faults : V → ℕ) (k m : Kept V) (looks : OnlyLooks tells files faults k m)
+-- a read of a file by the rules is one of flat histories
+pub file-part : {V : Type 0} (tells : V → Bool) (files : V → Folders) (faults : V → ℕ) (k n : Kept V) (part : ℕ) (hash : Hash) (file : FileName)
+    → IsOfPart k.power part hash → (got : Result (Option Stored) DirFault) → LooksAt tells files faults (bytes_eq hash) k n → IsDir tells files faults n
+    → ReadsHashes tells files faults k (bytes_eq hash) (λ told s got. IsFile (is_hashed k.secrets) hash file told s got) got n
+    → IsPartStep tells files faults k (λ other. IsOfPart k.power part other × (other ≡ hash)) true
+    (λ told s got. IsFile (is_hashed k.secrets) hash file told s got) got n
+file-part tells files faults k n part hash file of got looks after reads =
+    part-of tells files faults k n (bytes_eq hash) (λ other. IsOfPart k.power part other × (other ≡ hash)) true
+    (λ told s got. IsFile (is_hashed k.secrets) hash file told s got) got looks after
+    (file-reads k.power part (is_hashed k.secrets) hash file of) (λ bad is. refl) reads
+
+module _ {V : Type 0} (tells : V → Bool) (files : V → Folders) (faults : V → ℕ) (k m : Kept V) (hash : Hash)
+    (looks : LooksAt tells files faults (bytes_eq hash) k m)
     (after : IsDir tells files faults m) (fine : faults m.volume ≡ faults k.volume) (v : V) (told_is : tells v ≡ tells m.volume)
-    (stay : SameFiles tells files faults m (record m { volume = v })) (up : faults m.volume ≤ faults v) (hash : Hash) (file : FileName) (path : List ℕ)
+    (stay : SameFiles tells files faults m (record m { volume = v })) (up : faults m.volume ≤ faults v) (file : FileName) (path : List ℕ)
     (le : file.time ≤ 999999999999999) (path_is : path ≡ dir_text m.power hash) (place : is_place m.power hash ≡ true)
-    (none : written hash m.journal.doubts ≡ []) (at : Hash → Type 0) (only : (other : Hash) → at other → other ≡ hash) where
+    (none : written hash m.journal.doubts ≡ []) where
   abbrev moved : Kept V
   moved = record m { volume = v }
 
-  moved-looks : OnlyLooks tells files faults k moved
-  moved-looks = looks-trans tells files faults k m moved looks (looks-moved tells files faults m v told_is stay up)
+  moves : LooksAt tells files faults (bytes_eq hash) m moved
+  moves = looks-moved tells files faults m v told_is stay up
 
-  moved-dir : IsDir tells files faults moved
-  moved-dir = dir-moved tells files faults m v after told_is stay
+  pub file-looks : LooksAt tells files faults (bytes_eq hash) k (record m { volume = v })
+  file-looks = looks-trans tells files faults k m moved looks moves
 
-  none-at : (other : Hash) → at other → written other m.journal.doubts ≡ []
-  none-at other is = subst (λ (h : Hash). written h m.journal.doubts ≡ []) (sym (only other is)) none
+  pub file-dir : IsDir tells files faults (record m { volume = v })
+  file-dir = dir-moved tells files faults m v after told_is stay
+
+  abbrev Reads : Result (Option Stored) DirFault → Type 0
+  Reads got = ReadsHashes tells files faults k (bytes_eq hash) (λ told s got. IsFile (is_hashed k.secrets) hash file told s got) got moved
+
+  -- what was told of the file is what a read of the hash gives
+  read-so : (got : Result (Option Stored) DirFault)
+      → ShowsPart (is_told tells files faults m) true (held tells files faults m) (λ told s got. IsFile (is_hashed k.secrets) hash file told s got) got
+      → (got ≡ Err faulted.Failed → HasRisen (faults k.volume) (faults v)) → Reads got
+  read-so got shown cause = part-reads tells files faults k moved (bytes_eq hash) (λ told s got. IsFile (is_hashed k.secrets) hash file told s got) got
+      file-looks file-dir (λ given other is. subst (λ (h : Hash). written h m.journal.doubts ≡ []) (hash-same hash other is) none)
+      (held tells files faults m) (λ other. sym (all-held tells files faults (bytes_eq hash) m moved moves after other)) shown cause
 
   read-in : is_told tells files faults m ≡ true
-      → IsReadIn m.secrets m.power (files m.volume) hash (stands (history_of tells files faults m) hash)
-  read-in told = record { place = place; order = after.order told; held = stands-held tells files faults m after hash none told }
+      → IsReadIn m.secrets m.power (files m.volume) hash (held tells files faults m hash)
+  read-in told = record { place = place; order = after.order told; held = sym (held-told tells files faults m hash told) }
 
   pub file-given : (found : Option Stored)
       → (tells m.volume ≡ true → IsFound m.secrets hash file (contents (files m.volume) path (name_text file)) (option_map (λ x. x.write) found))
       → IfSome found (λ x. name_of x.write ≡ file) → IfSome found (λ x. (x.name.hash ≡ hash) × IsHashed m.secrets x.name)
-      → IsPartStep tells files faults k at true (λ told s got. IsFile (is_hashed k.secrets) hash file told s got) (Ok found) (record m { volume = v })
+      → ReadsHashes tells files faults k (bytes_eq hash) (λ told s got. IsFile (is_hashed k.secrets) hash file told s got) (Ok found) (record m { volume = v })
   file-given found is named hashed =
-      part-reads tells files faults k moved moved-looks moved-dir at true (λ told s got. IsFile (is_hashed k.secrets) hash file told s got) (Ok found)
-      (λ given. none-at)
-      (subst (λ (x : Secrets). IsFile (is_hashed x) hash file (is_told tells files faults m) (stands (history_of tells files faults m)) found)
+      read-so (Ok found)
+      (subst (λ (x : Secrets). IsFile (is_hashed x) hash file (is_told tells files faults m) (held tells files faults m) found)
       looks.same.secrets
-      (is-file m.secrets m.power (files m.volume) hash (stands (history_of tells files faults m)) file (is_told tells files faults m) found le read-in
+      (is-file m.secrets m.power (files m.volume) hash (held tells files faults m) file (is_told tells files faults m) found le read-in
       (λ told. subst (λ (p : List ℕ). IsFound m.secrets hash file (contents (files m.volume) p (name_text file)) (option_map (λ x. x.write) found)) path_is
       (is (tells-now tells files faults m after told))) named hashed))
       (λ e. cc)
@@ -142,33 +167,24 @@ module _ {V : Type 0} (tells : V → Bool) (files : V → Folders) (faults : V �
   never : (bad : BadFile) → (tells m.volume ≡ true → IsDamaged m.secrets hash file (contents (files m.volume) path (name_text file)) bad)
       → is_told tells files faults m ≡ false
   never bad is = elim (cases_Bool (is_told tells files faults m)) [
-    | inl told ↦ absurd (damaged-never m.secrets m.power (files m.volume) hash (stands (history_of tells files faults m) hash) (read-in told) file bad le
+    | inl told ↦ absurd (damaged-never m.secrets m.power (files m.volume) hash (held tells files faults m hash) (read-in told) file bad le
         (subst (λ (p : List ℕ). IsDamaged m.secrets hash file (contents (files m.volume) p (name_text file)) bad) path_is
         (is (tells-now tells files faults m after told))))
     | inr untold ↦ untold
   ]
 
-  pub file-refused : (A : Type 0) (fault : ReadFault) (e : DirFault) → e ≡ fault_of_read fault
-      → IfDamaged {T = A} (Err fault) (λ bad. tells m.volume ≡ true → IsDamaged m.secrets hash file (contents (files m.volume) path (name_text file)) bad)
-      → OnFailedRead {T = A} (Err fault) (faults v ≡ raised (faults m.volume))
-      → IsPartStep tells files faults k at true (λ told s got. IsFile (is_hashed k.secrets) hash file told s got) (Err e) (record m { volume = v })
-  file-refused A fault e is damaged failed =
-      subst (λ (x : DirFault). IsPartStep tells files faults k at true (λ told s got. IsFile (is_hashed k.secrets) hash file told s got) (Err x)
-      (record m { volume = v }))
-      (sym is) (by fault damaged failed)
+  pub file-refused : (fault : ReadFault) (e : DirFault) → e ≡ fault_of_read fault
+      → IfDamaged {T = Option Stored} (Err fault)
+      (λ bad. tells m.volume ≡ true → IsDamaged m.secrets hash file (contents (files m.volume) path (name_text file)) bad)
+      → OnFailedRead {T = Option Stored} (Err fault) (faults v ≡ raised (faults m.volume))
+      → ReadsHashes tells files faults k (bytes_eq hash) (λ told s got. IsFile (is_hashed k.secrets) hash file told s got) (Err e) (record m { volume = v })
+  file-refused fault e is damaged failed = subst (λ (x : DirFault). Reads (Err x)) (sym is) (by fault damaged failed)
     where
       by : (x : ReadFault)
-          → IfDamaged {T = A} (Err x) (λ bad. tells m.volume ≡ true → IsDamaged m.secrets hash file (contents (files m.volume) path (name_text file)) bad)
-          → OnFailedRead {T = A} (Err x) (faults v ≡ raised (faults m.volume))
-          → IsPartStep tells files faults k at true (λ told s got. IsFile (is_hashed k.secrets) hash file told s got) (Err (fault_of_read x))
-          (record m { volume = v })
-      by (reads.Damaged bad) there raise =
-          part-reads tells files faults k moved moved-looks moved-dir at true (λ told s got. IsFile (is_hashed k.secrets) hash file told s got)
-          (Err (faulted.Damaged bad)) (λ given. absurd (let no : false ≡ true = given in cc)) (refl, never bad there) (λ same. cc)
+          → IfDamaged {T = Option Stored} (Err x)
+          (λ bad. tells m.volume ≡ true → IsDamaged m.secrets hash file (contents (files m.volume) path (name_text file)) bad)
+          → OnFailedRead {T = Option Stored} (Err x) (faults v ≡ raised (faults m.volume)) → Reads (Err (fault_of_read x))
+      by (reads.Damaged bad) there raise = read-so (Err (faulted.Damaged bad)) (refl, never bad there) (λ same. cc)
       by reads.Failed there raise =
-          part-reads tells files faults k moved moved-looks moved-dir at true (λ told s got. IsFile (is_hashed k.secrets) hash file told s got)
-          (Err faulted.Failed) (λ given. absurd (let no : false ≡ true = given in cc)) tt
-          (λ same. risen-once (faults k.volume) (faults v) (raise ∙ ap raised fine))
-      by reads.NoMemory there raise =
-          part-reads tells files faults k moved moved-looks moved-dir at true (λ told s got. IsFile (is_hashed k.secrets) hash file told s got)
-          (Err faulted.NoMemory) (λ given. absurd (let no : false ≡ true = given in cc)) tt (λ same. cc)
+          read-so (Err faulted.Failed) tt (λ same. risen-once (faults k.volume) (faults v) (raise ∙ ap raised fine))
+      by reads.NoMemory there raise = read-so (Err faulted.NoMemory) tt (λ same. cc)

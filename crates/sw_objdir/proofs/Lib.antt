@@ -10,3 +10,4 @@ pub mod Doubts
 pub mod OneFile
 pub mod PartReads
 pub mod FileReads
+pub mod Guessing

@@ -1,12 +1,13 @@
 -- What a listing tells of the state that a hash stands for, and what it makes of the directory.
 use Rattle.std.proofs.Common.{◌≡◌, ℕ, ◌≤◌, Bool, true, List, [], refl, sym, ◌∙◌, ap}
+use Rattle.std.specs.Str.{bytes_eq}
 use Rattle.sw_hashdir.specs.Places.{dir_text, is_place}
 use Rattle.sw_hashdir.specs.Steps.{IsOutlineIn}
 use Rattle.sw_journal.specs.Settling.{SettlesFirst}
 use Rattle.sw_objdir.proofs.Looking.{dir-moved, held-same, held-told, tells-now}
 use Rattle.sw_objdir.proofs.Settled.{dir-settled, none-left, only-settles}
 use Rattle.sw_objdir.specs.Directories.{IsDir, Kept, held, is_told}
-use Rattle.sw_objdir.specs.Stepping.{OnlyLooks, SameFiles}
+use Rattle.sw_objdir.specs.Stepping.{LooksAt, SameFiles}
 use Rattle.sw_peer.specs.Journals.{Hash, Journal, written}
 use Rattle.sw_peer.specs.Outlines.{outline_of}
 use Rattle.sw_peer.specs.declared.outline.Outline.{Outline}
@@ -28,17 +29,16 @@ module _ {V : Type 0} (tells : V → Bool) (files : V → Folders) (faults : V �
 
     pub dir-listed : IsDir tells files faults (record k { volume = v; journal = j })
     dir-listed =
-        dir-settled tells files faults (record k { volume = v }) (dir-moved tells files faults k v dir told_is stay) hash o
+        dir-settled tells files faults (record k { volume = v }) (dir-moved tells files faults k v dir told_is stay) hash o j
         (λ told. outline-held told
         ∙ ap outline_of (sym (held-same tells files faults k (record k { volume = v }) dir
         (record { began = refl; secrets = refl; power = refl; told = told_is }) stay hash)))
-        j settles
+        settles
 
-    pub looks-listed : OnlyLooks tells files faults k (record k { volume = v; journal = j })
+    pub looks-listed : LooksAt tells files faults (λ key. bytes_eq key hash) k (record k { volume = v; journal = j })
     looks-listed = record {
       same = record { began = refl; secrets = refl; power = refl; told = told_is };
-      settles = (let s = only-settles tells files faults k dir hash o j settles in
-          (s.0, record { entered = s.1.entered; count = s.1.count; of_doubts = s.1.of_doubts; max_entries = s.1.max_entries; max_bytes = s.1.max_bytes }));
+      settles = only-settles tells files faults k dir hash o j settles;
       still = stay;
       later = up;
     }

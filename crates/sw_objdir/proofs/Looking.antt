@@ -1,29 +1,40 @@
 -- A step that only looks at files and settles doubts changes nothing that a hash stands for.
-use Rattle.std.proofs.Common.{◌≡◌, ℕ, ◌≤◌, Bool, true, false, List, [], ◌++◌, refl, sym, ◌∙◌, ap, subst, arith, append_assoc, length, inl, inr, Result, Err}
+use Rattle.std.proofs.Common.{◌≡◌, ◌≢◌, ℕ, ◌≤◌, Bool, true, false, [], refl, sym, ◌∙◌, ap, subst, arith, length, inl, inr, Result, Ok, Err}
+use Rattle.std.specs.List.{fold}
+use Rattle.std.specs.Str.{bytes_eq}
 use Rattle.std.proofs.lemmas.Bool.{and_parts, cases_Bool, cond-true, cond-false}
 use Rattle.sw_hashdir.proofs.Standing.{order_moved, state_moved}
 use Rattle.sw_hashdir.specs.Places.{AllInOrder, dir_text, holds, in_order, is_place, state_in, write_in}
+use Rattle.sw_hashpath.specs.declared.decode_error.BadFile.{BadFile}
 use Rattle.sw_hashpath.specs.declared.name.Name.{Name}
 use Rattle.sw_hashpath.specs.declared.secrets.Secrets.{Secrets}
-use Rattle.sw_objdir.proofs.Journaling.{settles-both}
-use Rattle.sw_objdir.specs.Directories.{Fits, IsDir, Kept, held, history_of, is_told}
-use Rattle.sw_objdir.specs.Stepping.{IsPartStep, IsReadStep, IsSameDir, IsStep, OnlyLooks, SameFiles}
-use Rattle.sw_outside.specs.Faults.{HasRisen}
 use Rattle.sw_history.proofs.Growing.{grows-refl, grows-trans}
-use Rattle.sw_peer.proofs.Calls.{settles-none}
-use Rattle.sw_peer.specs.Histories.{Grows, is_shown, stands}
-use Rattle.sw_peer.specs.Journals.{Answers, Hash, Shows, has_settled, left_by, written}
+use Rattle.sw_history.specs.Halves.{GrowsOf}
+use Rattle.sw_object_steps.proofs.Flat.{changes-flat, reads-flat}
+use Rattle.sw_object_steps.proofs.Settlings.{settles-keeps, settles-more, settles-wider}
+use Rattle.sw_object_steps.proofs.Singles.{none-touched}
+use Rattle.sw_object_steps.proofs.Words.{single-flat}
+use Rattle.sw_object_steps.specs.Histories.{ChangesObject, IsGiven, ReadsObject, flat_history, got_look, part_look, single_journal}
+use Rattle.sw_object_steps.specs.Laws.{PartIsFlat}
+use Rattle.sw_object_steps.specs.Rules.{obj_applied, obj_ending, obj_rules}
+use Rattle.sw_object_steps.specs.Values.{bare}
+use Rattle.sw_objdir.specs.Directories.{IsDir, Kept, held, history_of, is_told, steps_of, values_of}
+use Rattle.sw_objdir.specs.Stepping.{IsPartStep, IsReadStep, IsSameDir, IsStep, LooksAt, ReadsHashes, SameFiles}
+use Rattle.sw_outside.specs.Faults.{HasRisen}
+use Rattle.sw_peer.proofs.Hashes.{hash-same, hash-self}
+use Rattle.sw_peer.specs.Histories.{History, StepChanges, StepReads}
+use Rattle.sw_peer.specs.Journals.{Hash, Shows, written}
+use Rattle.sw_peer.specs.Parts.{ShowsPart, StepReadsPart, is_given}
 use Rattle.sw_peer.specs.declared.answer.Answer.{Answer}
-use Rattle.sw_peer.specs.declared.answer.Answer.TheVariants as answers
 use Rattle.sw_peer.specs.declared.change.Change.{Change}
-use Rattle.sw_peer.specs.Parts.{ShowsPart, is_given}
 use Rattle.sw_peer.specs.declared.dir_fault.DirFault.{DirFault}
 use Rattle.sw_peer.specs.declared.dir_fault.DirFault.TheVariants as faulted
-use Rattle.sw_peer.specs.declared.entry.ObjEntry.{ObjEntry}
 use Rattle.sw_peer.specs.declared.got.Got.{Got}
 use Rattle.sw_peer.specs.declared.got.Got.TheVariants as gots
 use Rattle.sw_state.specs.States.{state_of}
 use Rattle.sw_state.specs.declared.state.State.{State}
+use Rattle.sw_step.specs.Rules.{CanStand, Damages, Ending, Fails}
+use Rattle.sw_step.specs.Steps.{EndsUnseen, IsDamaged, IsLost, Tells}
 use Rattle.sw_volume.specs.Tree.{Folders, contents}
 use Rattle.sw_volume.specs.Volume.{IsSame}
 
@@ -81,155 +92,254 @@ module _ {V : Type 0} (tells : V → Bool) (files : V → Folders) (faults : V �
     same = told_is ∙ dir.same;
     order = λ told. order-same k.secrets k.power (files k.volume) (files v) (stay (tells-now k dir told)) (dir.order told);
     kept = record {
-      fits = λ told hash. subst (λ (s : State). Fits (written hash k.journal.doubts) s (stands (history_of tells files faults k) hash))
+      can = λ told hash. subst (λ (s : State). CanStand obj_rules (steps_of tells files faults k) hash (bare s))
           (sym (held-same k (record k { volume = v }) dir (record { began = refl; secrets = refl; power = refl; told = told_is }) stay hash))
-          (dir.kept.fits told hash);
+          (dir.kept.can told hash);
       single = dir.kept.single;
     };
     least = dir.least;
     greatest = dir.greatest;
   }
 
-  pub looks-refl : (k : Kept V) → OnlyLooks tells files faults k k
+  pub looks-refl : {at : Hash → Bool} (k : Kept V) → LooksAt tells files faults at k k
   looks-refl k = record {
     same = record { began = refl; secrets = refl; power = refl; told = refl };
-    settles = ([], settles-none k.journal);
+    settles = (0, refl);
     still = λ told d f. refl;
     later = omega arith;
   }
 
   -- a call of the volume that changes no file
-  pub looks-moved : (k : Kept V) (v : V) → tells v ≡ tells k.volume → SameFiles tells files faults k (record k { volume = v }) → faults k.volume ≤ faults v
-      → OnlyLooks tells files faults k (record k { volume = v })
+  pub looks-moved : {at : Hash → Bool} (k : Kept V) (v : V) → tells v ≡ tells k.volume → SameFiles tells files faults k (record k { volume = v })
+      → faults k.volume ≤ faults v → LooksAt tells files faults at k (record k { volume = v })
   looks-moved k v told_is stay up = record {
     same = record { began = refl; secrets = refl; power = refl; told = told_is };
-    settles = ([], settles-none k.journal);
+    settles = (0, refl);
     still = stay;
     later = up;
   }
 
-  pub looks-trans : (a b c : Kept V) → OnlyLooks tells files faults a b → OnlyLooks tells files faults b c → OnlyLooks tells files faults a c
-  looks-trans a b c one two = record {
+  pub looks-trans : {at : Hash → Bool} (a b c : Kept V) → LooksAt tells files faults at a b → LooksAt tells files faults at b c
+      → LooksAt tells files faults at a c
+  looks-trans {at} a b c one two = record {
     same = record {
       began = two.same.began ∙ one.same.began;
       secrets = two.same.secrets ∙ one.same.secrets;
       power = two.same.power ∙ one.same.power;
       told = two.same.told ∙ one.same.told;
     };
-    settles = settles-both (history_of tells files faults a) (history_of tells files faults b) (history_of tells files faults c) one.settles two.settles;
+    settles = settles-more obj_rules at (steps_of tells files faults a) (steps_of tells files faults b) (steps_of tells files faults c)
+        one.settles two.settles;
     still = λ told d f. two.still (one.same.told ∙ told) d f ∙ one.still told d f;
     later = let x = one.later in let y = two.later in omega (arith, x, y);
   }
 
-  looks-grows : (k n : Kept V) → OnlyLooks tells files faults k n → Grows (history_of tells files faults k) (history_of tells files faults n)
-  looks-grows k n looks = record {
-    told = told-same k n looks.same;
-    opening = λ hash. rw (looks.same.began, looks.same.secrets, looks.same.power) refl;
-    entries = (looks.settles.0, looks.settles.1.entered);
-    max_entries = looks.settles.1.max_entries;
-    max_bytes = looks.settles.1.max_bytes;
-    faults = looks.later;
+  -- doubts of more hashes might have been settled
+  pub looks-wider : (at among : Hash → Bool) → ((hash : Hash) → at hash ≡ true → among hash ≡ true) → (k n : Kept V)
+      → LooksAt tells files faults at k n → LooksAt tells files faults among k n
+  looks-wider at among into k n looks = record {
+    same = looks.same;
+    settles = settles-wider obj_rules at among into (steps_of tells files faults k) (steps_of tells files faults n) looks.settles;
+    still = looks.still;
+    later = looks.later;
   }
 
-  module _ (k n : Kept V) (dir : IsDir tells files faults k) (looks : OnlyLooks tells files faults k n) where
-    grows : Grows (history_of tells files faults k) (history_of tells files faults n)
-    grows = looks-grows k n looks
+  module _ (at : Hash → Bool) (k n : Kept V) (looks : LooksAt tells files faults at k n) where
+    -- it grew by the entries of doubts that were settled
+    pub looks-grows : GrowsOf (steps_of tells files faults k) (steps_of tells files faults n)
+    looks-grows =
+        let keeps = settles-keeps obj_rules at looks.settles.0 (single_journal k.journal) (single_journal n.journal) looks.settles.1 in
+        record {
+          told = told-same k n looks.same;
+          opening = λ hash. rw (looks.same.began, looks.same.secrets, looks.same.power) refl;
+          entries = keeps.entries;
+          max_entries = keeps.max_entries;
+          max_bytes = keeps.max_bytes;
+          faults = looks.later;
+        }
 
-    all-held : (hash : Hash) → held tells files faults n hash ≡ held tells files faults k hash
-    all-held = held-same k n dir looks.same looks.still
+    pub all-held : IsDir tells files faults k → (hash : Hash) → held tells files faults n hash ≡ held tells files faults k hash
+    all-held dir = held-same k n dir looks.same looks.still
+
+    -- the same seen from behind it
+    pub still-held : IsDir tells files faults n → (hash : Hash) → held tells files faults n hash ≡ held tells files faults k hash
+    still-held after hash = sym (held-same n k after
+        (record { began = sym looks.same.began; secrets = sym looks.same.secrets; power = sym looks.same.power; told = sym looks.same.told })
+        (λ told d f. sym (looks.still (sym looks.same.told ∙ told) d f)) hash)
+
+  -- ---- steps by the rules are those of flat histories
+
+  pub step-of : (k n : Kept V) (name : Name) (change : Change) (answer : Answer) → IsSameDir tells files faults k n
+      → ((hash : Hash) → hash ≢ name.hash → held tells files faults n hash ≡ held tells files faults k hash)
+      → ChangesObject true (steps_of tells files faults k) (values_of tells files faults k) name change answer
+      (steps_of tells files faults n) (values_of tells files faults n name.hash)
+      → IsStep tells files faults k name change answer n
+  step-of k n name change answer same others changes = record {
+    same = same;
+    others = others;
+    changes = changes;
+    made = subst (λ (h : History). StepChanges true h (held tells files faults k name.hash) name change answer (history_of tells files faults n)
+        (held tells files faults n name.hash)) (single-flat (history_of tells files faults k))
+        (subst (λ (g : History). StepChanges true (flat_history (steps_of tells files faults k)) (held tells files faults k name.hash) name change answer g
+        (held tells files faults n name.hash)) (single-flat (history_of tells files faults n))
+        (changes-flat true (steps_of tells files faults k) (values_of tells files faults k) name change answer (steps_of tells files faults n)
+        (values_of tells files faults n name.hash) changes));
+  }
+
+  -- a read of hashes of a partition, of which one of the laws tells that it is one of flat histories
+  pub part-of : {A : Type 0} (k n : Kept V) (at : Hash → Bool) (among : Hash → Type 0) (damages : Bool) (reading : Bool → (Hash → State) → A → Type 0)
+      (got : Result A DirFault) → LooksAt tells files faults at k n → IsDir tells files faults n → PartIsFlat at among damages reading
+      → ((bad : BadFile) → got ≡ Err (faulted.Damaged bad) → damages ≡ true)
+      → ReadsHashes tells files faults k at reading got n → IsPartStep tells files faults k among damages reading got n
+  part-of k n at among damages reading got looks after law lets reads = record {
+    same = looks.same;
+    all = still-held at k n looks after;
+    read = subst (λ (h : History). StepReadsPart true h among damages reading got (history_of tells files faults n) (held tells files faults n))
+        (single-flat (history_of tells files faults k))
+        (subst (λ (g : History). StepReadsPart true (flat_history (steps_of tells files faults k)) among damages reading got g (held tells files faults n))
+        (single-flat (history_of tells files faults n))
+        (law true (steps_of tells files faults k) got (steps_of tells files faults n) (values_of tells files faults n) lets reads));
+  }
+
+  module _ (k n : Kept V) (dir : IsDir tells files faults k) (name : Name) (looks : LooksAt tells files faults (λ key. bytes_eq key name.hash) k n)
+      (change : Change) (answer : Answer) where
+    -- the step is made from what looking left
+    pub step-after : (m : Kept V) → IsStep tells files faults n name change answer m → IsStep tells files faults k name change answer m
+    step-after m step = step-of k m name change answer (record {
+      began = step.same.began ∙ looks.same.began;
+      secrets = step.same.secrets ∙ looks.same.secrets;
+      power = step.same.power ∙ looks.same.power;
+      told = step.same.told ∙ looks.same.told;
+    }) (λ hash apart. step.others hash apart ∙ all-held _ k n looks dir hash) (record {
+      own = step.changes.own;
+      before = step.changes.before;
+      looked = step.changes.looked;
+      read = step.changes.read;
+      made = step.changes.made;
+      follows = grows-trans (steps_of tells files faults k) (steps_of tells files faults n) step.changes.before (looks-grows _ k n looks)
+          step.changes.follows;
+      settles = λ alone. settles-more obj_rules (λ key. bytes_eq key name.hash) (steps_of tells files faults k) (steps_of tells files faults n)
+          step.changes.before looks.settles (step.changes.settles alone);
+      settled = step.changes.settled;
+      answered = step.changes.answered;
+      orderly = step.changes.orderly;
+      after = step.changes.after;
+      failed = λ is. risen-from (faults k.volume) (faults n.volume) (faults m.volume) looks.later (step.changes.failed is);
+      known = step.changes.known;
+      kept = λ alone told other is. subst (λ (s : State). CanStand obj_rules step.changes.before other (bare s)) (all-held _ k n looks dir other)
+          (step.changes.kept alone told other is);
+      held = λ alone told x. step.changes.held alone told x ∙ ap bare (all-held _ k n looks dir name.hash);
+      leaves = λ alone told. step.changes.leaves alone told
+          ∙ ap (λ (s : State). fold obj_applied (bare s) step.changes.made) (all-held _ k n looks dir name.hash);
+    })
 
     -- the step gave up before what stands was compared
-    pub step-unsettled : (name : Name) (change : Change) (answer : Answer) → has_settled answer false ≡ false
-        → Answers (is_told tells files faults n) (stands (history_of tells files faults n) name.hash) n.journal name change answer false n.journal
-        → (answer ≡ answers.Failed → HasRisen (faults k.volume) (faults n.volume)) → IsStep tells files faults k name change answer n
-    step-unsettled name change answer never answered cause = record {
-      same = looks.same;
-      others = λ hash apart. all-held hash;
-      made = record {
-        before = history_of tells files faults n;
-        made = false;
-        follows = grows;
-        settles = λ alone. looks.settles;
-        settled = λ is. absurd (let no : false ≡ true = sym never ∙ is in cc);
-        answered = answered;
-        after = grows-refl (history_of tells files faults n);
-        failed = cause;
-        held = λ alone told is. absurd (let no : false ≡ true = sym never ∙ is in cc);
-        leaves = λ alone told. all-held name.hash;
-        added = looks.settles.0;
-        adds = λ alone. looks.settles.1.entered;
-      };
-    }
-
-    -- the step is made from what looking left
-    pub step-after : (name : Name) (change : Change) (answer : Answer) (m : Kept V) → IsStep tells files faults n name change answer m
-        → IsStep tells files faults k name change answer m
-    step-after name change answer m step = record {
-      same = record {
-        began = step.same.began ∙ looks.same.began;
-        secrets = step.same.secrets ∙ looks.same.secrets;
-        power = step.same.power ∙ looks.same.power;
-        told = step.same.told ∙ looks.same.told;
-      };
-      others = λ hash apart. step.others hash apart ∙ all-held hash;
-      made = record {
-        before = step.made.before;
-        made = step.made.made;
-        follows = grows-trans (history_of tells files faults k) (history_of tells files faults n) step.made.before grows step.made.follows;
-        settles = λ alone. settles-both (history_of tells files faults k) (history_of tells files faults n) step.made.before looks.settles
-            (step.made.settles alone);
-        settled = step.made.settled;
-        answered = step.made.answered;
-        after = step.made.after;
-        failed = λ is. risen-from (faults k.volume) (faults n.volume) (faults m.volume) looks.later (step.made.failed is);
-        held = λ alone told is. step.made.held alone told is ∙ all-held name.hash;
-        leaves = λ alone told. step.made.leaves alone told ∙ ap (λ (s : State). left_by s change step.made.made) (all-held name.hash);
-        added = looks.settles.0 ++ step.made.added;
-        adds = λ alone. step.made.adds alone ∙ (ap (λ (es : List ObjEntry). es ++ step.made.added) looks.settles.1.entered
-            ∙ append_assoc k.journal.entries looks.settles.0 step.made.added);
-      };
-    }
-
-    -- a read
-    pub reads : (name : Name) (got : Got) → (is_shown got ≡ true → written name.hash n.journal.doubts ≡ []) → IsDir tells files faults n
-        → Shows (is_told tells files faults n) (stands (history_of tells files faults n) name.hash) (length n.journal.entries) got
-        → (got ≡ gots.Failed → HasRisen (faults k.volume) (faults n.volume)) → IsReadStep tells files faults k name got n
-    reads name got settled after shown cause = record {
-      same = looks.same;
-      all = all-held;
-      read = record {
-        follows = grows;
-        settles = λ alone. looks.settles;
-        settled = settled;
-        shown = shown;
-        failed = cause;
-        held = λ alone told is. sym (subst (λ (l : List _). Fits l (held tells files faults n name.hash) (stands (history_of tells files faults n) name.hash))
-            (settled is) (after.kept.fits told name.hash));
-        added = looks.settles.0;
-        adds = λ alone. looks.settles.1.entered;
-      };
-    }
-
-  -- a read of a partition
-  pub part-reads : (k n : Kept V) → OnlyLooks tells files faults k n → IsDir tells files faults n
-      → {A : Type 0} (at : Hash → Type 0) (damages : Bool) (reading : Bool → (Hash → State) → A → Type 0) (got : Result A DirFault)
-      → (is_given got ≡ true → (hash : Hash) → at hash → written hash n.journal.doubts ≡ [])
-      → ShowsPart (is_told tells files faults n) damages (stands (history_of tells files faults n)) reading got
-      → (got ≡ Err faulted.Failed → HasRisen (faults k.volume) (faults n.volume)) → IsPartStep tells files faults k at damages reading got n
-  part-reads k n looks after at damages reading got settled shown cause = record {
-    same = looks.same;
-    all = λ hash. sym (held-same n k after
-        (record { began = sym looks.same.began; secrets = sym looks.same.secrets; power = sym looks.same.power; told = sym looks.same.told })
-        (λ told d f. sym (looks.still (sym looks.same.told ∙ told) d f)) hash);
-    read = record {
-      follows = looks-grows k n looks;
+    pub step-unsettled : (e : Ending) → obj_ending answer ≡ e → EndsUnseen obj_rules e (single_journal n.journal) [] (single_journal n.journal)
+        → IsDir tells files faults n → (e ≡ Damages → is_told tells files faults n ≡ false)
+        → (e ≡ Fails → HasRisen (faults k.volume) (faults n.volume)) → IsStep tells files faults k name change answer n
+    step-unsettled e ends so after orderly cause = step-of k n name change answer looks.same (λ hash apart. all-held _ k n looks dir hash) (record {
+      own = hash-self name.hash;
+      before = steps_of tells files faults n;
+      looked = false;
+      read = values_of tells files faults n name.hash;
+      made = [];
+      follows = looks-grows _ k n looks;
       settles = λ alone. looks.settles;
-      settled = settled;
-      shown = shown;
-      failed = cause;
-      held = λ alone told is hash of. sym (subst (λ (l : List _). Fits l (held tells files faults n hash) (stands (history_of tells files faults n) hash))
-          (settled is hash of) (after.kept.fits told hash));
-      added = looks.settles.0;
-      adds = λ alone. looks.settles.1.entered;
-    };
+      settled = λ x. cc;
+      answered = subst (λ (x : Ending). EndsUnseen obj_rules x (single_journal n.journal) [] (single_journal n.journal)) (sym ends) so;
+      orderly = λ damaged. orderly (sym ends ∙ damaged);
+      after = grows-refl (steps_of tells files faults n);
+      failed = λ is. cause (sym ends ∙ is);
+      known = λ told x. cc;
+      kept = λ alone told other reached. subst (λ (s : State). CanStand obj_rules (steps_of tells files faults n) other (bare s))
+          (all-held _ k n looks dir other) (after.kept.can told other);
+      held = λ alone told x. cc;
+      leaves = λ alone told. ap bare (all-held _ k n looks dir name.hash);
+    })
+
+  -- ---- a read
+
+  shows-damage : (told : Bool) (s : State) (front : ℕ) (got : Got) → Shows told s front got → got_look got ≡ IsDamaged → told ≡ false
+  shows-damage told s front (gots.Found time content heads at) shown is = cc
+  shows-damage told s front (gots.NotFound time) shown is = cc
+  shows-damage told s front (gots.Damaged bad) shown is = shown
+  shows-damage told s front gots.Failed shown is = cc
+  shows-damage told s front gots.NoMemory shown is = cc
+
+  pub reads : (k n : Kept V) (name : Name) (got : Got) → LooksAt tells files faults (λ key. bytes_eq key name.hash) k n → IsDir tells files faults n
+      → (got_look got ≡ Tells → written name.hash n.journal.doubts ≡ []) → (s : Hash → State) → ((hash : Hash) → s hash ≡ held tells files faults n hash)
+      → Shows (is_told tells files faults n) (s name.hash) (length n.journal.entries) got
+      → (got_look got ≡ IsLost → HasRisen (faults k.volume) (faults n.volume)) → IsReadStep tells files faults k name got n
+  reads k n name got looks after settled s now shown cause = record {
+    same = looks.same;
+    all = still-held _ k n looks after;
+    reads = by_rules;
+    read = subst (λ (h : History). StepReads true h name.hash got (history_of tells files faults n) (held tells files faults n name.hash))
+        (single-flat (history_of tells files faults k))
+        (subst (λ (g : History). StepReads true (flat_history (steps_of tells files faults k)) name.hash got g (held tells files faults n name.hash))
+        (single-flat (history_of tells files faults n))
+        (reads-flat true (steps_of tells files faults k) name.hash got (steps_of tells files faults n) (values_of tells files faults n) by_rules));
   }
+    where
+      by_rules : ReadsObject true (steps_of tells files faults k) name.hash got (steps_of tells files faults n) (values_of tells files faults n)
+      by_rules = record {
+        read = λ hash. bare (s hash);
+        follows = looks-grows _ k n looks;
+        settles = λ alone. looks.settles;
+        settled = λ x key is. none-touched key n.journal.doubts
+            (subst (λ (h : Hash). written h n.journal.doubts ≡ []) (sym (hash-same key name.hash is)) (settled x));
+        shown = λ x. shown;
+        orderly = λ is. shows-damage (is_told tells files faults n) (s name.hash) (length n.journal.entries) got shown is;
+        failed = cause;
+        known = λ told x key is. subst (λ (v : State). CanStand obj_rules (steps_of tells files faults n) key (bare v)) (sym (now key))
+            (after.kept.can told key);
+        kept = λ alone told key is. after.kept.can told key;
+        held = λ alone told x key is. ap bare (now key);
+      }
+
+  -- ---- a read of hashes of a partition
+
+  pub part-reads : {A : Type 0} (k n : Kept V) (at : Hash → Bool) (reading : Bool → (Hash → State) → A → Type 0) (got : Result A DirFault)
+      → LooksAt tells files faults at k n → IsDir tells files faults n
+      → (is_given got ≡ true → (hash : Hash) → at hash ≡ true → written hash n.journal.doubts ≡ [])
+      → (s : Hash → State) → ((hash : Hash) → s hash ≡ held tells files faults n hash) → ShowsPart (is_told tells files faults n) true s reading got
+      → (got ≡ Err faulted.Failed → HasRisen (faults k.volume) (faults n.volume)) → ReadsHashes tells files faults k at reading got n
+  part-reads {A} k n at reading got looks after settled s now shown cause = record {
+    read = λ hash. bare (s hash);
+    follows = looks-grows _ k n looks;
+    settles = λ alone. looks.settles;
+    settled = λ x key is. none-touched key n.journal.doubts (settled (gives got x) key is);
+    shown = λ x. shows got shown x;
+    orderly = λ is. damages got shown is;
+    failed = λ is. cause (fails got is);
+    known = λ told x key is. subst (λ (v : State). CanStand obj_rules (steps_of tells files faults n) key (bare v)) (sym (now key))
+        (after.kept.can told key);
+    kept = λ alone told key is. after.kept.can told key;
+    held = λ alone told x key is. ap bare (now key);
+  }
+    where
+      gives : (x : Result A DirFault) → part_look x ≡ Tells → is_given x ≡ true
+      gives (Ok a) is = refl
+      gives (Err (faulted.Damaged bad)) is = cc
+      gives (Err faulted.Failed) is = cc
+      gives (Err faulted.NoMemory) is = cc
+
+      fails : (x : Result A DirFault) → part_look x ≡ IsLost → x ≡ Err faulted.Failed
+      fails (Ok a) is = cc
+      fails (Err (faulted.Damaged bad)) is = cc
+      fails (Err faulted.Failed) is = refl
+      fails (Err faulted.NoMemory) is = cc
+
+      shows : (x : Result A DirFault) → ShowsPart (is_told tells files faults n) true s reading x → part_look x ≡ Tells
+          → IsGiven (reading (is_told tells files faults n)) (λ hash. bare (s hash)) x
+      shows (Ok a) is looked = is
+      shows (Err (faulted.Damaged bad)) is looked = cc
+      shows (Err faulted.Failed) is looked = cc
+      shows (Err faulted.NoMemory) is looked = cc
+
+      damages : (x : Result A DirFault) → ShowsPart (is_told tells files faults n) true s reading x → part_look x ≡ IsDamaged
+          → is_told tells files faults n ≡ false
+      damages (Ok a) is looked = cc
+      damages (Err (faulted.Damaged bad)) is looked = is.1
+      damages (Err faulted.Failed) is looked = cc
+      damages (Err faulted.NoMemory) is looked = cc

@@ -1,22 +1,28 @@
 -- How a step that nothing refuses is what it ensures, and keeps the directory.
 use Rattle.std.proofs.Common.{◌≡◌, ◌≢◌, ℕ, ◌+◌, ◌≤◌, Bool, true, false, List, [], ◌∷◌, ◌++◌, length, length-append, refl, sym, ◌∙◌, ap, subst, arith, None}
 use Rattle.std.proofs.Common.{◌⊎◌, inl, inr}
+use Rattle.std.specs.List.{fold}
+use Rattle.std.specs.Str.{bytes_eq}
 use Rattle.std.proofs.lemmas.Bool.{cases_Bool}
+use Rattle.std.proofs.lemmas.List.{append-nil, map-append}
 use Rattle.sw_cleanup.specs.Cleaning.{AreListedIn}
 use Rattle.sw_diskfile.specs.declared.file_name.FileName.{FileName}
 use Rattle.sw_hashdir.specs.Places.{AllInOrder, dir_text, holds}
 use Rattle.sw_hashdir.specs.Steps.{IsNewIn, IsOurs, Joins, Keeps}
 use Rattle.sw_hashpath.specs.declared.name.Name.{Name}
 use Rattle.sw_journal.specs.Entries.{with_last_entered, with_new_doubt, without_last_doubt}
-use Rattle.sw_objdir.proofs.Journaling.{doubts, enters, fits-here, kept-doubted, kept-entered}
-use Rattle.sw_objdir.proofs.Looking.{held-told, held-untold, tells-now}
-use Rattle.sw_objdir.specs.Directories.{IsDir, Kept, held, history_of, is_told}
-use Rattle.sw_objdir.specs.Stepping.{IsStep}
+use Rattle.sw_object_steps.proofs.Singles.{room-single}
+use Rattle.sw_object_steps.specs.Histories.{ChangesObject, single_journal}
+use Rattle.sw_object_steps.specs.Rules.{obj_applied, obj_ending}
+use Rattle.sw_object_steps.specs.Values.{bare}
+use Rattle.sw_objdir.proofs.Journaling.{kept-after, seen-step}
+use Rattle.sw_objdir.proofs.Looking.{held-told, held-untold, step-of, tells-now}
+use Rattle.sw_objdir.specs.Directories.{IsDir, Kept, held, history_of, is_told, steps_of, values_of}
+use Rattle.sw_objdir.specs.Stepping.{IsSeenAs, IsStep}
 use Rattle.sw_outside.specs.Faults.{HasRisen}
 use Rattle.sw_peer.proofs.Answering.{allowed-new}
-use Rattle.sw_peer.proofs.Hashes.{written-append, written-own}
-use Rattle.sw_peer.specs.Histories.{stands}
-use Rattle.sw_peer.specs.Journals.{Answers, Hash, Journal, has_room, with_doubt, with_entry, written}
+use Rattle.sw_peer.proofs.Hashes.{hash-apart, hash-same, written-append, written-other, written-own}
+use Rattle.sw_peer.specs.Journals.{Hash, Journal, has_room, with_doubt, with_entry, written}
 use Rattle.sw_peer.specs.Outlines.{has_object, outline_of}
 use Rattle.sw_peer.specs.Steps.{deletion_answer, made_answer, refusal_of, write_of}
 use Rattle.sw_peer.specs.declared.answer.Answer.{Answer}
@@ -26,10 +32,10 @@ use Rattle.sw_peer.specs.declared.change.Change.TheVariants.{Put, Post, Delete, 
 use Rattle.sw_peer.specs.declared.entry.ObjEntry.{ObjEntry}
 use Rattle.sw_peer.specs.declared.entry.ObjEntry.TheVariants.{Wrote}
 use Rattle.sw_peer.specs.declared.outline.Outline.{Outline}
-use Rattle.sw_state.specs.States.{is_new, joined}
-use Rattle.sw_state.specs.Writes.{tag_of}
+use Rattle.sw_state.specs.States.{joined}
 use Rattle.sw_state.specs.declared.state.State.{State}
 use Rattle.sw_state.specs.declared.write.Write.{Write}
+use Rattle.sw_step.specs.Rules.{Fails, Makes}
 use Rattle.sw_volume.specs.Tree.{Folders, contents}
 
 -- ---- the journal: a write is doubted, and then entered or taken back
@@ -56,82 +62,21 @@ up-from xs x n is = let sum : length (xs ++ x ∷ []) ≡ length xs + length (x 
 
 -- ---- the answer
 
-module _ (told : Bool) (s : State) (j : Journal) (name : Name) (o : Outline) (front : ℕ) (seen : told ≡ true → o ≡ outline_of s) where
-  pub made-answers : (change : Change) → front ≡ length (with_entry j name (write_of change)).entries → has_room j (write_of change) ≡ true
-      → (told ≡ true → refusal_of s change ≡ None)
-      → Answers told s j name change (made_answer o change front) true (with_entry j name (write_of change))
-  made-answers (Put time content none_match) at room allowed = record
-      { is_made = refl; entered = refl; front_is = at; room = room; not_refused = allowed; answer_is = λ is. refl }
-  made-answers (Post time heads) at room allowed = record {
-    is_made = refl;
-    entered = refl;
-    front_is = at;
-    room = room;
-    not_refused = allowed;
-    answer_is = λ is. refl;
-  }
-  made-answers (Receive w) at room allowed = record {
-    is_made = refl;
-    entered = refl;
-    front_is = at;
-    room = room;
-    not_refused = allowed;
-    answer_is = λ is.
-        refl;
-  }
-  made-answers (Delete time second) at room allowed = by (has_object o) refl
-    where
-      by : (b : Bool) → has_object o ≡ b → Answers told s j name (Delete time second) (deletion_answer b front) true
-          (with_entry j name (write_of (Delete time second)))
-      by true is = record {
-        is_made = refl;
-        entered = refl;
-        front_is = at;
-        room = room;
-        not_refused = allowed;
-        answer_is = λ t. ap
-            (λ (b : Bool). deletion_answer b front) (sym is ∙ ap has_object (seen t));
-      }
-      by false is = record {
-        is_made = refl;
-        entered = refl;
-        front_is = at;
-        room = room;
-        not_refused = allowed;
-        answer_is = λ t. ap
-            (λ (b : Bool). deletion_answer b front) (sym is ∙ ap has_object (seen t));
-      }
-
-pub made-not-failed : (o : Outline) (change : Change) (front : ℕ) → made_answer o change front ≡ answers.Failed → ⊥
-made-not-failed o (Put time content none_match) front is = cc
-made-not-failed o (Post time heads) front is = cc
-made-not-failed o (Receive w) front is = cc
-made-not-failed o (Delete time if_delete_at) front is = by (has_object o) is
+pub made-ends : (o : Outline) (change : Change) (front : ℕ) → obj_ending (made_answer o change front) ≡ Makes
+made-ends o (Put time content none_match) front = refl
+made-ends o (Post time heads) front = refl
+made-ends o (Receive w) front = refl
+made-ends o (Delete time if_delete_at) front = by (has_object o)
   where
-    by : (b : Bool) → deletion_answer b front ≡ answers.Failed → ⊥
-    by true same = cc
-    by false same = cc
+    by : (b : Bool) → obj_ending (deletion_answer b front) ≡ Makes
+    by true = refl
+    by false = refl
 
 -- ---- the directory
 
 module _ {V : Type 0} (tells : V → Bool) (files : V → Folders) (faults : V → ℕ) (k : Kept V) (dir : IsDir tells files faults k) (name : Name)
-    (settled : written name.hash k.journal.doubts ≡ [])
-    (change : Change) (ours : IsOurs k.secrets k.power name)
-    (allowed : is_told tells files faults k ≡ true → refusal_of (held tells files faults k name.hash) change ≡ None) where
-  here : is_told tells files faults k ≡ true → stands (history_of tells files faults k) name.hash ≡ held tells files faults k name.hash
-  here told = fits-here (history_of tells files faults k) (held tells files faults k) dir.kept name settled told
-
-  pub allowed-stands : is_told tells files faults k ≡ true → refusal_of (stands (history_of tells files faults k) name.hash) change ≡ None
-  allowed-stands told = subst (λ (s : State). refusal_of s change ≡ None) (sym (here told)) (allowed told)
-
-  pub outline-stands : (o : Outline) → (is_told tells files faults k ≡ true → o ≡ outline_of (held tells files faults k name.hash))
-      → is_told tells files faults k ≡ true
-      → o ≡ outline_of (stands (history_of tells files faults k) name.hash)
-  outline-stands o seen told = seen told ∙ ap outline_of (sym (here told))
-
-  new-to : is_told tells files faults k ≡ true → is_new (held tells files faults k name.hash) (write_of change).time (tag_of (write_of change).kind) ≡ true
-  new-to told = allowed-new (held tells files faults k name.hash) change (allowed told)
-
+    (settled : written name.hash k.journal.doubts ≡ []) (change : Change) (ours : IsOurs k.secrets k.power name) (o : Outline)
+    (stood : IsSeenAs tells files faults k name.hash o change None) (room : has_room k.journal (write_of change) ≡ true) where
   -- the write is new in its directory
   pub is-new-in : (path : List ℕ) (names : List FileName) → path ≡ dir_text k.power name.hash
       → (tells k.volume ≡ true → AreListedIn (contents (files k.volume)) path names) → is_told tells files faults k ≡ true
@@ -140,90 +85,135 @@ module _ {V : Type 0} (tells : V → Bool) (files : V → Folders) (faults : V �
     ours = ours;
     dir_is = path_is;
     order = dir.order told;
-    new_to = subst (λ (s : State). is_new s (write_of change).time (tag_of (write_of change).kind) ≡ true) (held-told tells files faults k name.hash told)
-        (new-to told);
+    new_to = allowed-new (holds k.secrets k.power (files k.volume) name.hash) change
+        (subst (λ (s : State). refusal_of s change ≡ None) (stood.held_is told ∙ held-told tells files faults k name.hash told) stood.refuses);
     are = (are (tells-now tells files faults k dir told)).are_names;
   }
 
   module _ (v : V) (told_is : tells v ≡ tells k.volume) (up : faults k.volume ≤ faults v) where
-    others-held : (is_told tells files faults k ≡ true → (hash : Hash) → hash ≢ name.hash → holds k.secrets k.power (files v) hash
-        ≡ holds k.secrets k.power (files k.volume) hash)
-        → (j : Journal) (hash : Hash) → hash ≢ name.hash → held tells files faults (record k { volume = v; journal = j }) hash ≡ held tells files faults k hash
-    others-held others j hash apart = elim (cases_Bool (is_told tells files faults k)) [
-      | inl told ↦ held-told tells files faults (record k { volume = v; journal = j }) hash told
+    abbrev moved : Journal → Kept V
+    moved j = record k { volume = v; journal = j }
+
+    others-held : (j : Journal) → (is_told tells files faults k ≡ true → (hash : Hash) → hash ≢ name.hash → holds k.secrets k.power (files v) hash
+        ≡ holds k.secrets k.power (files k.volume) hash) → (hash : Hash) → hash ≢ name.hash
+        → held tells files faults (moved j) hash ≡ held tells files faults k hash
+    others-held j others hash apart = elim (cases_Bool (is_told tells files faults k)) [
+      | inl told ↦ held-told tells files faults (moved j) hash told
           ∙ (others told hash apart ∙ sym (held-told tells files faults k hash told))
-      | inr none ↦ held-untold tells files faults (record k { volume = v; journal = j }) hash none ∙ sym (held-untold tells files faults k hash none)
+      | inr none ↦ held-untold tells files faults (moved j) hash none ∙ sym (held-untold tells files faults k hash none)
     ]
+
+    -- a directory that a step left is one
+    dir-left : (j : Journal) (answer : Answer) → IsStep tells files faults k name change answer (moved j)
+        → (is_told tells files faults k ≡ true → AllInOrder k.secrets k.power (files v))
+        → ((hash : Hash) → length (written hash j.doubts) ≤ 1) → IsDir tells files faults (moved j)
+    dir-left j answer step order single = record {
+      same = told_is ∙ dir.same;
+      order = order;
+      kept = kept-after (history_of tells files faults k) (held tells files faults k) dir.kept name change answer (history_of tells files faults (moved j))
+          (held tells files faults (moved j)) step.changes step.others (λ told. told) single;
+      least = dir.least;
+      greatest = dir.greatest;
+    }
 
     -- the write was made and entered
     module _ (joins : is_told tells files faults k ≡ true → Joins k.secrets k.power name.hash (write_of change) (files k.volume) (files v)) where
-      here-joined : is_told tells files faults k ≡ true → held tells files faults (record k { volume = v }) name.hash
-          ≡ joined (held tells files faults k name.hash) (write_of change)
-      here-joined told = held-told tells files faults (record k { volume = v }) name.hash told
-          ∙ ((joins told).here ∙ ap (λ (s : State). joined s (write_of change)) (sym (held-told tells files faults k name.hash told)))
+      abbrev entered : Journal
+      entered = with_entry k.journal name (write_of change)
+
+      pub step-enters : (front : ℕ) → front ≡ length entered.entries
+          → IsStep tells files faults k name change (made_answer o change front)
+          (record k { volume = v; journal = with_entry k.journal name (write_of change) })
+      step-enters front at = step-of tells files faults k (moved entered) name change (made_answer o change front)
+          (record { began = refl; secrets = refl; power = refl; told = told_is })
+          (others-held entered (λ told. (joins told).others))
+          (seen-step (history_of tells files faults k) (held tells files faults k) dir.kept name change (made_answer o change front) entered (faults v)
+          (record { entries = (Wrote name (write_of change) ∷ [], refl); max_entries = refl; max_bytes = refl }) up Makes (made-ends o change front)
+          (λ is. cc) settled stood.state stood.held_is (Wrote name (write_of change) ∷ [])
+          (record {
+            not_refused = stood.refuses;
+            room = room-single k.journal (write_of change) ∙ room;
+            is_made = refl;
+            entered = refl;
+            answer_is = ap (λ (x : Outline). made_answer x change front) stood.outline_is ∙ ap (made_answer (outline_of stood.state) change) at;
+          })
+          (held tells files faults (moved entered) name.hash)
+          (λ told. ap bare (held-told tells files faults (moved entered) name.hash told
+          ∙ ((joins told).here ∙ ap (λ (s : State). joined s (write_of change)) (sym (held-told tells files faults k name.hash told))))))
 
       pub dir-entered : IsDir tells files faults (record k { volume = v; journal = with_entry k.journal name (write_of change) })
-      dir-entered = record {
-        same = told_is ∙ dir.same;
-        order = λ told. (joins told).order;
-        kept = kept-entered (history_of tells files faults k) (held tells files faults k) dir.kept name settled (faults v)
-            (held tells files faults (record k { volume = v })) (write_of change)
-            (λ hash apart. others-held (λ told. (joins told).others) k.journal hash apart) here-joined;
-        least = dir.least;
-        greatest = dir.greatest;
-      }
-
-      pub step-enters : (answer : Answer) → Answers (is_told tells files faults k)
-          (stands (history_of tells files faults k) name.hash) k.journal name change answer true (with_entry k.journal name (write_of change))
-          → (answer ≡ answers.Failed → ⊥) → IsStep tells files faults k name change answer
-          (record k { volume = v; journal = with_entry k.journal name (write_of change) })
-      step-enters answer answered never = record {
-        same = record { began = refl; secrets = refl; power = refl; told = told_is };
-        others = λ hash apart. others-held (λ told. (joins told).others) (with_entry k.journal name (write_of change)) hash apart;
-        made = enters (history_of tells files faults k) (held tells files faults k) dir.kept name settled (faults v)
-            (held tells files faults (record k { volume = v }) name.hash) change answer up here-joined answered never;
-      }
+      dir-entered = dir-left entered (made_answer o change (length entered.entries)) (step-enters (length entered.entries) refl)
+          (λ told. (joins told).order) dir.kept.single
 
     -- the write may have been made, and is in doubt
     module _ (may : is_told tells files faults k ≡ true → Keeps k.secrets k.power name.hash (files k.volume) (files v)
-        ⊎ Joins k.secrets k.power name.hash (write_of change) (files k.volume) (files v)) where
-      either-others : Keeps k.secrets k.power name.hash (files k.volume) (files v)
+        ⊎ Joins k.secrets k.power name.hash (write_of change) (files k.volume) (files v)) (risen : HasRisen (faults k.volume) (faults v)) where
+      abbrev doubted : Journal
+      doubted = with_doubt k.journal name (write_of change)
+
+      abbrev Either : Type 0
+      Either = Keeps k.secrets k.power name.hash (files k.volume) (files v)
           ⊎ Joins k.secrets k.power name.hash (write_of change) (files k.volume) (files v)
-          → (hash : Hash) → hash ≢ name.hash → holds k.secrets k.power (files v) hash ≡ holds k.secrets k.power (files k.volume) hash
+
+      either-others : Either → (hash : Hash) → hash ≢ name.hash → holds k.secrets k.power (files v) hash ≡ holds k.secrets k.power (files k.volume) hash
       either-others (inl keeps) = keeps.others
       either-others (inr joins) = joins.others
 
-      either-order : Keeps k.secrets k.power name.hash (files k.volume) (files v)
-          ⊎ Joins k.secrets k.power name.hash (write_of change) (files k.volume) (files v) → AllInOrder k.secrets k.power (files v)
+      either-order : Either → AllInOrder k.secrets k.power (files v)
       either-order (inl keeps) = keeps.order
       either-order (inr joins) = joins.order
 
-      either-here : is_told tells files faults k ≡ true → Keeps k.secrets k.power name.hash (files k.volume) (files v)
-          ⊎ Joins k.secrets k.power name.hash (write_of change) (files k.volume) (files v)
-          → (held tells files faults (record k { volume = v }) name.hash ≡ held tells files faults k name.hash)
-          ⊎ (held tells files faults (record k { volume = v }) name.hash ≡ joined (held tells files faults k name.hash) (write_of change))
-      either-here told (inl keeps) = inl (held-told tells files faults (record k { volume = v }) name.hash told
-          ∙ (keeps.here ∙ sym (held-told tells files faults k name.hash told)))
-      either-here told (inr joins) = inr (held-told tells files faults (record k { volume = v }) name.hash told
-          ∙ (joins.here ∙ ap (λ (s : State). joined s (write_of change)) (sym (held-told tells files faults k name.hash told))))
+      changed : (made : List ObjEntry) → (made ≡ []) ⊎ ((true ≡ true) × (made ≡ Wrote name (write_of change) ∷ []))
+          → (is_told tells files faults k ≡ true
+          → bare (held tells files faults (moved doubted) name.hash) ≡ fold obj_applied (bare (held tells files faults k name.hash)) made)
+          → ChangesObject true (steps_of tells files faults k) (values_of tells files faults k) name change answers.Failed
+          (steps_of tells files faults (moved doubted)) (values_of tells files faults (moved doubted) name.hash)
+      changed made is_made left =
+          seen-step (history_of tells files faults k) (held tells files faults k) dir.kept name change answers.Failed doubted (faults v)
+          (record { entries = ([], sym (append-nil k.journal.entries)); max_entries = refl; max_bytes = refl }) up Fails refl
+          (λ is. risen) settled stood.state stood.held_is made
+          (record {
+            not_refused = stood.refuses;
+            room = room-single k.journal (write_of change) ∙ room;
+            first = [];
+            here = Wrote name (write_of change) ∷ [];
+            behind = [];
+            cut = refl;
+            doubted = true;
+            may_doubt = λ x. refl;
+            is_made = is_made;
+            entered = λ i. record (single_journal k.journal) {
+              entries = sym (append-nil k.journal.entries) i;
+              doubts = map-append (λ entry. entry ∷ []) k.journal.doubts (Wrote name (write_of change) ∷ []) i;
+            };
+          })
+          (held tells files faults (moved doubted) name.hash) left
+
+      by-told : (b : Bool) → is_told tells files faults k ≡ b
+          → ChangesObject true (steps_of tells files faults k) (values_of tells files faults k) name change answers.Failed
+          (steps_of tells files faults (moved doubted)) (values_of tells files faults (moved doubted) name.hash)
+      by-told false none = changed [] (inl refl) (λ told. absurd (let clash = sym none ∙ told in cc))
+      by-told true told = elim (may told) [
+        | inl keeps ↦ changed [] (inl refl) (λ x. ap bare (held-told tells files faults (moved doubted) name.hash told
+            ∙ (keeps.here ∙ sym (held-told tells files faults k name.hash told))))
+        | inr joins ↦ changed (Wrote name (write_of change) ∷ []) (inr (refl, refl))
+            (λ x. ap bare (held-told tells files faults (moved doubted) name.hash told
+            ∙ (joins.here ∙ ap (λ (s : State). joined s (write_of change)) (sym (held-told tells files faults k name.hash told)))))
+      ]
+
+      pub step-doubts : IsStep tells files faults k name change answers.Failed
+          (record k { volume = v; journal = with_doubt k.journal name (write_of change) })
+      step-doubts = step-of tells files faults k (moved doubted) name change answers.Failed
+          (record { began = refl; secrets = refl; power = refl; told = told_is }) (others-held doubted (λ told. either-others (may told)))
+          (by-told (is_told tells files faults k) refl)
 
       pub dir-doubted : IsDir tells files faults (record k { volume = v; journal = with_doubt k.journal name (write_of change) })
-      dir-doubted = record {
-        same = told_is ∙ dir.same;
-        order = λ told. either-order (may told);
-        kept = kept-doubted (history_of tells files faults k) (held tells files faults k) dir.kept name settled (faults v)
-            (held tells files faults (record k { volume = v })) (write_of change)
-            (λ hash apart. others-held (λ told. either-others (may told)) k.journal hash apart) (λ told. either-here told (may told)) new-to;
-        least = dir.least;
-        greatest = dir.greatest;
-      }
-
-      pub step-doubts : HasRisen (faults k.volume) (faults v) → has_room k.journal (write_of change) ≡ true
-          → IsStep tells files faults k name change answers.Failed (record k { volume = v; journal = with_doubt k.journal name (write_of change) })
-      step-doubts risen room = record {
-        same = record { began = refl; secrets = refl; power = refl; told = told_is };
-        others = λ hash apart. others-held (λ told. either-others (may told)) (with_doubt k.journal name (write_of change)) hash apart;
-        made = doubts (history_of tells files faults k) (held tells files faults k) dir.kept name settled (faults v)
-            (held tells files faults (record k { volume = v }) name.hash) change risen up
-            (λ told. either-here told (may told)) allowed-stands room;
-      }
+      dir-doubted = dir-left doubted answers.Failed step-doubts (λ told. either-order (may told)) (λ hash. single hash (bytes_eq name.hash hash) refl)
+        where
+          single : (hash : Hash) (b : Bool) → bytes_eq name.hash hash ≡ b → length (written hash doubted.doubts) ≤ 1
+          single hash true is = subst (λ (x : Hash). length (written x doubted.doubts) ≤ 1) (hash-same name.hash hash is)
+              (let l = ap length (own-doubt k.journal name (write_of change) settled) in omega (arith, l))
+          single hash false is = subst (λ (l : List Write). length l ≤ 1)
+              (sym (written-append hash k.journal.doubts (Wrote name (write_of change) ∷ [])
+              ∙ (ap (λ (l : List Write). written hash k.journal.doubts ++ l) (written-other hash name (write_of change) (hash-apart name.hash hash is))
+              ∙ append-nil (written hash k.journal.doubts)))) (dir.kept.single hash)

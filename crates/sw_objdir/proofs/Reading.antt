@@ -1,6 +1,7 @@
 -- What the files of a name tell, read after they were listed, and which calls that takes.
 use Rattle.std.proofs.Common.{◌≡◌, ℕ, ◌≤◌, Bool, true, false, List, [], Option, Some, None}
 use Rattle.std.proofs.Common.{Result, Ok, Err, length, refl, sym, ◌∙◌, ap, subst, arith, ◌⊎◌, inl, inr, IfOk}
+use Rattle.std.specs.Str.{bytes_eq}
 use Rattle.std.proofs.lemmas.Bool.{cases_Bool, cases_lt}
 use Rattle.sw_cleanup.specs.Cleaning.{AreListedIn}
 use Rattle.sw_cleanup.specs.Directories.{AreNamesIn, StandsIn}
@@ -20,13 +21,13 @@ use Rattle.sw_hashpath.specs.declared.decode_error.BadFile.{BadFile}
 use Rattle.sw_hashpath.specs.declared.name.Name.{Name}
 use Rattle.sw_hashpath.specs.declared.secrets.Secrets.{Secrets}
 use Rattle.sw_journal.specs.Settling.{SettlesFirst}
-use Rattle.sw_objdir.proofs.Looking.{dir-moved, held-told, looks-moved, looks-trans, reads, tells-now}
+use Rattle.sw_object_steps.specs.Histories.{got_look}
+use Rattle.sw_objdir.proofs.Looking.{all-held, dir-moved, held-told, looks-moved, looks-trans, reads, tells-now}
 use Rattle.sw_objdir.specs.Calling.{Counts, Listed, ReadCalled, ReadsFiles, object_reads, read_calls}
-use Rattle.sw_objdir.specs.Directories.{Fits, IsDir, Kept, held, history_of, is_told}
-use Rattle.sw_objdir.specs.Stepping.{IsReadStep, OnlyLooks, SameFiles}
+use Rattle.sw_objdir.specs.Directories.{IsDir, Kept, held, is_told}
+use Rattle.sw_objdir.specs.Stepping.{IsReadStep, LooksAt, SameFiles}
 use Rattle.sw_outside.specs.Counts.{raised}
 use Rattle.sw_outside.specs.Faults.{HasRisen}
-use Rattle.sw_peer.specs.Histories.{is_shown, stands}
 use Rattle.sw_peer.specs.Journals.{Hash, Shows, written}
 use Rattle.sw_peer.specs.Outlines.{standing_expiry}
 use Rattle.sw_peer.specs.Steps.{got_of}
@@ -36,6 +37,7 @@ use Rattle.sw_state.specs.declared.heads.Heads.{Heads}
 use Rattle.sw_state.specs.declared.state.State.{State}
 use Rattle.sw_state.specs.declared.content.Content.{Content}
 use Rattle.sw_state.specs.declared.write.Write.{Write}
+use Rattle.sw_step.specs.Steps.{IsLost, Tells}
 use Rattle.sw_volume.specs.Tree.{Folders, contents}
 use Rattle.sw_volume.specs.Volume.{Contents, IsSame, raised_by}
 
@@ -149,7 +151,7 @@ module _ {V : Type 0} (tells : V → Bool) (files : V → Folders) (faults : V �
   second-asked (Err fault) Told Asked P read = tt
 
   -- what was read of the files that a listing left is what stood there before it
-  module _ (k m : Kept V) (looks : OnlyLooks tells files faults k m) (hash : Hash) (path dir : List ℕ) (path_is : path ≡ dir) where
+  module _ {at : Hash → Bool} (k m : Kept V) (looks : LooksAt tells files faults at k m) (hash : Hash) (path dir : List ℕ) (path_is : path ≡ dir) where
     pub damage-before : (file : Option FileName) (bad : BadFile) → (tells m.volume ≡ true → IsDamagedAt m.secrets hash (files m.volume) path file bad)
         → tells k.volume ≡ true → IsDamagedAt k.secrets hash (files k.volume) dir file bad
     damage-before file bad there told =
@@ -186,14 +188,13 @@ module _ {V : Type 0} (tells : V → Bool) (files : V → Folders) (faults : V �
 
   -- ---- a read of the object
 
-  module _ (k m : Kept V) (dir : IsDir tells files faults k) (looks : OnlyLooks tells files faults k m)
-      (after : IsDir tells files faults m) (name : Name) where
+  module _ (k m : Kept V) (name : Name) (looks : LooksAt tells files faults (λ key. bytes_eq key name.hash) k m) (after : IsDir tells files faults m) where
     -- the listing failed, or memory ran out
-    pub unread : (got : Got) → is_shown got ≡ false
-        → Shows (is_told tells files faults m) (stands (history_of tells files faults m) name.hash) (length m.journal.entries) got
-        → (got ≡ gots.Failed → HasRisen (faults k.volume) (faults m.volume)) → IsReadStep tells files faults k name got m
+    pub unread : (got : Got) → (got_look got ≡ Tells → ⊥)
+        → Shows (is_told tells files faults m) (held tells files faults m name.hash) (length m.journal.entries) got
+        → (got_look got ≡ IsLost → HasRisen (faults k.volume) (faults m.volume)) → IsReadStep tells files faults k name got m
     unread got never shown cause =
-        reads tells files faults k m dir looks name got (λ is. absurd (let no : false ≡ true = sym never ∙ is in cc)) after shown cause
+        reads tells files faults k m name got looks after (λ is. absurd (never is)) (held tells files faults m) (λ hash. refl) shown cause
 
     module _ (path : List ℕ) (names : List FileName) (picked : Picked) (ours : IsOurs k.secrets k.power name)
         (path_is : path ≡ dir_text k.power name.hash)
@@ -207,23 +208,20 @@ module _ {V : Type 0} (tells : V → Bool) (files : V → Folders) (faults : V �
           picks told
 
       module _ (settled : written name.hash m.journal.doubts ≡ []) (front : ℕ) (front_is : front ≡ length m.journal.entries) where
-        got-stands : (got : Got) → (tells m.volume ≡ true → IsGotIn m.secrets name.hash (files m.volume) path front picked got)
-            → is_told tells files faults m ≡ true
-            → got ≡ got_of (stands (history_of tells files faults m) name.hash) (length m.journal.entries)
-        got-stands got shown told =
-            let left = stands (history_of tells files faults m) name.hash in
-            let fits : held tells files faults m name.hash ≡ left =
-            subst (λ (l : List Write). Fits l (held tells files faults m name.hash) left) settled (after.kept.fits told name.hash) in
+        got-held : (got : Got) → (tells m.volume ≡ true → IsGotIn m.secrets name.hash (files m.volume) path front picked got)
+            → is_told tells files faults m ≡ true → got ≡ got_of (held tells files faults m name.hash) (length m.journal.entries)
+        got-held got shown told =
             shown (tells-now tells files faults m after told) m.power (picked-now told)
-            ∙ (ap (λ (s : State). got_of s front) (sym (held-told tells files faults m name.hash told) ∙ fits) ∙ ap (got_of left) front_is)
+            ∙ (ap (λ (s : State). got_of s front) (sym (held-told tells files faults m name.hash told))
+            ∙ ap (got_of (held tells files faults m name.hash)) front_is)
 
         shows : (got : Got) → OnShown got (tells m.volume ≡ true → IsGotIn m.secrets name.hash (files m.volume) path front picked got)
             → HasFront front got
             → IfShownDamaged got (λ bad. tells m.volume ≡ true → IsOutOfOrder m.secrets name.hash (files m.volume) path picked)
-            → Shows (is_told tells files faults m) (stands (history_of tells files faults m) name.hash) (length m.journal.entries) got
+            → Shows (is_told tells files faults m) (held tells files faults m name.hash) (length m.journal.entries) got
         shows (gots.Found time content heads at) shown at_front out =
-            (at_front ∙ front_is, got-stands (gots.Found time content heads at) shown)
-        shows (gots.NotFound time) shown at_front out = got-stands (gots.NotFound time) shown
+            (at_front ∙ front_is, got-held (gots.Found time content heads at) shown)
+        shows (gots.NotFound time) shown at_front out = got-held (gots.NotFound time) shown
         shows (gots.Damaged bad) shown at_front out = untold m after name.hash path picked picked-now out
         shows gots.Failed shown at_front out = tt
         shows gots.NoMemory shown at_front out = tt
@@ -238,12 +236,20 @@ module _ {V : Type 0} (tells : V → Bool) (files : V → Folders) (faults : V �
               → CountsFault (faults m.volume) (faults v) got → IsReadStep tells files faults k name got (record m { volume = v })
           read-step got shown at_front out counts =
               let moved : Kept V = record m { volume = v } in
-              let all : OnlyLooks tells files faults k moved =
-              looks-trans tells files faults k m moved looks (looks-moved tells files faults m v told_is stay up) in
-              reads tells files faults k moved dir all name got (λ is. settled) (dir-moved tells files faults m v after told_is stay)
+              let moves = looks-moved tells files faults m v told_is stay up in
+              reads tells files faults k moved name got (looks-trans tells files faults k m moved looks moves)
+              (dir-moved tells files faults m v after told_is stay) (λ is. settled)
+              (held tells files faults m) (λ hash. sym (all-held tells files faults (λ key. bytes_eq key name.hash) m moved moves after hash))
               (shows got shown at_front out)
               (λ is. risen-once (faults k.volume) (faults v)
-              (subst (λ (x : Got). CountsFault (faults m.volume) (faults v) x) is counts ∙ ap raised fine))
+              (subst (λ (x : Got). CountsFault (faults m.volume) (faults v) x) (lost got is) counts ∙ ap raised fine))
+            where
+              lost : (x : Got) → got_look x ≡ IsLost → x ≡ gots.Failed
+              lost (gots.Found time content heads at) same = cc
+              lost (gots.NotFound time) same = cc
+              lost (gots.Damaged bad) same = cc
+              lost gots.Failed same = refl
+              lost gots.NoMemory same = cc
 
 -- ---- the calls of a read
 
@@ -283,8 +289,8 @@ two-at-most None meta = omega arith
 two-at-most (Some file) None = omega arith
 two-at-most (Some file) (Some beside) = omega arith
 
-module _ {V : Type 0} (tells : V → Bool) (files : V → Folders) (faults calls lists : V → ℕ) (k m : Kept V)
-    (looks : OnlyLooks tells files faults k m) (name : Name) (path : List ℕ) (names : List FileName) (picked : Picked)
+module _ {V : Type 0} (tells : V → Bool) (files : V → Folders) (faults calls lists : V → ℕ) {at : Hash → Bool} (k m : Kept V)
+    (looks : LooksAt tells files faults at k m) (name : Name) (path : List ℕ) (names : List FileName) (picked : Picked)
     (path_is : path ≡ dir_text k.power name.hash)
     (are : tells k.volume ≡ true → AreListedIn (contents (files k.volume)) path names) (picks : IsPicked names picked)
     (fine : faults m.volume ≡ faults k.volume) (called : calls m.volume ≡ raised (calls k.volume))

@@ -1,14 +1,16 @@
 -- What contracts see of an object directory: a volume, and the journal of what was done with it. (This project's own.)
-use Rattle.std.specs.Prelude.{◌≡◌, ℕ, ◌≤◌, Bool, true, ◌&&◌, List, [], ◌∷◌, length, ◌⊎◌, if◌then◌else◌}
+use Rattle.std.specs.Prelude.{◌≡◌, ℕ, ◌≤◌, Bool, true, ◌&&◌, [], length, if◌then◌else◌}
 use Rattle.sw_hashdir.specs.Places.{AllInOrder, holds, in_order}
 use Rattle.sw_hashpath.specs.declared.secrets.Secrets.{Secrets}
 use Rattle.sw_journal.specs.Entries.{begun}
-use Rattle.sw_peer.specs.Histories.{History, stands}
+use Rattle.sw_object_steps.specs.Histories.{single_history}
+use Rattle.sw_object_steps.specs.Rules.{ObjHistory, obj_rules}
+use Rattle.sw_object_steps.specs.Values.{ObjValue, bare}
+use Rattle.sw_peer.specs.Histories.{History}
 use Rattle.sw_peer.specs.Journals.{Hash, Journal, written}
-use Rattle.sw_state.specs.States.{is_new, joined, state_of}
-use Rattle.sw_state.specs.Writes.{tag_of}
+use Rattle.sw_state.specs.States.{state_of}
 use Rattle.sw_state.specs.declared.state.State.{State}
-use Rattle.sw_state.specs.declared.write.Write.{Write}
+use Rattle.sw_step.specs.Rules.{CanStand}
 use Rattle.sw_volume.specs.Tree.{Folders}
 
 -- a volume now and as the journal began, where its hashes' files are, and the journal
@@ -24,16 +26,9 @@ abbrev pub started : {V : Type 0} → V → Secrets → ℕ → ℕ → ℕ → 
 started volume secrets power max_entries max_bytes =
     record { volume = volume; began = volume; secrets = secrets; power = power; journal = begun max_entries max_bytes }
 
--- what a hash stands for, where its entries leave `left` and these of its writes are in doubt, one at most: that, or that with the doubted
--- write, which would change it
-abbrev pub Fits : List Write → State → State → Type 0
-Fits [] now left = now ≡ left
-Fits (w ∷ []) now left = (is_new left w.time (tag_of w.kind) ≡ true) × ((now ≡ left) ⊎ (now ≡ joined left w))
-Fits (w ∷ v ∷ more) now left = ⊥
-
--- what the hashes stand for is what the entries leave, with the doubts that were made; of each hash there is one doubt at most
+-- each hash stands for what the entries leave, with the doubts of it that were made; of each there is one doubt at most
 pub record IsKept (h : History) (now : Hash → State) : Type 0 where
-  pub fits : h.told ≡ true → (hash : Hash) → Fits (written hash h.journal.doubts) (now hash) (stands h hash)
+  pub can : h.told ≡ true → (hash : Hash) → CanStand obj_rules (single_history h) hash (bare (now hash))
   pub single : (hash : Hash) → length (written hash h.journal.doubts) ≤ 1
 
 module _ {V : Type 0} (tells : V → Bool) (files : V → Folders) (faults : V → ℕ) where
@@ -47,6 +42,13 @@ module _ {V : Type 0} (tells : V → Bool) (files : V → Folders) (faults : V �
   -- what each hash stands for now, where that is told
   abbrev pub held : Kept V → Hash → State
   held k hash = if is_told k then holds k.secrets k.power (files k.volume) hash else state_of []
+
+  -- the same by the rules: each doubt is a change of its own, and no record is filed beside a state
+  abbrev pub steps_of : Kept V → ObjHistory
+  steps_of k = single_history (history_of k)
+
+  abbrev pub values_of : Kept V → Hash → ObjValue
+  values_of k hash = bare (held k hash)
 
   -- the invariant of an object directory
   pub record IsDir (k : Kept V) : Type 0 where

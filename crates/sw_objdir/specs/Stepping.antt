@@ -1,18 +1,25 @@
--- What a step of an object directory is: one of its lock, by the relations that every door of object nodes uses. (This project's own.)
-use Rattle.std.specs.Prelude.{◌≡◌, ◌≢◌, ℕ, ◌≤◌, Bool, true, List, ◌++◌, map, Result}
+-- What a step of an object directory is: one of its lock by the rules of objects, and so by the relations that every door of object nodes uses. (This
+-- project's own.)
+use Rattle.std.specs.Prelude.{◌≡◌, ◌≢◌, ℕ, ◌≤◌, Bool, true, false, List, ◌++◌, map, Option, Result}
 use Rattle.sw_hashpath.specs.declared.name.Name.{Name}
-use Rattle.sw_objdir.specs.Directories.{Kept, held, history_of}
+use Rattle.sw_objdir.specs.Directories.{Kept, held, history_of, is_told, steps_of, values_of}
+use Rattle.sw_object_steps.specs.Histories.{ChangesObject, ReadsObject, ReadsPart}
+use Rattle.sw_object_steps.specs.Rules.{obj_rules}
 use Rattle.sw_peer.specs.Briefs.{brief_of}
-use Rattle.sw_peer.specs.Histories.{OnlySettles, StepChanges, StepReads}
+use Rattle.sw_peer.specs.Histories.{StepChanges, StepReads}
 use Rattle.sw_peer.specs.Journals.{Hash}
+use Rattle.sw_peer.specs.Outlines.{outline_of}
 use Rattle.sw_peer.specs.Parts.{StepReadsPart}
+use Rattle.sw_peer.specs.Steps.{refusal_of}
 use Rattle.sw_peer.specs.declared.answer.Answer.{Answer}
 use Rattle.sw_peer.specs.declared.change.Change.{Change}
 use Rattle.sw_peer.specs.declared.dir_fault.DirFault.{DirFault}
 use Rattle.sw_peer.specs.declared.entry.Brief.{Brief}
 use Rattle.sw_peer.specs.declared.entry.ObjEntry.{ObjEntry}
 use Rattle.sw_peer.specs.declared.got.Got.{Got}
+use Rattle.sw_peer.specs.declared.outline.Outline.{Outline}
 use Rattle.sw_state.specs.declared.state.State.{State}
+use Rattle.sw_step.specs.Steps.{OnlySettles}
 use Rattle.sw_volume.specs.Tree.{Folders, contents}
 use Rattle.sw_volume.specs.Volume.{IsSame}
 
@@ -32,17 +39,30 @@ module _ {V : Type 0} (tells : V → Bool) (files : V → Folders) (faults : V �
     pub power : n.power ≡ k.power
     pub told : tells n.volume ≡ tells k.volume
 
-  -- files were looked at, and doubts settled
-  pub record OnlyLooks (k n : Kept V) : Type 0 where
+  -- files were looked at, and of the doubts only such of these hashes settled
+  pub record LooksAt (at : Hash → Bool) (k n : Kept V) : Type 0 where
     pub same : IsSameDir k n
-    pub settles : OnlySettles (history_of tells files faults k) (history_of tells files faults n)
+    pub settles : OnlySettles obj_rules at (steps_of tells files faults k) (steps_of tells files faults n)
     pub still : SameFiles k n
     pub later : faults k.volume ≤ faults n.volume
+
+  -- files were looked at, and no doubt was settled
+  abbrev pub OnlyLooks : Kept V → Kept V → Type 0
+  OnlyLooks k n = LooksAt (λ hash. false) k n
+
+  -- what stood under a hash as a step read it, by what it saw of its files: where the directory is told, that is what the hash stands for
+  pub record IsSeenAs (k : Kept V) (hash : Hash) (o : Outline) (change : Change) (refused : Option Answer) : Type 0 where
+    pub state : State
+    pub held_is : is_told tells files faults k ≡ true → state ≡ held tells files faults k hash
+    pub outline_is : o ≡ outline_of state
+    pub refuses : refusal_of state change ≡ refused
 
   -- a step that may change what stands under the name; every other hash stands for what it stood for
   pub record IsStep (k : Kept V) (name : Name) (change : Change) (answer : Answer) (n : Kept V) : Type 0 where
     pub same : IsSameDir k n
     pub others : (hash : Hash) → hash ≢ name.hash → held tells files faults n hash ≡ held tells files faults k hash
+    pub changes : ChangesObject true (steps_of tells files faults k) (values_of tells files faults k) name change answer
+        (steps_of tells files faults n) (values_of tells files faults n name.hash)
     pub made : StepChanges true (history_of tells files faults k) (held tells files faults k name.hash) name change answer
         (history_of tells files faults n) (held tells files faults n name.hash)
 
@@ -50,7 +70,14 @@ module _ {V : Type 0} (tells : V → Bool) (files : V → Folders) (faults : V �
   pub record IsReadStep (k : Kept V) (name : Name) (got : Got) (n : Kept V) : Type 0 where
     pub same : IsSameDir k n
     pub all : (hash : Hash) → held tells files faults n hash ≡ held tells files faults k hash
+    pub reads : ReadsObject true (steps_of tells files faults k) name.hash got (steps_of tells files faults n) (values_of tells files faults n)
     pub read : StepReads true (history_of tells files faults k) name.hash got (history_of tells files faults n) (held tells files faults n name.hash)
+
+  -- a read of the hashes of a partition that pass a test, by the rules
+  abbrev pub ReadsHashes : {A : Type 0} → Kept V → (Hash → Bool) → (Bool → (Hash → State) → A → Type 0) → Result A DirFault → Kept V → Type 0
+  ReadsHashes k at reading got n =
+      ReadsPart true (steps_of tells files faults k) at (reading (is_told tells files faults n)) got (steps_of tells files faults n)
+      (values_of tells files faults n)
 
   -- a read of a partition; every hash stands for what it stood for
   pub record IsPartStep {A : Type 0} (k : Kept V) (at : Hash → Type 0) (damages : Bool) (reading : Bool → (Hash → State) → A → Type 0)

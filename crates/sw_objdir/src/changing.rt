@@ -1,14 +1,15 @@
 ghost use Rattle.std.specs.Prelude.{◌≡◌, ℕ, ◌≤◌, true, false, [], Some, None, IfOk, OnOk, OnErr};
+ghost use Rattle.std.specs.Str.{bytes_eq};
 ghost use Rattle.sw_cleanup.specs.Cleaning.{AreListedIn};
 ghost use Rattle.sw_diskfile.specs.Picking.{IsPicked};
 ghost use Rattle.sw_hashdir.specs.Places.{dir_text, is_place};
 ghost use Rattle.sw_hashdir.specs.Steps.{IsHashed, IsOurs};
 ghost use Rattle.sw_peer.specs.Outlines.{picked_outline};
-ghost use Rattle.sw_hashdir.specs.Readings.{IfDamaged, IsDamagedAt, IsSecondRead, OnFailedRead, UnlessFailedRead, expiry_file};
+ghost use Rattle.sw_hashdir.specs.Readings.{IfDamaged, IsDamagedAt, IsSecondOf, IsSecondRead, OnFailedRead, UnlessFailedRead, expiry_file};
 ghost use Rattle.sw_journal.specs.Settling.{SettlesFirst};
 ghost use Rattle.sw_objdir.specs.Calling.{Called, reads_of};
 ghost use Rattle.sw_objdir.specs.Directories.{IsDir, held, history_of, is_told};
-ghost use Rattle.sw_objdir.specs.Stepping.{IsStep, OnlyLooks};
+ghost use Rattle.sw_objdir.specs.Stepping.{IsStep, LooksAt};
 ghost use Rattle.sw_outside.specs.Counts.{raised};
 ghost use Rattle.sw_peer.specs.Histories.{OnlySettles};
 ghost use Rattle.sw_peer.specs.Journals.{body_size, written};
@@ -75,7 +76,7 @@ impl<V: Volume + Drop> ObjDir<V> {
         requires place { is_place self.old.power hash.now ≡ true }
         requires dir { dir.now ≡ dir_text self.old.power hash.now }
         ensures dir { IsDir V.tells V.holds V.faults self.new }
-        ensures looks { OnlyLooks V.tells V.holds V.faults self.old self.new }
+        ensures looks { LooksAt V.tells V.holds V.faults (λ key. bytes_eq key hash.now) self.old self.new }
         ensures settled { OnOk result (written hash.now self.new.journal.doubts ≡ []) }
         ensures settles { IfOk result (λ seen. SettlesFirst hash.now seen.outline self.old.journal self.new.journal) }
         ensures unsettled { OnErr result (self.new.journal ≡ self.old.journal) }
@@ -107,10 +108,11 @@ impl<V: Volume + Drop> ObjDir<V> {
         requires names { V.tells self.old.volume ≡ true → AreListedIn (contents (V.holds self.old.volume)) dir.now seen.now.names.items }
         requires picked { IsPicked seen.now.names.items seen.now.picked }
         requires shape { seen.now.outline ≡ picked_outline seen.now.picked }
-        ensures looks { OnlyLooks V.tells V.holds V.faults self.old self.new }
+        ensures looks { LooksAt V.tells V.holds V.faults (λ key. bytes_eq key name.now.hash) self.old self.new }
         ensures journal { self.new.journal ≡ self.old.journal }
         ensures second { IfOk result (λ expiry. is_told V.tells V.holds V.faults self.old ≡ true → asks_expiry seen.now.outline change.now ≡ true
             → expiry ≡ standing_expiry (held V.tells V.holds V.faults self.old name.now.hash)) }
+        ensures said { IfOk result (λ expiry. IsSecondOf (expiry_file seen.now.picked) expiry) }
         ensures read { IfOk result (λ expiry. V.tells self.old.volume ≡ true → asks_expiry seen.now.outline change.now ≡ true
             → IsSecondRead self.old.secrets name.now.hash (V.holds self.old.volume) dir.now seen.now.picked expiry) }
         ensures damage { IfDamaged result (λ bad. V.tells self.old.volume ≡ true

@@ -1,15 +1,16 @@
-ghost use Rattle.std.specs.Prelude.{◌≡◌, ◌≢◌, ⊤, ℕ, ◌<◌, ◌≤◌, ◌^◌, suc, length, true, false, [], find, IfOk, OnOk, OnErr, Some};
+ghost use Rattle.std.specs.Prelude.{◌≡◌, ◌≢◌, ⊤, ℕ, ◌<◌, ◌≤◌, ◌^◌, suc, length, ◌==◌, ◌&&◌, true, false, [], find, IfOk, OnOk, OnErr, Some};
 ghost use Rattle.std.specs.Option.{option_copied, option_map};
+ghost use Rattle.std.specs.Str.{bytes_eq};
 ghost use Rattle.sw_diskfile.specs.FileNames.{name_text};
 ghost use Rattle.sw_hashdir.specs.Places.{dir_text};
 ghost use Rattle.sw_hashdir.specs.Readings.{IsDamaged, IsFound};
 ghost use Rattle.sw_hashdir.specs.Steps.{is_hashed};
-ghost use Rattle.sw_hashpath.specs.HashParts.{suffix_of};
+ghost use Rattle.sw_hashpath.specs.HashParts.{partition_of, suffix_of};
 ghost use Rattle.sw_journal.specs.Entries.{entry_hash, first_in};
 ghost use Rattle.sw_objdir.specs.Comparing.{CountsFault, HasDoubt, IfDamagedPart, IsSettled, Looks, ReadsOnce, SettlesDoubt, fault_of_read, fault_of_volume};
 ghost use Rattle.sw_objdir.specs.Comparing.{is_in, listings_of};
 ghost use Rattle.sw_objdir.specs.Directories.{IsDir};
-ghost use Rattle.sw_objdir.specs.Stepping.{AddsBriefs, IsPartStep, OnlyLooks};
+ghost use Rattle.sw_objdir.specs.Stepping.{AddsBriefs, IsPartStep, LooksAt, ReadsHashes};
 ghost use Rattle.sw_peer.specs.Briefs.{brief_of};
 ghost use Rattle.sw_peer.specs.Journals.{written};
 ghost use Rattle.sw_peer.specs.Parts.{AreHashes, AreLines, IsFile, IsOfPart};
@@ -68,6 +69,8 @@ impl<V: Volume + Drop> ObjDir<V> {
         requires part { part < 2 ^ self.old.power }
         ensures read { IsPartStep V.tells V.holds V.faults self.old (λ hash. IsOfPart self.old.power part hash × ⊤) false
             (λ told s got. AreHashes self.old.power part told s got.items) result self.new }
+        ensures reads { ReadsHashes V.tells V.holds V.faults self.old (λ hash. partition_of hash self.old.power == part)
+            (λ told s got. AreHashes self.old.power part told s got.items) result self.new }
         ensures briefs { AddsBriefs self.old.journal.entries self.new.journal.entries settled.old.items settled.new.items }
         ensures cause { CountsFault (V.faults self.old.volume) (V.faults self.new.volume) result }
         ensures only_lists { (n : ℕ) × Looks V.calls V.lists n 0 self.old self.new }
@@ -92,6 +95,9 @@ impl<V: Volume + Drop> ObjDir<V> {
         requires part { part < 2 ^ self.old.power }
         requires suffix { suffix < 4096 }
         ensures read { IsPartStep V.tells V.holds V.faults self.old (λ hash. IsOfPart self.old.power part hash × (suffix_of hash ≡ suffix)) false
+            (λ told s got. AreLines self.old.power part suffix told s got.items) result self.new }
+        ensures reads { ReadsHashes V.tells V.holds V.faults self.old
+            (λ hash. (partition_of hash self.old.power == part) && (suffix_of hash == suffix))
             (λ told s got. AreLines self.old.power part suffix told s got.items) result self.new }
         ensures briefs { AddsBriefs self.old.journal.entries self.new.journal.entries settled.old.items settled.new.items }
         ensures cause { CountsFault (V.faults self.old.volume) (V.faults self.new.volume) result }
@@ -120,6 +126,8 @@ impl<V: Volume + Drop> ObjDir<V> {
     ) -> Result<Option<Stored>, DirFault>
         requires within { IsOfPart self.old.power part hash.now }
         ensures read { IsPartStep V.tells V.holds V.faults self.old (λ other. IsOfPart self.old.power part other × (other ≡ hash.now)) true
+            (λ told s got. IsFile (is_hashed self.old.secrets) hash.now file.now told s got) result self.new }
+        ensures reads { ReadsHashes V.tells V.holds V.faults self.old (bytes_eq hash.now)
             (λ told s got. IsFile (is_hashed self.old.secrets) hash.now file.now told s got) result self.new }
         ensures briefs { AddsBriefs self.old.journal.entries self.new.journal.entries settled.old.items settled.new.items }
         ensures cause { CountsFault (V.faults self.old.volume) (V.faults self.new.volume) result }
@@ -151,7 +159,7 @@ impl<V: Volume + Drop> ObjDir<V> {
         settled: &mut Vec<Brief>,
     ) -> Result<(), VolumeError>
         ensures dir { IsDir V.tells V.holds V.faults self.new }
-        ensures looks { OnlyLooks V.tells V.holds V.faults self.old self.new }
+        ensures looks { LooksAt V.tells V.holds V.faults (is_in self.old.power scope) self.old self.new }
         ensures briefs { AddsBriefs self.old.journal.entries self.new.journal.entries settled.old.items settled.new.items }
         ensures settled { OnOk result (IsSettled self.new.power scope self.new.journal.doubts) }
         ensures cause { HasCause (V.faults self.old.volume) (V.faults self.new.volume) result }
@@ -169,7 +177,7 @@ impl<V: Volume + Drop> ObjDir<V> {
         settled: &mut Vec<Brief>,
     ) -> Result<bool, VolumeError>
         ensures dir { IsDir V.tells V.holds V.faults self.new }
-        ensures looks { OnlyLooks V.tells V.holds V.faults self.old self.new }
+        ensures looks { LooksAt V.tells V.holds V.faults (is_in self.old.power scope) self.old self.new }
         ensures briefs { AddsBriefs self.old.journal.entries self.new.journal.entries settled.old.items settled.new.items }
         ensures cause { HasCause (V.faults self.old.volume) (V.faults self.new.volume) result }
         ensures one { SettlesDoubt V.calls V.lists self.old scope result self.new }
@@ -193,7 +201,7 @@ impl<V: Volume + Drop> ObjDir<V> {
     ) -> Result<(), VolumeError>
         requires first { (entry : ObjEntry) × (first_in hash.now self.old.journal.doubts ≡ Some entry) × (brief ≡ brief_of entry) }
         ensures dir { IsDir V.tells V.holds V.faults self.new }
-        ensures looks { OnlyLooks V.tells V.holds V.faults self.old self.new }
+        ensures looks { LooksAt V.tells V.holds V.faults (λ key. bytes_eq key hash.now) self.old self.new }
         ensures briefs { AddsBriefs self.old.journal.entries self.new.journal.entries settled.old.items settled.new.items }
         ensures cause { HasCause (V.faults self.old.volume) (V.faults self.new.volume) result }
         ensures settled { OnOk result (written hash.now self.new.journal.doubts ≡ []) }

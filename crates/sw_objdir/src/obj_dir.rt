@@ -2,10 +2,12 @@ ghost use Rattle.std.specs.Prelude.{◌≡◌, ℕ, ◌<◌, ◌≤◌, ◌^◌,
 ghost use Rattle.sw_hashdir.specs.Places.{holds, in_order};
 ghost use Rattle.std.specs.Option.{option_copied};
 ghost use Rattle.sw_journal.specs.Entries.{first_in};
-ghost use Rattle.sw_objdir.specs.Directories.{Fits, history_of, is_told, started};
-ghost use Rattle.sw_peer.specs.Histories.{stands};
-ghost use Rattle.sw_peer.specs.Journals.{Hash, written};
+ghost use Rattle.sw_object_steps.specs.Rules.{obj_rules};
+ghost use Rattle.sw_object_steps.specs.Values.{bare};
+ghost use Rattle.sw_objdir.specs.Directories.{is_told, started, steps_of};
+ghost use Rattle.sw_peer.specs.Journals.{Hash};
 ghost use Rattle.sw_peer.specs.declared.entry.ObjEntry.{ObjEntry};
+ghost use Rattle.sw_step.specs.Rules.{CanStand};
 
 use std::alloc::Global;
 use std::marker::Model;
@@ -66,8 +68,7 @@ impl<V: Volume + Drop> ObjDir<V> {
         ensures same { result ≡ self.volume }
         ensures told { is_told V.tells V.holds V.faults self ≡ true → (V.tells result && in_order self.secrets self.power (V.holds result)) ≡ true }
         ensures stands { is_told V.tells V.holds V.faults self ≡ true → (hash : Hash)
-            → Fits (written hash self.journal.doubts) (holds self.secrets self.power (V.holds result) hash)
-            (stands (history_of V.tells V.holds V.faults self) hash) }
+            → CanStand obj_rules (steps_of V.tells V.holds V.faults self) hash (bare (holds self.secrets self.power (V.holds result) hash)) }
     {
         self.volume
     }

@@ -1,13 +1,11 @@
-ghost use Rattle.std.specs.Prelude.{◌≡◌, ℕ, ◌≤◌, true, [], ◌∷◌, length, IfOk};
+ghost use Rattle.std.specs.Prelude.{◌≡◌, ℕ, ◌≤◌, true, [], ◌∷◌, length, IfOk, None};
 ghost use Rattle.sw_cleanup.specs.Cleaning.{AreListedIn};
 ghost use Rattle.sw_hashdir.specs.Places.{dir_text};
 ghost use Rattle.sw_hashdir.specs.Steps.{IsOurs};
 ghost use Rattle.sw_objdir.specs.Calling.{Written};
-ghost use Rattle.sw_objdir.specs.Directories.{held, is_told};
-ghost use Rattle.sw_objdir.specs.Stepping.{IsStep};
+ghost use Rattle.sw_objdir.specs.Stepping.{IsSeenAs, IsStep};
 ghost use Rattle.sw_peer.specs.Journals.{has_room, written};
-ghost use Rattle.sw_peer.specs.Outlines.{outline_of};
-ghost use Rattle.sw_peer.specs.Steps.{is_entered, made_answer, refusal_of, write_of};
+ghost use Rattle.sw_peer.specs.Steps.{is_entered, made_answer, write_of};
 ghost use Rattle.sw_peer.specs.declared.entry.ObjEntry.TheVariants.{Wrote};
 ghost use Rattle.sw_volume.specs.Tree.{contents};
 
@@ -34,9 +32,7 @@ impl<V: Volume + Drop> ObjDir<V> {
         requires ours { IsOurs self.old.secrets self.old.power name.now }
         requires dir { dir.now ≡ dir_text self.old.power name.now.hash }
         requires names { V.tells self.old.volume ≡ true → AreListedIn (contents (V.holds self.old.volume)) dir.now seen.now.names.items }
-        requires outline { is_told V.tells V.holds V.faults self.old ≡ true → seen.now.outline
-            ≡ outline_of (held V.tells V.holds V.faults self.old name.now.hash) }
-        requires allowed { is_told V.tells V.holds V.faults self.old ≡ true → refusal_of (held V.tells V.holds V.faults self.old name.now.hash) change ≡ None }
+        requires stood { IsSeenAs V.tells V.holds V.faults self.old name.now.hash seen.now.outline change None }
         requires room { has_room self.old.journal (write_of change) ≡ true }
         ensures made { IsStep V.tells V.holds V.faults self.old name.now change result self.new }
         ensures written { Written V.tells V.holds V.faults V.calls V.lists self.old name.now (write_of change) seen.now.names.items result self.new }

@@ -1,4 +1,5 @@
 pub mod Flat
+pub mod Parts
 pub mod Settlings
 pub mod Singles
 pub mod Words

@@ -1,5 +1,6 @@
 -- A history whose doubts are each one entry, by the rules.
-use Rattle.std.proofs.Common.{◌≡◌, true, List, [], ◌∷◌, bytes_eq, refl, sym, ◌∙◌, ap, subst, inl, inr, ◌⊎◌, map}
+use Rattle.std.proofs.Common.{◌≡◌, true, List, [], ◌∷◌, ◌++◌, bytes_eq, refl, sym, ◌∙◌, ap, subst, inl, inr, ◌⊎◌, map}
+use Rattle.std.specs.List.{fold}
 use Rattle.std.proofs.lemmas.Bool.{cases_Bool}
 use Rattle.sw_hashpath.specs.declared.name.Name.{Name}
 use Rattle.sw_peer.specs.Histories.{History, stands as flat_stands}
@@ -9,6 +10,7 @@ use Rattle.sw_peer.specs.declared.entry.ObjEntry.TheVariants.{Wrote}
 use Rattle.sw_state.specs.States.{joined}
 use Rattle.sw_state.specs.declared.state.State.{State}
 use Rattle.sw_state.specs.declared.write.Write.{Write}
+use Rattle.sw_step.proofs.Settled.{tell}
 use Rattle.sw_step.specs.Rules.{AreChosen, CanStand, NoneOf, doubts_about}
 use Rattle.sw_object_steps.proofs.Words.{single-journal-flat, stands-bare}
 use Rattle.sw_object_steps.specs.Histories.{single_history, single_journal}
@@ -20,7 +22,7 @@ use Rattle.sw_object_steps.specs.Values.{ObjValue, bare}
 abbrev singles : List ObjEntry → List (List ObjEntry)
 singles ds = map (λ entry. entry ∷ []) ds
 
-doubts-none : (hash : Hash) (ds : List ObjEntry) → written hash ds ≡ [] → doubts_about obj_rules hash (singles ds) ≡ []
+pub doubts-none : (hash : Hash) (ds : List ObjEntry) → written hash ds ≡ [] → doubts_about obj_rules hash (singles ds) ≡ []
 doubts-none hash [] none = refl
 doubts-none hash (Wrote name w ∷ ds) none = elim (cases_Bool (bytes_eq name.hash hash)) [
   | inl is ↦ let no : w ∷ written hash ds ≡ [] = rw is at none in cc
@@ -68,6 +70,36 @@ stands-doubted h hash s w one (inr made) =
       subst (λ (ds : List (List ObjEntry)). AreChosen obj_rules ds (Wrote found.0 w ∷ [])) (sym found.1) ([], refl, inr refl),
       ap bare made ∙ ap (λ (v : ObjValue). obj_applied v (Wrote found.0 w)) (sym (stands-bare h hash)),
     )
+
+-- and nothing else: where none of its writes is in doubt, what its entries tell
+pub told-stands : (h : History) (hash : Hash) (s : State) → written hash h.journal.doubts ≡ [] → CanStand obj_rules (single_history h) hash (bare s)
+    → s ≡ flat_stands h hash
+told-stands h hash s none can =
+    ap (λ (v : ObjValue). v.state)
+    (tell obj_rules (single_history h) hash (bare s) can (doubts-none hash h.journal.doubts none) ∙ stands-bare h hash)
+
+one-chosen : (d es : List ObjEntry) → AreChosen obj_rules (d ∷ []) es → (es ≡ []) ⊎ (es ≡ d ++ [])
+one-chosen d es are = by are.2
+  where
+    by : (es ≡ are.0) ⊎ (es ≡ d ++ are.0) → (es ≡ []) ⊎ (es ≡ d ++ [])
+    by (inl same) = inl (same ∙ are.1)
+    by (inr more) = inr (more ∙ ap (λ (xs : List ObjEntry). d ++ xs) are.1)
+
+-- where one is, that, or that with the write
+pub doubted-stands : (h : History) (hash : Hash) (s : State) (w : Write) → written hash h.journal.doubts ≡ w ∷ []
+    → CanStand obj_rules (single_history h) hash (bare s) → (s ≡ flat_stands h hash) ⊎ (s ≡ joined (flat_stands h hash) w)
+doubted-stands h hash s w one can =
+    by (one-chosen (Wrote found.0 w ∷ []) can.0 (subst (λ (ds : List (List ObjEntry)). AreChosen obj_rules ds can.0) found.1 can.1))
+  where
+    found : (name : Name) × (doubts_about obj_rules hash (singles h.journal.doubts) ≡ (Wrote name w ∷ []) ∷ [])
+    found = doubts-one hash h.journal.doubts w one
+
+    left : bare s ≡ fold obj_applied (bare (flat_stands h hash)) can.0
+    left = can.2 ∙ ap (λ (v : ObjValue). fold obj_applied v can.0) (stands-bare h hash)
+
+    by : (can.0 ≡ []) ⊎ (can.0 ≡ (Wrote found.0 w ∷ []) ++ []) → (s ≡ flat_stands h hash) ⊎ (s ≡ joined (flat_stands h hash) w)
+    by (inl none) = inl (ap (λ (v : ObjValue). v.state) (left ∙ ap (λ (es : List ObjEntry). fold obj_applied (bare (flat_stands h hash)) es) none))
+    by (inr made) = inr (ap (λ (v : ObjValue). v.state) (left ∙ ap (λ (es : List ObjEntry). fold obj_applied (bare (flat_stands h hash)) es) made))
 
 -- ---- room
 

@@ -1,6 +1,7 @@
 //! Laws of steps at objects. Each function does nothing: its clause is the law.
 
-ghost use Rattle.sw_object_steps.specs.Laws.{ChangesAreFlat, ObjectsAreRules, ReadsAreFlat, SinglesAreFlat};
+ghost use Rattle.sw_object_steps.specs.Laws.{ChangesAreFlat, FileReadsAreFlat, HashReadsAreFlat, LineReadsAreFlat, ObjectsAreRules, ReadsAreFlat};
+ghost use Rattle.sw_object_steps.specs.Laws.{SinglesAreFlat};
 
 /// The rules of objects are rules.
 pub fn objects_are_rules()
@@ -15,6 +16,13 @@ pub fn changes_are_flat()
 /// So is a read of a name.
 pub fn reads_are_flat()
     ensures { ReadsAreFlat }
+{}
+
+/// So is each read of a partition: of what is compared of it, of the files of a suffix, and of one file.
+pub fn part_reads_are_flat()
+    ensures hashes { HashReadsAreFlat }
+    ensures lines { LineReadsAreFlat }
+    ensures files { FileReadsAreFlat }
 {}
 
 /// A history whose doubts are each a change of its own is told flat as it was.

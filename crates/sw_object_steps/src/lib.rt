@@ -5,7 +5,7 @@
 //! and what follows of any rules follows here. [`laws`] has that these are rules, and that such a step is one in the words of `sw_peer` too, in which
 //! a doubt is one entry and a value a state.
 //!
-//! No lock promises its steps in these words yet: `sw_objdir` does so in those of `sw_peer`.
+//! The next layer up is `sw_objdir`, whose locks promise their steps in these words, and so in those of `sw_peer`.
 #![tactic(auto)]
 
 pub mod laws;

@@ -39,3 +39,6 @@ returns-in-Err-clause-disorder g c =
     (λ bad damaged told. damaged-disorder secrets hash folders dir picked bad c.expiry_file.result
     (λ file e. expiry-picked picked file (sym c.expiry_file.ensures ∙ e)) (damaged told))
     c.in-Err.ensures.damaged
+
+pub returns-in-Ok-clause-said : goal.returns-in-Ok-clause-said
+returns-in-Ok-clause-said g c = (c.in-Ok.found, λ none. c.in-Ok.ensures.absent (c.expiry_file.ensures ∙ none), c.second_of.ensures)

@@ -1,4 +1,4 @@
-use Rattle.std.proofs.Common.{◌≡◌, ◌≤◌, ◌+◌, ◌∷◌, ◌++◌, ◌⊎◌, inr, ◌∙◌, ap, sym, subst, refl, List, ℕ, take, drop, true, false}
+use Rattle.std.proofs.Common.{◌≡◌, ◌≤◌, ◌+◌, [], ◌∷◌, ◌++◌, ◌⊎◌, inr, ◌∙◌, ap, sym, subst, refl, List, ℕ, take, drop, true, false}
 use Rattle.sw_journal.proofs.Counting.{counted-entered, counted-gone, has-place, sized}
 use Rattle.sw_journal.proofs.Finding.{settles-one, split-of}
 use Rattle.sw_journal.specs.Entries.{IsFirstOf}
@@ -30,7 +30,8 @@ invariant_of-self-else-is_new c =
     (λ (ds : List ObjEntry). IsFirstOf ds c.args.hash.now at) c.deref.ensures.value c.in-Some.ensures.some in
     counted-entered i.entries i.doubts c.remove-entry.new.self i.used i.max_bytes c.self.invariant (take at i.doubts.items) (drop (at + 1) i.doubts.items) e
     (split-of i.doubts.items at e first.within c.remove-entry.ensures.value)
-    (c.remove-entry.ensures.by_index.2) c.push_reserved.new.self c.push_reserved.ensures.items c.push_reserved.ensures.capacity
+    (c.remove-entry.ensures.by_index.2) c.push_reserved.new.self
+    (c.push_reserved.ensures.items ∙ ap (λ (x : ObjEntry). i.entries.items ++ x ∷ []) c.seen_in.ensures) c.push_reserved.ensures.capacity
 
 pub returns-then-is_new : goal.returns-then-is_new
 returns-then-is_new c =
@@ -52,4 +53,5 @@ returns-else-is_new c =
     rw (sym c.self.view_is)
     (inr (settles-one c.args.hash.now c.args.outline.now j at e c.push_reserved.new.self.items c.remove-entry.new.self.items false first
     c.remove-entry.ensures.value (c.remove-entry.ensures.by_index.2)
-    (sym c.is_new.ensures ∙ c.if-is_new.false) c.push_reserved.ensures.items))
+    (sym c.is_new.ensures ∙ c.if-is_new.false)
+    (c.push_reserved.ensures.items ∙ ap (λ (x : ObjEntry). i.entries.items ++ x ∷ []) c.seen_in.ensures)))

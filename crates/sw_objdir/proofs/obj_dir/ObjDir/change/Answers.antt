@@ -4,50 +4,48 @@ use Rattle.sw_hashdir.specs.Places.{dir_text}
 use Rattle.sw_hashdir.specs.Readings.{IsSecondRead, expiry_file}
 use Rattle.sw_peer.specs.Outlines.{picked_outline}
 use Rattle.sw_journal.specs.Settling.{SettlesFirst}
-use Rattle.sw_objdir.proofs.Deciding.{called-refused, called-written, dir-still, listed-still, looked-so, outline-still, refusal-never, refused-answers}
-use Rattle.sw_objdir.proofs.Deciding.{refused-of, risen-after, room-as, second-still, stands-held, step-refused}
+use Rattle.sw_objdir.proofs.Deciding.{called-refused, called-written, dir-still, listed-still, looked-so, outline-still}
+use Rattle.sw_objdir.proofs.Deciding.{risen-after, room-as, second-now, step-full, step-refused}
+use Rattle.sw_objdir.proofs.Guessing.{seen-as}
 use Rattle.sw_objdir.proofs.Looking.{looks-refl, looks-trans, step-after, step-unsettled, told-same}
 use Rattle.sw_objdir.proofs.Reading.{damage-before, second-before}
 use Rattle.sw_objdir.specs.Calling.{Looked, reads_of}
-use Rattle.sw_objdir.specs.Directories.{IsDir, Kept, history_of, is_told}
+use Rattle.sw_objdir.specs.Directories.{IsDir, Kept, is_told}
+use Rattle.sw_objdir.specs.Stepping.{IsSeenAs}
+use Rattle.sw_step.specs.Rules.{Damages, Fails, Wants}
 use Rattle.sw_outside.specs.Counts.{raised}
 use Rattle.sw_peer.proofs.Answering.{refusals}
 use Rattle.sw_volume.specs.Volume.{raised_by}
-use Rattle.sw_peer.specs.Histories.{stands}
 use Rattle.sw_peer.specs.Journals.{Journal, has_room, written}
-use Rattle.sw_peer.specs.Steps.{asks_expiry, is_entered, made_answer, refusal_by, refusal_of, write_of}
+use Rattle.sw_peer.specs.Steps.{asks_expiry, is_entered, made_answer, refusal_by, write_of}
 use Rattle.sw_peer.specs.declared.answer.Answer.TheVariants as answers
 use Rattle.sw_peer.specs.declared.outline.Outline.{Outline}
-use Rattle.sw_state.specs.declared.state.State.{State}
 use Rattle.sw_volume.specs.Tree.{contents}
 use Rattle.sw_objdir.proofs.obj_dir.ObjDir.change.Goals as goal
-
-differ : answers.NoMemory ≡ answers.Failed → ⊥
-differ same = cc
 
 pub returns-in_default-clause-made : goal.returns-in_default-clause-made
 returns-in_default-clause-made g c =
     let v = g.V.Volume in
     let k = c.args.self.now in let name = c.args.name.now in let change = c.args.change in
     let dir : IsDir v.tells v.holds v.faults k = subst (λ (x : Kept _). IsDir v.tells v.holds v.faults x) c.self.view_is c.self.invariant in
-    step-unsettled v.tells v.holds v.faults k k dir (looks-refl v.tells v.holds v.faults k) name change answers.NoMemory refl
-    (record { not_made = refl; same = refl }) (λ is. absurd (differ is))
+    step-unsettled v.tells v.holds v.faults k k dir name (looks-refl v.tells v.holds v.faults k) change answers.NoMemory Wants refl
+    (record { not_made = refl; same = refl }) dir (λ is. cc) (λ is. cc)
 
 pub returns-in-Err-Failed-clause-made : goal.returns-in-Err-Failed-clause-made
 returns-in-Err-Failed-clause-made g c =
     let v = g.V.Volume in
     let k = c.args.self.now in let m = c.list.new.self in let name = c.args.name.now in let change = c.args.change in
     let dir : IsDir v.tells v.holds v.faults k = subst (λ (x : Kept _). IsDir v.tells v.holds v.faults x) c.self.view_is c.self.invariant in
-    step-unsettled v.tells v.holds v.faults k m dir c.list.ensures.looks name change answers.Failed refl (inl (record { not_made = refl; same = refl }))
-    (λ is. rw c.in-Err-Failed.field-0-is at c.in-Err-Failed.ensures.cause.risen)
+    step-unsettled v.tells v.holds v.faults k m dir name c.list.ensures.looks change answers.Failed Fails refl (record { not_made = refl; same = refl })
+    c.list.ensures.dir (λ is. cc) (λ is. rw c.in-Err-Failed.field-0-is at c.in-Err-Failed.ensures.cause.risen)
 
 pub returns-in-Err-NoMemory-clause-made : goal.returns-in-Err-NoMemory-clause-made
 returns-in-Err-NoMemory-clause-made g c =
     let v = g.V.Volume in
     let k = c.args.self.now in let m = c.list.new.self in let name = c.args.name.now in let change = c.args.change in
     let dir : IsDir v.tells v.holds v.faults k = subst (λ (x : Kept _). IsDir v.tells v.holds v.faults x) c.self.view_is c.self.invariant in
-    step-unsettled v.tells v.holds v.faults k m dir c.list.ensures.looks name change answers.NoMemory refl (record { not_made = refl; same = refl })
-    (λ is. absurd (differ is))
+    step-unsettled v.tells v.holds v.faults k m dir name c.list.ensures.looks change answers.NoMemory Wants refl (record { not_made = refl; same = refl })
+    c.list.ensures.dir (λ is. cc) (λ is. cc)
 
 pub expiry-requires-clause-names : goal.expiry-requires-clause-names
 expiry-requires-clause-names g c =
@@ -69,7 +67,9 @@ returns-in-Err-Damaged-clause-made g c =
     let n = c.expiry.new.self in let both = looks-trans v.tells v.holds v.faults k m n c.list.ensures.looks c.expiry.ensures.looks in
     let told : is_told v.tells v.holds v.faults n ≡ false = told-same v.tells v.holds v.faults k n both.same
     ∙ (sym (told-same v.tells v.holds v.faults k m c.list.ensures.looks.same) ∙ (rw c.in-Err-Damaged.field-0-is at c.in-Err-Damaged.ensures.damaged)) in
-    step-unsettled v.tells v.holds v.faults k n dir both name change _ refl (told, record { not_made = refl; same = refl }) (λ is. cc)
+    let dir_n : IsDir v.tells v.holds v.faults n = dir-still v.tells v.holds v.faults v.calls v.lists m n c.list.ensures.dir c.expiry.ensures.looks
+    c.expiry.ensures.journal in
+    step-unsettled v.tells v.holds v.faults k n dir name both change _ Damages refl (record { not_made = refl; same = refl }) dir_n (λ is. told) (λ is. cc)
 
 pub returns-in-Err-Damaged-clause-called : goal.returns-in-Err-Damaged-clause-called
 returns-in-Err-Damaged-clause-called g c =
@@ -112,7 +112,9 @@ returns-in-Err-Failed-expiry-clause-made g c =
     let k = c.args.self.now in let m = c.list.new.self in let name = c.args.name.now in let change = c.args.change in
     let dir : IsDir v.tells v.holds v.faults k = subst (λ (x : Kept _). IsDir v.tells v.holds v.faults x) c.self.view_is c.self.invariant in
     let n = c.expiry.new.self in let both = looks-trans v.tells v.holds v.faults k m n c.list.ensures.looks c.expiry.ensures.looks in
-    step-unsettled v.tells v.holds v.faults k n dir both name change answers.Failed refl (inl (record { not_made = refl; same = refl }))
+    let dir_n : IsDir v.tells v.holds v.faults n = dir-still v.tells v.holds v.faults v.calls v.lists m n c.list.ensures.dir c.expiry.ensures.looks
+    c.expiry.ensures.journal in
+    step-unsettled v.tells v.holds v.faults k n dir name both change answers.Failed Fails refl (record { not_made = refl; same = refl }) dir_n (λ is. cc)
     (λ is. risen-after (v.faults k.volume) (v.faults m.volume) (v.faults n.volume) c.in-Ok-list.ensures.cause.kept
     (rw c.in-Err-Failed-expiry.field-0-is at c.in-Err-Failed-expiry.ensures.failed) c.expiry.ensures.looks.later)
 
@@ -155,7 +157,10 @@ returns-in-Err-NoMemory-expiry-clause-made g c =
     let k = c.args.self.now in let m = c.list.new.self in let name = c.args.name.now in let change = c.args.change in
     let dir : IsDir v.tells v.holds v.faults k = subst (λ (x : Kept _). IsDir v.tells v.holds v.faults x) c.self.view_is c.self.invariant in
     let n = c.expiry.new.self in let both = looks-trans v.tells v.holds v.faults k m n c.list.ensures.looks c.expiry.ensures.looks in
-    step-unsettled v.tells v.holds v.faults k n dir both name change answers.NoMemory refl (record { not_made = refl; same = refl }) (λ is. absurd (differ is))
+    let dir_n : IsDir v.tells v.holds v.faults n = dir-still v.tells v.holds v.faults v.calls v.lists m n c.list.ensures.dir c.expiry.ensures.looks
+    c.expiry.ensures.journal in
+    step-unsettled v.tells v.holds v.faults k n dir name both change answers.NoMemory Wants refl (record { not_made = refl; same = refl }) dir_n
+    (λ is. cc) (λ is. cc)
 
 pub returns-in-Err-NoMemory-expiry-clause-called : goal.returns-in-Err-NoMemory-expiry-clause-called
 returns-in-Err-NoMemory-expiry-clause-called g c =
@@ -200,18 +205,16 @@ returns-in-Some-clause-made g c =
     let settled : written name.hash n.journal.doubts ≡ [] = ap (λ (j : Journal). written name.hash j.doubts) c.expiry.ensures.journal
     ∙ c.in-Ok-list.ensures.settled in
     let o = c.in-Ok-list.seen.outline in
-    let second = second-still v.tells v.holds v.faults v.calls v.lists k m dir c.list.ensures.looks name.hash o
-    (asks_expiry o change) c.in-Ok-expiry.expiry c.in-Ok-expiry.ensures.second in
     let fact : refusal_by o c.in-Ok-expiry.expiry change ≡ Some c.in-Some.refused = sym c.refusal.ensures ∙ c.in-Some.is in
     let is = refusals o c.in-Ok-expiry.expiry change c.in-Some.refused fact in
-    step-after v.tells v.holds v.faults k n dir both name change c.in-Some.refused n
-    (step-refused v.tells v.holds v.faults v.calls v.lists n dir_n name settled change c.in-Some.refused
-    (refused-answers (is_told v.tells v.holds v.faults n) (stands (history_of v.tells v.holds v.faults n) name.hash) n.journal name change c.in-Some.refused is
-    (λ told. subst (λ (s : State). refusal_of s change ≡ Some c.in-Some.refused)
-    (sym (stands-held v.tells v.holds v.faults v.calls v.lists n dir_n name settled told))
-    (refused-of v.tells v.holds v.faults v.calls v.lists k n dir both name.hash o c.in-Ok-expiry.expiry change
-    (Some c.in-Some.refused) c.in-Ok-list.ensures.outline second fact told)))
-    (refusal-never c.in-Some.refused is))
+    let seen : IsSeenAs v.tells v.holds v.faults n name.hash o change (Some c.in-Some.refused) =
+    seen-as v.tells v.holds v.faults n name.hash c.in-Ok-list.seen.names.items c.in-Ok-list.seen.picked o c.in-Ok-expiry.expiry change (Some c.in-Some.refused)
+    c.in-Ok-list.ensures.picked c.in-Ok-list.ensures.shape c.in-Ok-expiry.ensures.said
+    (outline-still v.tells v.holds v.faults v.calls v.lists k n dir both name.hash o c.in-Ok-list.ensures.outline)
+    (second-now v.tells v.holds v.faults v.calls v.lists m n c.list.ensures.dir c.expiry.ensures.looks name.hash o (asks_expiry o change)
+    c.in-Ok-expiry.expiry c.in-Ok-expiry.ensures.second) fact in
+    step-after v.tells v.holds v.faults k n dir name both change c.in-Some.refused n
+    (step-refused v.tells v.holds v.faults v.calls v.lists n dir_n name settled o change c.in-Some.refused is seen)
 
 pub returns-in-Some-clause-called : goal.returns-in-Some-clause-called
 returns-in-Some-clause-called g c =
@@ -254,22 +257,17 @@ returns-then-not-has_room-clause-made g c =
     let settled : written name.hash n.journal.doubts ≡ [] = ap (λ (j : Journal). written name.hash j.doubts) c.expiry.ensures.journal
     ∙ c.in-Ok-list.ensures.settled in
     let o = c.in-Ok-list.seen.outline in
-    let second = second-still v.tells v.holds v.faults v.calls v.lists k m dir c.list.ensures.looks name.hash o
-    (asks_expiry o change) c.in-Ok-expiry.expiry c.in-Ok-expiry.ensures.second in
     let fact : refusal_by o c.in-Ok-expiry.expiry change ≡ None = sym c.refusal.ensures ∙ c.in_default-refusal.is in
     let full : has_room n.journal (write_of change) ≡ false = room-as n.journal (write_of change) c.body_size.result c.has_room.result c.body_size.ensures
     (rw (sym c.self-2.view_is) c.has_room.ensures) ∙ c.if-not-has_room.true in
-    step-after v.tells v.holds v.faults k n dir both name change answers.JournalFull n
-    (step-refused v.tells v.holds v.faults v.calls v.lists n dir_n name settled change answers.JournalFull
-    (record {
-      leaves = record { not_made = refl; same = refl };
-      not_refused = λ told. subst (λ (s : State). refusal_of s change ≡ None)
-          (sym (stands-held v.tells v.holds v.faults v.calls v.lists n dir_n name settled told))
-          (refused-of v.tells v.holds v.faults v.calls v.lists k n dir both name.hash o c.in-Ok-expiry.expiry change None c.in-Ok-list.ensures.outline second
-          fact told);
-      full = full;
-    })
-    (λ is. cc))
+    let seen : IsSeenAs v.tells v.holds v.faults n name.hash o change None =
+    seen-as v.tells v.holds v.faults n name.hash c.in-Ok-list.seen.names.items c.in-Ok-list.seen.picked o c.in-Ok-expiry.expiry change None
+    c.in-Ok-list.ensures.picked c.in-Ok-list.ensures.shape c.in-Ok-expiry.ensures.said
+    (outline-still v.tells v.holds v.faults v.calls v.lists k n dir both name.hash o c.in-Ok-list.ensures.outline)
+    (second-now v.tells v.holds v.faults v.calls v.lists m n c.list.ensures.dir c.expiry.ensures.looks name.hash o (asks_expiry o change)
+    c.in-Ok-expiry.expiry c.in-Ok-expiry.ensures.second) fact in
+    step-after v.tells v.holds v.faults k n dir name both change answers.JournalFull n
+    (step-full v.tells v.holds v.faults v.calls v.lists n dir_n name settled o change seen full)
 
 pub returns-then-not-has_room-clause-called : goal.returns-then-not-has_room-clause-called
 returns-then-not-has_room-clause-called g c =
@@ -308,8 +306,8 @@ write-requires-clause-names g c =
     λ told. subst (λ (d : List ℕ). AreListedIn (contents (v.holds n.volume)) d c.in-Ok-list.seen.names.items) (sym (c.deref-3.ensures.value ∙ path_is))
     (listed-still v.tells v.holds v.faults v.calls v.lists k n both (dir_text k.power name.hash) c.in-Ok-list.seen.names.items names told)
 
-pub write-requires-clause-outline : goal.write-requires-clause-outline
-write-requires-clause-outline g c =
+pub write-requires-clause-stood : goal.write-requires-clause-stood
+write-requires-clause-stood g c =
     let v = g.V.Volume in
     let k = c.args.self.now in let m = c.list.new.self in let name = c.args.name.now in let change = c.args.change in
     let dir : IsDir v.tells v.holds v.faults k = subst (λ (x : Kept _). IsDir v.tells v.holds v.faults x) c.self.view_is c.self.invariant in
@@ -319,23 +317,14 @@ write-requires-clause-outline g c =
     let settled : written name.hash n.journal.doubts ≡ [] = ap (λ (j : Journal). written name.hash j.doubts) c.expiry.ensures.journal
     ∙ c.in-Ok-list.ensures.settled in
     let o = c.in-Ok-list.seen.outline in
-    outline-still v.tells v.holds v.faults v.calls v.lists k n dir both name.hash o c.in-Ok-list.ensures.outline
-
-pub write-requires-clause-allowed : goal.write-requires-clause-allowed
-write-requires-clause-allowed g c =
-    let v = g.V.Volume in
-    let k = c.args.self.now in let m = c.list.new.self in let name = c.args.name.now in let change = c.args.change in
-    let dir : IsDir v.tells v.holds v.faults k = subst (λ (x : Kept _). IsDir v.tells v.holds v.faults x) c.self.view_is c.self.invariant in
-    let n = c.expiry.new.self in let both = looks-trans v.tells v.holds v.faults k m n c.list.ensures.looks c.expiry.ensures.looks in
-    let dir_n : IsDir v.tells v.holds v.faults n = dir-still v.tells v.holds v.faults v.calls v.lists m n c.list.ensures.dir c.expiry.ensures.looks
-    c.expiry.ensures.journal in
-    let settled : written name.hash n.journal.doubts ≡ [] = ap (λ (j : Journal). written name.hash j.doubts) c.expiry.ensures.journal
-    ∙ c.in-Ok-list.ensures.settled in
-    let o = c.in-Ok-list.seen.outline in
-    let second = second-still v.tells v.holds v.faults v.calls v.lists k m dir c.list.ensures.looks name.hash o
-    (asks_expiry o change) c.in-Ok-expiry.expiry c.in-Ok-expiry.ensures.second in
     let fact : refusal_by o c.in-Ok-expiry.expiry change ≡ None = sym c.refusal.ensures ∙ c.in_default-refusal.is in
-    refused-of v.tells v.holds v.faults v.calls v.lists k n dir both name.hash o c.in-Ok-expiry.expiry change None c.in-Ok-list.ensures.outline second fact
+    let seen : IsSeenAs v.tells v.holds v.faults n name.hash o change None =
+    seen-as v.tells v.holds v.faults n name.hash c.in-Ok-list.seen.names.items c.in-Ok-list.seen.picked o c.in-Ok-expiry.expiry change None
+    c.in-Ok-list.ensures.picked c.in-Ok-list.ensures.shape c.in-Ok-expiry.ensures.said
+    (outline-still v.tells v.holds v.faults v.calls v.lists k n dir both name.hash o c.in-Ok-list.ensures.outline)
+    (second-now v.tells v.holds v.faults v.calls v.lists m n c.list.ensures.dir c.expiry.ensures.looks name.hash o (asks_expiry o change)
+    c.in-Ok-expiry.expiry c.in-Ok-expiry.ensures.second) fact in
+    seen
 
 pub returns-clause-made : goal.returns-clause-made
 returns-clause-made g c =
@@ -343,7 +332,7 @@ returns-clause-made g c =
     let k = c.args.self.now in let m = c.list.new.self in let name = c.args.name.now in let change = c.args.change in
     let dir : IsDir v.tells v.holds v.faults k = subst (λ (x : Kept _). IsDir v.tells v.holds v.faults x) c.self.view_is c.self.invariant in
     let n = c.expiry.new.self in let both = looks-trans v.tells v.holds v.faults k m n c.list.ensures.looks c.expiry.ensures.looks in
-    step-after v.tells v.holds v.faults k n dir both name change c.write.result c.write.new.self c.write.ensures.made
+    step-after v.tells v.holds v.faults k n dir name both change c.write.result c.write.new.self c.write.ensures.made
 
 pub returns-clause-called : goal.returns-clause-called
 returns-clause-called g c =
@@ -371,3 +360,11 @@ returns-clause-called g c =
     c.write.ensures.written
     (subst (λ (x : Outline). is_entered c.write.result ≡ true → c.write.result ≡ made_answer x change (length c.write.new.self.journal.entries))
     c.in-Ok-list.ensures.shape c.write.ensures.answered)
+
+pub returns-in-Err-NoMemory-clause-called : goal.returns-in-Err-NoMemory-clause-called
+returns-in-Err-NoMemory-clause-called g c = record {
+  same = c.list.ensures.looks.still;
+  failed = (rw c.in-Err-NoMemory.field-0-is at c.in-Err-NoMemory.ensures.cause).memory;
+  called = inr (0, omega arith, c.list.ensures.calls, c.list.ensures.lists);
+  journal = inl c.in-Err-NoMemory.ensures.unsettled;
+}

@@ -74,3 +74,6 @@ returns-clause-read g c =
 
 pub returns-clause-damage : goal.returns-clause-damage
 returns-clause-damage g c = rw (sym c.self.view_is) c.read_expiry.ensures.damaged
+
+pub returns-clause-said : goal.returns-clause-said
+returns-clause-said g c = c.read_expiry.ensures.said

@@ -1,21 +1,19 @@
-use Rattle.std.proofs.Common.{◌≡◌, ℕ, List, true, [], subst, sym, refl, ap, ◌∙◌, arith, inl, inr}
+use Rattle.std.proofs.Common.{◌≡◌, ℕ, List, true, [], subst, sym, ap, ◌∙◌, arith, inl, inr}
+use Rattle.std.specs.Str.{bytes_eq}
 use Rattle.sw_cleanup.specs.Cleaning.{AreListedIn}
 use Rattle.sw_hashdir.specs.Steps.{IsOurs}
 use Rattle.sw_peer.specs.Outlines.{picked_outline}
 use Rattle.sw_hashdir.specs.Places.{dir_text, is_place}
 use Rattle.sw_journal.specs.Settling.{SettlesFirst}
-use Rattle.sw_objdir.proofs.Looking.{dir-moved}
+use Rattle.sw_objdir.proofs.Looking.{dir-moved, looks-refl}
 use Rattle.sw_objdir.proofs.Reading.{read-called, read-step, unread}
 use Rattle.sw_objdir.specs.Directories.{IsDir, Kept}
-use Rattle.sw_objdir.specs.Stepping.{OnlyLooks}
+use Rattle.sw_objdir.specs.Stepping.{LooksAt}
 use Rattle.sw_peer.specs.Journals.{written}
 use Rattle.sw_peer.specs.declared.got.Got.TheVariants as gots
 use Rattle.sw_peer.specs.declared.outline.Outline.{Outline}
 use Rattle.sw_volume.specs.Tree.{contents}
 use Rattle.sw_objdir.proofs.obj_dir.ObjDir.get.Goals as goal
-
-differ : gots.NoMemory ≡ gots.Failed → ⊥
-differ same = cc
 
 pub invariant_of-self : goal.invariant_of-self
 invariant_of-self g c =
@@ -30,9 +28,8 @@ returns-in-Ok-list-clause-read g c =
     let m : Kept _ =
     record { volume = j.volume; began = j.opening.value; secrets = j.secrets; power = j.power; journal = j.journal } in
     let name = c.args.name.now in let seen = c.in-Ok-list.seen in let path = c.deref-in-Ok-list.result.now in
-    let dir : IsDir v.tells v.holds v.faults k = subst (λ (x : Kept _). IsDir v.tells v.holds v.faults x) c.self.view_is c.self.invariant in
-    let looks : OnlyLooks v.tells v.holds v.faults k m =
-    subst (λ (x : Kept _). OnlyLooks v.tells v.holds v.faults k x) (sym c.self-2.view_is) c.list.ensures.looks in
+    let looks : LooksAt v.tells v.holds v.faults (λ key. bytes_eq key name.hash) k m =
+    subst (λ (x : Kept _). LooksAt v.tells v.holds v.faults (λ key. bytes_eq key name.hash) k x) (sym c.self-2.view_is) c.list.ensures.looks in
     let path_is : path ≡ dir_text k.power name.hash =
     c.deref-in-Ok-list.ensures.value ∙ (c.in-Ok.ensures.text ∙ ap (λ (x : Kept _). dir_text x.power name.hash) c.self.view_is) in
     let are : v.tells k.volume ≡ true → AreListedIn (contents (v.holds k.volume)) path seen.names.items =
@@ -45,7 +42,7 @@ returns-in-Ok-list-clause-read g c =
       hashed = c.requires.hashed.hashed;
       good = c.requires.hashed.good;
     } in
-    read-step v.tells v.holds v.faults k m dir looks c.self-2.invariant name path seen.names.items seen.picked ours path_is are
+    read-step v.tells v.holds v.faults k m name looks c.self-2.invariant path seen.names.items seen.picked ours path_is are
     c.in-Ok-list.ensures.picked settled c.front.result c.front.ensures.length
     (ap (λ (x : Kept _). v.faults x.volume) c.self-2.view_is ∙ c.in-Ok-list.ensures.cause.kept)
     c.show.new.volume c.show.ensures.told c.show.ensures.same c.show.ensures.later
@@ -57,8 +54,8 @@ returns-in-Ok-list-clause-called g c =
     let m : Kept _ =
     record { volume = j.volume; began = j.opening.value; secrets = j.secrets; power = j.power; journal = j.journal } in
     let name = c.args.name.now in let seen = c.in-Ok-list.seen in let path = c.deref-in-Ok-list.result.now in
-    let looks : OnlyLooks v.tells v.holds v.faults k m =
-    subst (λ (x : Kept _). OnlyLooks v.tells v.holds v.faults k x) (sym c.self-2.view_is) c.list.ensures.looks in
+    let looks : LooksAt v.tells v.holds v.faults (λ key. bytes_eq key name.hash) k m =
+    subst (λ (x : Kept _). LooksAt v.tells v.holds v.faults (λ key. bytes_eq key name.hash) k x) (sym c.self-2.view_is) c.list.ensures.looks in
     let path_is : path ≡ dir_text k.power name.hash =
     c.deref-in-Ok-list.ensures.value ∙ (c.in-Ok.ensures.text ∙ ap (λ (x : Kept _). dir_text x.power name.hash) c.self.view_is) in
     let are : v.tells k.volume ≡ true → AreListedIn (contents (v.holds k.volume)) path seen.names.items =
@@ -77,17 +74,15 @@ returns-in-Ok-list-clause-called g c =
 pub returns-in-Err-Failed-clause-read : goal.returns-in-Err-Failed-clause-read
 returns-in-Err-Failed-clause-read g c =
     let v = g.V.Volume in let k = c.args.self.now in let m = c.list.new.self in
-    let dir : IsDir v.tells v.holds v.faults k = subst (λ (x : Kept _). IsDir v.tells v.holds v.faults x) c.self.view_is c.self.invariant in
     let after : IsDir v.tells v.holds v.faults m = subst (λ (x : Kept _). IsDir v.tells v.holds v.faults x) c.self-2.view_is c.self-2.invariant in
-    unread v.tells v.holds v.faults k m dir c.list.ensures.looks after c.args.name.now gots.Failed refl tt
+    unread v.tells v.holds v.faults k m c.args.name.now c.list.ensures.looks after gots.Failed (λ is. cc) tt
     (λ is. (rw c.in-Err-Failed.field-0-is at c.in-Err-Failed.ensures.cause).risen)
 
 pub returns-clause-read : goal.returns-clause-read
 returns-clause-read g c =
     let v = g.V.Volume in let k = c.args.self.now in let m = c.list.new.self in
-    let dir : IsDir v.tells v.holds v.faults k = subst (λ (x : Kept _). IsDir v.tells v.holds v.faults x) c.self.view_is c.self.invariant in
     let after : IsDir v.tells v.holds v.faults m = subst (λ (x : Kept _). IsDir v.tells v.holds v.faults x) c.self-2.view_is c.self-2.invariant in
-    unread v.tells v.holds v.faults k m dir c.list.ensures.looks after c.args.name.now gots.NoMemory refl tt (λ is. absurd (differ is))
+    unread v.tells v.holds v.faults k m c.args.name.now c.list.ensures.looks after gots.NoMemory (λ is. cc) tt (λ is. cc)
 
 pub returns-clause-called : goal.returns-clause-called
 returns-clause-called g c = record {
@@ -96,3 +91,9 @@ returns-clause-called g c = record {
   called = inr (0, omega arith, c.list.ensures.calls, c.list.ensures.lists);
   journal = inl c.in-Err-NoMemory.ensures.unsettled;
 }
+
+pub returns-in_default-clause-read : goal.returns-in_default-clause-read
+returns-in_default-clause-read g c =
+    let v = g.V.Volume in let k = c.args.self.now in
+    let dir : IsDir v.tells v.holds v.faults k = subst (λ (x : Kept _). IsDir v.tells v.holds v.faults x) c.self.view_is c.self.invariant in
+    unread v.tells v.holds v.faults k k c.args.name.now (looks-refl v.tells v.holds v.faults k) dir gots.NoMemory (λ is. cc) tt (λ is. cc)

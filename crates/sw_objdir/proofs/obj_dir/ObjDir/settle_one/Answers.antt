@@ -1,4 +1,8 @@
-use Rattle.std.proofs.Common.{◌≡◌, None, Some, find, refl, sym, ◌∙◌, ap, subst}
+use Rattle.std.proofs.Common.{◌≡◌, None, Some, find, refl, sym, true, ◌∙◌, ap, subst}
+use Rattle.std.specs.Str.{bytes_eq}
+use Rattle.sw_objdir.proofs.Looking.{looks-wider}
+use Rattle.sw_peer.proofs.Hashes.{hash-same}
+use Rattle.sw_peer.specs.Journals.{Hash}
 use Rattle.std.specs.Option.{option_copied}
 use Rattle.sw_journal.specs.Entries.{entry_hash, first_in}
 use Rattle.sw_objdir.proofs.Doubts.{briefs-none, doubt-of, ends-one, first-doubted, found-first, found-none, wants-one}
@@ -76,3 +80,25 @@ returns-clause-one g c =
       fewer = c.in_ok-settle.ensures.fewer;
       listed = c.in_ok-settle.ensures.listed;
     }
+
+pub returns-in_err-settle-clause-looks : goal.returns-in_err-settle-clause-looks
+returns-in_err-settle-clause-looks g c =
+    let k = c.args.self.now in let v = g.V.Volume in
+    let found : find (λ e. is_in k.power c.args.scope (entry_hash e)) k.journal.doubts ≡ Some c.in-Some.entry.now =
+    subst (λ (x : Kept _). find (λ e. is_in x.power c.args.scope (entry_hash e)) x.journal.doubts ≡ Some c.in-Some.entry.now) c.self.view_is
+    (sym c.doubt_in.ensures ∙ ap option_copied c.in-Some.is) in
+    let first = found-first (is_in k.power c.args.scope) k.journal.doubts c.in-Some.entry.now found in
+    looks-wider v.tells v.holds v.faults (λ key. bytes_eq key c.hash_of-hash.result) (is_in k.power c.args.scope)
+    (λ key is. subst (λ (h : Hash). is_in k.power c.args.scope h ≡ true) (sym (hash-same key c.hash_of-hash.result is ∙ c.hash_of-hash.ensures)) first.0)
+    k c.settle.new.self c.settle.ensures.looks
+
+pub returns-clause-looks : goal.returns-clause-looks
+returns-clause-looks g c =
+    let k = c.args.self.now in let v = g.V.Volume in
+    let found : find (λ e. is_in k.power c.args.scope (entry_hash e)) k.journal.doubts ≡ Some c.in-Some.entry.now =
+    subst (λ (x : Kept _). find (λ e. is_in x.power c.args.scope (entry_hash e)) x.journal.doubts ≡ Some c.in-Some.entry.now) c.self.view_is
+    (sym c.doubt_in.ensures ∙ ap option_copied c.in-Some.is) in
+    let first = found-first (is_in k.power c.args.scope) k.journal.doubts c.in-Some.entry.now found in
+    looks-wider v.tells v.holds v.faults (λ key. bytes_eq key c.hash_of-hash.result) (is_in k.power c.args.scope)
+    (λ key is. subst (λ (h : Hash). is_in k.power c.args.scope h ≡ true) (sym (hash-same key c.hash_of-hash.result is ∙ c.hash_of-hash.ensures)) first.0)
+    k c.settle.new.self c.settle.ensures.looks

@@ -10,14 +10,13 @@ use Rattle.sw_hashdir.specs.Places.{dir_text}
 use Rattle.sw_hashdir.specs.Steps.{IsNewIn, IsOurs, Joins, JoinsAll, Keeps, MayJoin, Writes}
 use Rattle.sw_objdir.proofs.Deciding.{written-made}
 use Rattle.sw_objdir.proofs.Looking.{dir-moved, looks-moved, looks-refl, step-unsettled, tells-now}
-use Rattle.sw_objdir.proofs.Making.{allowed-stands, confirmed, dir-doubted, dir-entered, in-doubt, is-new-in, last, made-answers, made-not-failed}
-use Rattle.sw_objdir.proofs.Making.{outline-stands, own-doubt, step-doubts, step-enters, up-from, withdrawn}
+use Rattle.sw_objdir.proofs.Making.{confirmed, dir-doubted, dir-entered, in-doubt, is-new-in, last, own-doubt, step-doubts, step-enters, up-from, withdrawn}
 use Rattle.sw_objdir.specs.Calling.{WritesFile}
-use Rattle.sw_objdir.specs.Directories.{Kept, held, history_of, is_told}
-use Rattle.sw_peer.specs.Histories.{stands}
+use Rattle.sw_objdir.specs.Directories.{Kept, is_told}
+use Rattle.sw_objdir.specs.Stepping.{IsSeenAs}
+use Rattle.sw_step.specs.Rules.{Wants}
 use Rattle.sw_peer.specs.Journals.{Journal, has_room, with_doubt, with_entry, written}
-use Rattle.sw_peer.specs.Outlines.{outline_of}
-use Rattle.sw_peer.specs.Steps.{made_answer, refusal_of, write_of}
+use Rattle.sw_peer.specs.Steps.{made_answer, write_of}
 use Rattle.sw_peer.specs.declared.answer.Answer.TheVariants as answers
 use Rattle.sw_peer.specs.declared.entry.ObjEntry.{ObjEntry}
 use Rattle.sw_peer.specs.declared.entry.ObjEntry.TheVariants.{Wrote}
@@ -25,24 +24,23 @@ use Rattle.sw_state.specs.declared.write.Write.{Write}
 use Rattle.sw_volume.specs.Tree.{contents}
 use Rattle.sw_objdir.proofs.obj_dir.ObjDir.write.Goals as goal
 
-differ : answers.NoMemory ≡ answers.Failed → ⊥
-differ same = cc
-
 pub returns-in_default-clause-made : goal.returns-in_default-clause-made
 returns-in_default-clause-made g c =
     let v = g.V.Volume in let i = c.self.inside in
     let k : Kept _ = record { volume = i.volume; began = i.opening.value; secrets = i.secrets; power = i.power; journal = i.journal } in
     let name = c.args.name.now in let change = c.args.change in let o = c.args.seen.now.outline in let w = write_of change in
-    rw (sym c.self.view_is) (step-unsettled v.tells v.holds v.faults k k c.self.invariant
-    (looks-refl v.tells v.holds v.faults k) name change answers.NoMemory refl (record { not_made = refl; same = refl }) (λ is. absurd (differ is)))
+    rw (sym c.self.view_is) (step-unsettled v.tells v.holds v.faults k k c.self.invariant name
+    (looks-refl v.tells v.holds v.faults k) change answers.NoMemory Wants refl (record { not_made = refl; same = refl }) c.self.invariant
+    (λ is. cc) (λ is. cc))
 
 pub returns-in_default-doubt-clause-made : goal.returns-in_default-doubt-clause-made
 returns-in_default-doubt-clause-made g c =
     let v = g.V.Volume in let i = c.self.inside in
     let k : Kept _ = record { volume = i.volume; began = i.opening.value; secrets = i.secrets; power = i.power; journal = i.journal } in
     let name = c.args.name.now in let change = c.args.change in let o = c.args.seen.now.outline in let w = write_of change in
-    rw (sym c.self.view_is, c.in_default-doubt.ensures.err) (step-unsettled v.tells v.holds v.faults k k c.self.invariant
-    (looks-refl v.tells v.holds v.faults k) name change answers.NoMemory refl (record { not_made = refl; same = refl }) (λ is. absurd (differ is)))
+    rw (sym c.self.view_is, c.in_default-doubt.ensures.err) (step-unsettled v.tells v.holds v.faults k k c.self.invariant name
+    (looks-refl v.tells v.holds v.faults k) change answers.NoMemory Wants refl (record { not_made = refl; same = refl }) c.self.invariant
+    (λ is. cc) (λ is. cc))
 
 pub invariant_of-self-in-Ok-write_file : goal.invariant_of-self-in-Ok-write_file
 invariant_of-self-in-Ok-write_file g c =
@@ -57,13 +55,13 @@ invariant_of-self-in-Ok-write_file g c =
     let names : v.tells k.volume ≡ true → AreListedIn (contents (v.holds k.volume)) c.args.dir.now c.args.seen.now.names.items =
     subst (λ (x : Kept _). v.tells x.volume ≡ true → AreListedIn (contents (v.holds x.volume)) c.args.dir.now c.args.seen.now.names.items)
     (sym c.self.view_is) c.requires.names in
-    let allowed : is_told v.tells v.holds v.faults k ≡ true → refusal_of (held v.tells v.holds v.faults k name.hash) change ≡ None =
-    subst (λ (x : Kept _). is_told v.tells v.holds v.faults x ≡ true → refusal_of (held v.tells v.holds v.faults x name.hash) change ≡ None)
-    (sym c.self.view_is) c.requires.allowed in
+    let stood : IsSeenAs v.tells v.holds v.faults k name.hash o change None =
+    subst (λ (x : Kept _). IsSeenAs v.tells v.holds v.faults x name.hash o change None) (sym c.self.view_is) c.requires.stood in
+    let room : has_room k.journal w ≡ true = subst (λ (x : Kept _). has_room x.journal w ≡ true) (sym c.self.view_is) c.requires.room in
     let entry : c.in-Ok.entry ≡ Wrote name w = c.in-Ok.ensures ∙ ap (λ (x : Write). Wrote name x) c.into_write.ensures in
     let doubted = c.in-Ok-doubt.ensures.ok in
     let new-in : is_told v.tells v.holds v.faults k ≡ true → IsNewIn k.secrets k.power (v.holds k.volume) c.args.dir.now c.args.seen.now.names.items name w =
-    is-new-in v.tells v.holds v.faults k c.self.invariant name settled change ours allowed c.args.dir.now c.args.seen.now.names.items path_is names in
+    is-new-in v.tells v.holds v.faults k c.self.invariant name settled change ours o stood room c.args.dir.now c.args.seen.now.names.items path_is names in
     let tells : is_told v.tells v.holds v.faults k ≡ true → v.tells k.volume ≡ true = tells-now v.tells v.holds v.faults k c.self.invariant in
     let write_is : c.last_doubted-write.result.now ≡ w = c.last_doubted-write.ensures k.journal.doubts name w
     (last k.journal c.doubt.new.self c.in-Ok.entry name w doubted entry ∙ ap (λ (x : ObjEntry). k.journal.doubts ++ x ∷ []) entry) in
@@ -73,7 +71,7 @@ invariant_of-self-in-Ok-write_file g c =
     c.deref.ensures.value (c.in-Ok-write_file.ensures.joins (tells told)))) k.secrets k.power (new-in told) in
     let confirms : c.confirm.new.self ≡ with_entry k.journal name w = confirmed k.journal c.doubt.new.self c.in-Ok.entry name w doubted entry
     c.confirm.new.self c.confirm.ensures in
-    rw confirms (dir-entered v.tells v.holds v.faults k c.self.invariant name settled change ours allowed c.write_file.new.volume c.write_file.ensures.told
+    rw confirms (dir-entered v.tells v.holds v.faults k c.self.invariant name settled change ours o stood room c.write_file.new.volume c.write_file.ensures.told
     c.write_file.ensures.later joins)
 
 pub invariant_of-self-in-Err-Failed : goal.invariant_of-self-in-Err-Failed
@@ -89,13 +87,13 @@ invariant_of-self-in-Err-Failed g c =
     let names : v.tells k.volume ≡ true → AreListedIn (contents (v.holds k.volume)) c.args.dir.now c.args.seen.now.names.items =
     subst (λ (x : Kept _). v.tells x.volume ≡ true → AreListedIn (contents (v.holds x.volume)) c.args.dir.now c.args.seen.now.names.items)
     (sym c.self.view_is) c.requires.names in
-    let allowed : is_told v.tells v.holds v.faults k ≡ true → refusal_of (held v.tells v.holds v.faults k name.hash) change ≡ None =
-    subst (λ (x : Kept _). is_told v.tells v.holds v.faults x ≡ true → refusal_of (held v.tells v.holds v.faults x name.hash) change ≡ None)
-    (sym c.self.view_is) c.requires.allowed in
+    let stood : IsSeenAs v.tells v.holds v.faults k name.hash o change None =
+    subst (λ (x : Kept _). IsSeenAs v.tells v.holds v.faults x name.hash o change None) (sym c.self.view_is) c.requires.stood in
+    let room : has_room k.journal w ≡ true = subst (λ (x : Kept _). has_room x.journal w ≡ true) (sym c.self.view_is) c.requires.room in
     let entry : c.in-Ok.entry ≡ Wrote name w = c.in-Ok.ensures ∙ ap (λ (x : Write). Wrote name x) c.into_write.ensures in
     let doubted = c.in-Ok-doubt.ensures.ok in
     let new-in : is_told v.tells v.holds v.faults k ≡ true → IsNewIn k.secrets k.power (v.holds k.volume) c.args.dir.now c.args.seen.now.names.items name w =
-    is-new-in v.tells v.holds v.faults k c.self.invariant name settled change ours allowed c.args.dir.now c.args.seen.now.names.items path_is names in
+    is-new-in v.tells v.holds v.faults k c.self.invariant name settled change ours o stood room c.args.dir.now c.args.seen.now.names.items path_is names in
     let tells : is_told v.tells v.holds v.faults k ≡ true → v.tells k.volume ≡ true = tells-now v.tells v.holds v.faults k c.self.invariant in
     let write_is : c.last_doubted-write.result.now ≡ w = c.last_doubted-write.ensures k.journal.doubts name w
     (last k.journal c.doubt.new.self c.in-Ok.entry name w doubted entry ∙ ap (λ (x : ObjEntry). k.journal.doubts ++ x ∷ []) entry) in
@@ -105,8 +103,8 @@ invariant_of-self-in-Err-Failed g c =
     (subst (λ (fs : List FileName). MayJoin (v.holds k.volume) (v.holds c.write_file.new.volume) c.args.dir.now fs name c.last_doubted-write.result.now)
     c.deref.ensures.value ((rw c.in-Err-Failed.field-0-is at c.in-Err-Failed.ensures.may_join) (tells told)))) k.secrets k.power (new-in told) in
     let in_doubt : c.doubt.new.self ≡ with_doubt k.journal name w = in-doubt k.journal c.doubt.new.self c.in-Ok.entry name w doubted entry in
-    rw in_doubt (dir-doubted v.tells v.holds v.faults k c.self.invariant name settled change ours allowed c.write_file.new.volume c.write_file.ensures.told
-    c.write_file.ensures.later may)
+    rw in_doubt (dir-doubted v.tells v.holds v.faults k c.self.invariant name settled change ours o stood room c.write_file.new.volume c.write_file.ensures.told
+    c.write_file.ensures.later may (rw c.in-Err-Failed.field-0-is at c.in-Err-Failed.ensures.risen))
 
 pub invariant_of-self-in-Err-NoMemory : goal.invariant_of-self-in-Err-NoMemory
 invariant_of-self-in-Err-NoMemory g c =
@@ -132,35 +130,25 @@ returns-in-Ok-write_file-clause-made g c =
     let names : v.tells k.volume ≡ true → AreListedIn (contents (v.holds k.volume)) c.args.dir.now c.args.seen.now.names.items =
     subst (λ (x : Kept _). v.tells x.volume ≡ true → AreListedIn (contents (v.holds x.volume)) c.args.dir.now c.args.seen.now.names.items)
     (sym c.self.view_is) c.requires.names in
-    let allowed : is_told v.tells v.holds v.faults k ≡ true → refusal_of (held v.tells v.holds v.faults k name.hash) change ≡ None =
-    subst (λ (x : Kept _). is_told v.tells v.holds v.faults x ≡ true → refusal_of (held v.tells v.holds v.faults x name.hash) change ≡ None)
-    (sym c.self.view_is) c.requires.allowed in
+    let stood : IsSeenAs v.tells v.holds v.faults k name.hash o change None =
+    subst (λ (x : Kept _). IsSeenAs v.tells v.holds v.faults x name.hash o change None) (sym c.self.view_is) c.requires.stood in
+    let room : has_room k.journal w ≡ true = subst (λ (x : Kept _). has_room x.journal w ≡ true) (sym c.self.view_is) c.requires.room in
     let entry : c.in-Ok.entry ≡ Wrote name w = c.in-Ok.ensures ∙ ap (λ (x : Write). Wrote name x) c.into_write.ensures in
     let doubted = c.in-Ok-doubt.ensures.ok in
     let new-in : is_told v.tells v.holds v.faults k ≡ true → IsNewIn k.secrets k.power (v.holds k.volume) c.args.dir.now c.args.seen.now.names.items name w =
-    is-new-in v.tells v.holds v.faults k c.self.invariant name settled change ours allowed c.args.dir.now c.args.seen.now.names.items path_is names in
+    is-new-in v.tells v.holds v.faults k c.self.invariant name settled change ours o stood room c.args.dir.now c.args.seen.now.names.items path_is names in
     let tells : is_told v.tells v.holds v.faults k ≡ true → v.tells k.volume ≡ true = tells-now v.tells v.holds v.faults k c.self.invariant in
     let write_is : c.last_doubted-write.result.now ≡ w = c.last_doubted-write.ensures k.journal.doubts name w
     (last k.journal c.doubt.new.self c.in-Ok.entry name w doubted entry ∙ ap (λ (x : ObjEntry). k.journal.doubts ++ x ∷ []) entry) in
-    let room : has_room k.journal w ≡ true = subst (λ (x : Kept _). has_room x.journal w ≡ true) (sym c.self.view_is) c.requires.room in
     let joins : is_told v.tells v.holds v.faults k ≡ true → Joins k.secrets k.power name.hash w (v.holds k.volume) (v.holds c.write_file.new.volume) = λ told.
     (subst (λ (x : Write). JoinsAll (v.holds k.volume) (v.holds c.write_file.new.volume) c.args.dir.now c.args.seen.now.names.items name x) write_is
     (subst (λ (fs : List FileName). JoinsAll (v.holds k.volume) (v.holds c.write_file.new.volume) c.args.dir.now fs name c.last_doubted-write.result.now)
     c.deref.ensures.value (c.in-Ok-write_file.ensures.joins (tells told)))) k.secrets k.power (new-in told) in
     let confirms : c.confirm.new.self ≡ with_entry k.journal name w = confirmed k.journal c.doubt.new.self c.in-Ok.entry name w doubted entry
     c.confirm.new.self c.confirm.ensures in
-    let outline : is_told v.tells v.holds v.faults k ≡ true → o ≡ outline_of (held v.tells v.holds v.faults k name.hash) =
-    subst (λ (x : Kept _). is_told v.tells v.holds v.faults x ≡ true → o ≡ outline_of (held v.tells v.holds v.faults x name.hash))
-    (sym c.self.view_is) c.requires.outline in
     rw (sym c.self.view_is, confirms, c.made_answer-answer.ensures)
-    (step-enters v.tells v.holds v.faults k c.self.invariant name settled change ours allowed c.write_file.new.volume c.write_file.ensures.told
-    c.write_file.ensures.later joins
-    (made_answer o change (c.front.result + 1))
-    (made-answers (is_told v.tells v.holds v.faults k) (stands (history_of v.tells v.holds v.faults k) name.hash) k.journal name o (c.front.result + 1)
-    (outline-stands v.tells v.holds v.faults k c.self.invariant name settled change ours allowed o outline) change
-    (up-from k.journal.entries (Wrote name w) c.front.result c.front.ensures.length) room
-    (allowed-stands v.tells v.holds v.faults k c.self.invariant name settled change ours allowed))
-    (made-not-failed o change (c.front.result + 1)))
+    (step-enters v.tells v.holds v.faults k c.self.invariant name settled change ours o stood room c.write_file.new.volume c.write_file.ensures.told
+    c.write_file.ensures.later joins (c.front.result + 1) (up-from k.journal.entries (Wrote name w) c.front.result c.front.ensures.length))
 
 pub returns-in-Ok-write_file-clause-written : goal.returns-in-Ok-write_file-clause-written
 returns-in-Ok-write_file-clause-written g c =
@@ -204,17 +192,16 @@ returns-in-Err-Failed-clause-made g c =
     let names : v.tells k.volume ≡ true → AreListedIn (contents (v.holds k.volume)) c.args.dir.now c.args.seen.now.names.items =
     subst (λ (x : Kept _). v.tells x.volume ≡ true → AreListedIn (contents (v.holds x.volume)) c.args.dir.now c.args.seen.now.names.items)
     (sym c.self.view_is) c.requires.names in
-    let allowed : is_told v.tells v.holds v.faults k ≡ true → refusal_of (held v.tells v.holds v.faults k name.hash) change ≡ None =
-    subst (λ (x : Kept _). is_told v.tells v.holds v.faults x ≡ true → refusal_of (held v.tells v.holds v.faults x name.hash) change ≡ None)
-    (sym c.self.view_is) c.requires.allowed in
+    let stood : IsSeenAs v.tells v.holds v.faults k name.hash o change None =
+    subst (λ (x : Kept _). IsSeenAs v.tells v.holds v.faults x name.hash o change None) (sym c.self.view_is) c.requires.stood in
+    let room : has_room k.journal w ≡ true = subst (λ (x : Kept _). has_room x.journal w ≡ true) (sym c.self.view_is) c.requires.room in
     let entry : c.in-Ok.entry ≡ Wrote name w = c.in-Ok.ensures ∙ ap (λ (x : Write). Wrote name x) c.into_write.ensures in
     let doubted = c.in-Ok-doubt.ensures.ok in
     let new-in : is_told v.tells v.holds v.faults k ≡ true → IsNewIn k.secrets k.power (v.holds k.volume) c.args.dir.now c.args.seen.now.names.items name w =
-    is-new-in v.tells v.holds v.faults k c.self.invariant name settled change ours allowed c.args.dir.now c.args.seen.now.names.items path_is names in
+    is-new-in v.tells v.holds v.faults k c.self.invariant name settled change ours o stood room c.args.dir.now c.args.seen.now.names.items path_is names in
     let tells : is_told v.tells v.holds v.faults k ≡ true → v.tells k.volume ≡ true = tells-now v.tells v.holds v.faults k c.self.invariant in
     let write_is : c.last_doubted-write.result.now ≡ w = c.last_doubted-write.ensures k.journal.doubts name w
     (last k.journal c.doubt.new.self c.in-Ok.entry name w doubted entry ∙ ap (λ (x : ObjEntry). k.journal.doubts ++ x ∷ []) entry) in
-    let room : has_room k.journal w ≡ true = subst (λ (x : Kept _). has_room x.journal w ≡ true) (sym c.self.view_is) c.requires.room in
     let may : is_told v.tells v.holds v.faults k ≡ true → Keeps k.secrets k.power name.hash (v.holds k.volume) (v.holds c.write_file.new.volume)
     ⊎ Joins k.secrets k.power name.hash w (v.holds k.volume) (v.holds c.write_file.new.volume) = λ told.
     (subst (λ (x : Write). MayJoin (v.holds k.volume) (v.holds c.write_file.new.volume) c.args.dir.now c.args.seen.now.names.items name x) write_is
@@ -222,9 +209,8 @@ returns-in-Err-Failed-clause-made g c =
     c.deref.ensures.value ((rw c.in-Err-Failed.field-0-is at c.in-Err-Failed.ensures.may_join) (tells told)))) k.secrets k.power (new-in told) in
     let in_doubt : c.doubt.new.self ≡ with_doubt k.journal name w = in-doubt k.journal c.doubt.new.self c.in-Ok.entry name w doubted entry in
     rw (sym c.self.view_is, in_doubt)
-    (step-doubts v.tells v.holds v.faults k c.self.invariant name settled change ours allowed c.write_file.new.volume c.write_file.ensures.told
-    c.write_file.ensures.later may
-    (rw c.in-Err-Failed.field-0-is at c.in-Err-Failed.ensures.risen) room)
+    (step-doubts v.tells v.holds v.faults k c.self.invariant name settled change ours o stood room c.write_file.new.volume c.write_file.ensures.told
+    c.write_file.ensures.later may (rw c.in-Err-Failed.field-0-is at c.in-Err-Failed.ensures.risen))
 
 pub returns-in-Err-Failed-clause-written : goal.returns-in-Err-Failed-clause-written
 returns-in-Err-Failed-clause-written g c =
@@ -239,13 +225,13 @@ returns-in-Err-Failed-clause-written g c =
     let names : v.tells k.volume ≡ true → AreListedIn (contents (v.holds k.volume)) c.args.dir.now c.args.seen.now.names.items =
     subst (λ (x : Kept _). v.tells x.volume ≡ true → AreListedIn (contents (v.holds x.volume)) c.args.dir.now c.args.seen.now.names.items)
     (sym c.self.view_is) c.requires.names in
-    let allowed : is_told v.tells v.holds v.faults k ≡ true → refusal_of (held v.tells v.holds v.faults k name.hash) change ≡ None =
-    subst (λ (x : Kept _). is_told v.tells v.holds v.faults x ≡ true → refusal_of (held v.tells v.holds v.faults x name.hash) change ≡ None)
-    (sym c.self.view_is) c.requires.allowed in
+    let stood : IsSeenAs v.tells v.holds v.faults k name.hash o change None =
+    subst (λ (x : Kept _). IsSeenAs v.tells v.holds v.faults x name.hash o change None) (sym c.self.view_is) c.requires.stood in
+    let room : has_room k.journal w ≡ true = subst (λ (x : Kept _). has_room x.journal w ≡ true) (sym c.self.view_is) c.requires.room in
     let entry : c.in-Ok.entry ≡ Wrote name w = c.in-Ok.ensures ∙ ap (λ (x : Write). Wrote name x) c.into_write.ensures in
     let doubted = c.in-Ok-doubt.ensures.ok in
     let new-in : is_told v.tells v.holds v.faults k ≡ true → IsNewIn k.secrets k.power (v.holds k.volume) c.args.dir.now c.args.seen.now.names.items name w =
-    is-new-in v.tells v.holds v.faults k c.self.invariant name settled change ours allowed c.args.dir.now c.args.seen.now.names.items path_is names in
+    is-new-in v.tells v.holds v.faults k c.self.invariant name settled change ours o stood room c.args.dir.now c.args.seen.now.names.items path_is names in
     let tells : is_told v.tells v.holds v.faults k ≡ true → v.tells k.volume ≡ true = tells-now v.tells v.holds v.faults k c.self.invariant in
     let write_is : c.last_doubted-write.result.now ≡ w = c.last_doubted-write.ensures k.journal.doubts name w
     (last k.journal c.doubt.new.self c.in-Ok.entry name w doubted entry ∙ ap (λ (x : ObjEntry). k.journal.doubts ++ x ∷ []) entry) in
@@ -273,10 +259,12 @@ returns-in-Err-NoMemory-clause-made g c =
     let entry : c.in-Ok.entry ≡ Wrote name w = c.in-Ok.ensures ∙ ap (λ (x : Write). Wrote name x) c.into_write.ensures in
     let back : c.withdraw.new.self ≡ k.journal = withdrawn k.journal c.doubt.new.self c.in-Ok.entry name w c.in-Ok-doubt.ensures.ok entry c.withdraw.new.self
     c.withdraw.ensures in
-    rw (sym c.self.view_is, back) (step-unsettled v.tells v.holds v.faults k (record k { volume = c.write_file.new.volume }) c.self.invariant
+    rw (sym c.self.view_is, back) (step-unsettled v.tells v.holds v.faults k (record k { volume = c.write_file.new.volume }) c.self.invariant name
     (looks-moved v.tells v.holds v.faults k c.write_file.new.volume c.write_file.ensures.told
     (rw c.in-Err-NoMemory.field-0-is at c.in-Err-NoMemory.ensures.no_memory) c.write_file.ensures.later)
-    name change answers.NoMemory refl (record { not_made = refl; same = refl }) (λ is. absurd (differ is)))
+    change answers.NoMemory Wants refl (record { not_made = refl; same = refl })
+    (dir-moved v.tells v.holds v.faults k c.write_file.new.volume c.self.invariant c.write_file.ensures.told
+    (rw c.in-Err-NoMemory.field-0-is at c.in-Err-NoMemory.ensures.no_memory)) (λ is. cc) (λ is. cc))
 
 pub returns-in-Err-NoMemory-clause-written : goal.returns-in-Err-NoMemory-clause-written
 returns-in-Err-NoMemory-clause-written g c =
