@@ -9,7 +9,8 @@ use Rattle.httparse.proofs.RunLemmas.{run_unstopped}
 use Rattle.sw_outside.specs.Taken.{AppendsPart}
 use Rattle.sw_http.specs.Body.{IsFramedBody, print_body}
 use Rattle.sw_http.specs.ChunkSteps.{TakesBody, HasNoBody}
-use Rattle.sw_http.specs.Continue.{Takes, AwaitsHead, HasHead, BeginsNone, FindsNoRequest, IsCutShort, IsStopped, IsToldOnce, IsToldPart, asks_continue, continue_text}
+use Rattle.sw_http.specs.Continue.{Takes, AwaitsHead, HasHead, BeginsNone, FindsNoRequest}
+use Rattle.sw_http.specs.Continue.{IsCutShort, IsStopped, IsToldOnce, IsToldPart, asks_continue, continue_text}
 use Rattle.sw_http.specs.Continue.{continue_of, puts_after}
 use Rattle.std.specs.Prelude.{codes, is_some}
 use Rattle.std.proofs.lemmas.Bool.{cond-true, cond-false}

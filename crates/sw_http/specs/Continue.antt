@@ -105,7 +105,8 @@ HasNoRequest bytes = (p : Parts) (rest : List ℕ) → ¬ (Reads bytes p rest)
 pub record IsCutShort (taken taken_now : Option (List ℕ)) (calls calls_now : ℕ) (seen : List ℕ) : Type 0 where
   pub needed : HasNoRequest seen
   pub told : (AwaitsHead seen × Appends taken taken_now [] × (calls_now ≡ calls))
-      ⊎ ((h : RequestHead) × StartsWithHead seen h × (is_some (framing_of (fields_of h)) ≡ true) × Appends taken taken_now (continue_of h) × (calls_now ≡ puts_after (fields_of h) calls))
+      ⊎ ((h : RequestHead) × StartsWithHead seen h × (is_some (framing_of (fields_of h)) ≡ true) × Appends taken taken_now (continue_of h)
+      × (calls_now ≡ puts_after (fields_of h) calls))
 
 -- the write that tells the client failed: its head asks to be told, and it and the line ends before it were taken off the input, and nothing else
 pub record IsStopped (before after taken taken_now : Option (List ℕ)) (calls calls_now : ℕ) : Type 0 where

@@ -3,7 +3,8 @@ ghost use Rattle.sw_hashpath.specs.BadFiles.{bad_file_number as bad_file_number_
 ghost use Rattle.sw_peer.specs.Steps.{write_of};
 ghost use Rattle.sw_timestamp.specs.TimeText.{normal_text};
 ghost use Rattle.sw_object_server.specs.Replies.{at_time as at_time_reply, bare as bare_reply, created as created_reply, damaged as damaged_reply};
-ghost use Rattle.sw_object_server.specs.Replies.{made_reply as made_reply_to, not_found as not_found_reply, reply_to as reply_to_answer, shows_etag, shows_field};
+ghost use Rattle.sw_object_server.specs.Replies.{made_reply as made_reply_to, not_found as not_found_reply};
+ghost use Rattle.sw_object_server.specs.Replies.{reply_to as reply_to_answer, shows_etag, shows_field};
 ghost use Rattle.sw_object_server.specs.Replies.{with_field as with_field_reply};
 
 use itoa::Buffer;

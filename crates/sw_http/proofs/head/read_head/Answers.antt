@@ -5,7 +5,8 @@ use Rattle.sw_message.proofs.HeadLemmas.{no_head_in_none, never_long}
 use Rattle.httparse.specs.Grammar.{MayBecomeRequest}
 use Rattle.sw_http.specs.Fronts.{IsUnfinished}
 use Rattle.sw_http.specs.Opening.{IsHeadCut}
-use Rattle.sw_http.proofs.InputLemmas.{unfinished_none, unfinished_still, front_read, longer_read, seen_still, kept_read, read_none, if_kept, if_always, if_ended}
+use Rattle.sw_http.proofs.InputLemmas.{unfinished_none, unfinished_still, front_read, longer_read, seen_still}
+use Rattle.sw_http.proofs.InputLemmas.{kept_read, read_none, if_kept, if_always, if_ended}
 use Rattle.sw_http.proofs.head.read_head.Goals as goal
 
 pub loop-spans-init : goal.loop-spans-init

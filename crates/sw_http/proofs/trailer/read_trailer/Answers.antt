@@ -4,7 +4,8 @@ use Rattle.sw_http.specs.ChunkSteps.{HasNoTrailer, IsTrailerCut}
 use Rattle.httparse.specs.Grammar.{MayBecomeSection}
 use Rattle.sw_http.specs.Fronts.{IsUnfinished}
 use Rattle.sw_http.proofs.TrailerLemmas.{no_trailer_in_none, never_long}
-use Rattle.sw_http.proofs.InputLemmas.{unfinished_none, unfinished_still, front_read, longer_read, seen_still, kept_read, read_none, if_kept, if_always, if_ended}
+use Rattle.sw_http.proofs.InputLemmas.{unfinished_none, unfinished_still, front_read, longer_read, seen_still}
+use Rattle.sw_http.proofs.InputLemmas.{kept_read, read_none, if_kept, if_always, if_ended}
 use Rattle.sw_http.proofs.trailer.read_trailer.Goals as goal
 
 pub loop-len-init : goal.loop-len-init
