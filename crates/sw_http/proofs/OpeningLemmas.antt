@@ -138,7 +138,8 @@ opening_cut_run a left = seen_map a left (IsAllRun is_newline 65536) AwaitsHead 
   unfinished = unfinished_none _;
 }
 
-pub opening_cut_head : (a b left : Option (List ℕ)) (count : ℕ) → TakesRun is_newline a b count → count ≤ 65536 → IfSeen b left IsHeadCut → IfSeen a left AwaitsHead
+pub opening_cut_head : (a b left : Option (List ℕ)) (count : ℕ) → TakesRun is_newline a b count → count ≤ 65536
+    → IfSeen b left IsHeadCut → IfSeen a left AwaitsHead
 opening_cut_head a b left count run few cut =
     seen_behind a b left run.run AwaitsHead IsHeadCut run.taken
     (λ rest head.
