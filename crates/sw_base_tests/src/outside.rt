@@ -28,19 +28,19 @@ impl Write for Narrow {
     }
 }
 
-/// A reader that gives a byte a call, and whose second call fails.
+/// A reader that gives the number of its call, and whose second and third calls fail.
 #[derive(Drop)]
 struct Broken {
-    reads: u32,
+    reads: u8,
 }
 
 impl Read for Broken {
     fn read(&mut self, buf: &mut [u8]) -> io::Result<usize> {
         self.reads = self.reads.saturating_add(1);
-        if self.reads == 2 || buf.is_empty() {
+        if self.reads == 2 || self.reads == 3 || buf.is_empty() {
             return Err(io::Error::from(io::ErrorKind::TimedOut));
         }
-        buf[0] = b'x';
+        buf[0] = self.reads;
         Ok(1)
     }
 }
@@ -111,8 +111,9 @@ fn sources_give_their_bytes_in_pieces_and_fail_where_they_are_told(
     let wants: [Option<&[u8]>; 3] = [Some(b"abcd"), Some(b"e"), Some(b"")];
     assert!(rt; gives_each(&mut sound, &wants));
     let mut read = ReaderSource::new(Broken { reads: 0 });
-    let wants: [Option<&[u8]>; 3] = [Some(b"x"), None, Some(b"x")];
+    let wants: [Option<&[u8]>; 4] = [Some(&[1]), None, None, Some(&[4])];
     assert!(rt; gives_each(&mut read, &wants));
+    assert_eq!(rt; (read.calls(), read.faults()), (4, 2));
     Ok(())
 }
 

@@ -1,5 +1,5 @@
-ghost use Rattle.std.specs.Prelude.{◌≡◌, List, ◌∷◌, [], codes, drop, map, IfOk};
-ghost use Rattle.std.specs.List.{slice_split};
+ghost use Rattle.std.specs.Prelude.{◌≡◌, List, ◌∷◌, [], codes, drop, map, nat_eq, true, IfOk, OnErr};
+ghost use Rattle.std.specs.List.{slice_split, starts_with};
 ghost use Rattle.sw_message.specs.declared.fields.Field.{Field};
 ghost use Rattle.sw_object_server.specs.Targets.{is_slash};
 ghost use Rattle.sw_control.specs.Asking.{IsAsked, IsControl, IsPlaced, is_control as is_control_path, segments_of};
@@ -26,9 +26,10 @@ pub enum Control {
     Refused,
 }
 
-/// Whether a path is that of a control request: its first segment says so.
+/// Whether a path is that of a control request: its first segment says so. Text without a slash in front takes no memory.
 pub fn is_control(alloc: Global, path: &Bytes) -> Result<bool, NoMemory>
-    ensures { IfOk result (λ is. is ≡ is_control_path path.now) }
+    ensures value { IfOk result (λ is. is ≡ is_control_path path.now) }
+    ensures err { OnErr result (starts_with nat_eq path.now (codes "/") ≡ true) }
 {
     let path = path.as_slice();
     if !path.starts_with(b"/") {

@@ -11,7 +11,11 @@ use Rattle.std.specs.List.{prefix_len}
 use Rattle.httparse.proofs.RunLemmas.{Stops-drop, run_unstopped}
 use Rattle.httparse.specs.Grammar.{AllPass}
 use Rattle.httparse.specs.Pieces.{Stops}
-use Rattle.sw_http.specs.Fronts.{HasNone, HasNoneWithin}
+use Rattle.sw_http.specs.Fronts.{HasNone, HasNoneWithin, HasNoNewLine, IsUnfinished, is_line_feed}
+use Rattle.std.specs.List.{list_any}
+use Rattle.std.proofs.lemmas.List.Folds.{list_any-append}
+use Rattle.std.proofs.Math.Seq.{take-append_seam}
+use Rattle.std.proofs.Common.{◌⊎◌, inl, inr, false}
 use Rattle.sw_http.specs.Input.{IfSeen, HasRead, TakesRun, TakesFew, IsAllRun, IsLongRun, HasNoRun, HasNoLineEnd}
 
 -- ---- what is held, and then what the source has left
@@ -262,3 +266,38 @@ stops_some test (b ∷ bytes) stops = omega arith
 pub stops_front : (test : ℕ → Bool) (bytes more : List ℕ) → 0 < length bytes → Stops test (bytes ++ more) → Stops test bytes
 stops_front test [] more some stops = absurd (omega arith)
 stops_front test (b ∷ bytes) more some stops = stops
+
+-- ---- what more bytes can still make a text of
+
+pub unfinished_none : (MayBecome : List ℕ → Type 0) → IsUnfinished MayBecome []
+unfinished_none MayBecome = record { front = []; tail = []; whole = refl; no_line = refl; may = inl refl }
+
+-- bytes were looked at again, or no new line is there
+pub unfinished_still : (MayBecome : List ℕ → Type 0) (bytes : List ℕ) (seen : ℕ) → IsUnfinished MayBecome (take seen bytes)
+    → MayBecome bytes ⊎ HasNoNewLine seen bytes → IsUnfinished MayBecome bytes
+unfinished_still MayBecome bytes seen before (inl may) =
+    record { front = bytes; tail = []; whole = sym (append-nil bytes); no_line = refl; may = inr may }
+unfinished_still MayBecome bytes seen before (inr none) = record {
+  front = before.front;
+  tail = before.tail ++ drop seen bytes;
+  whole = sym (take-append-drop seen bytes) ∙ ap (λ (l : List ℕ). l ++ drop seen bytes) before.whole ∙ append_assoc before.front before.tail (drop seen bytes);
+  no_line = no_line_behind before.tail (drop seen bytes) before.no_line none;
+  may = before.may;
+}
+  where
+    no_line_behind : (xs ys : List ℕ) → list_any is_line_feed xs ≡ false → list_any is_line_feed ys ≡ false → list_any is_line_feed (xs ++ ys) ≡ false
+    no_line_behind xs ys none_there none_behind = grind (arith, list_any-append, none_there, none_behind)
+
+-- what is held was seen, and was only read since, where a read failed
+pub seen_still : (a : Option (List ℕ)) (before after : List ℕ) (left now : Option (List ℕ)) (P : List ℕ → Type 0) → Keeps a (prepend_known before left)
+    → after ≡ before → Keeps left now → P before → IfSeen a now P
+seen_still a before after left now P read same kept holds = seen_kept a _ now P read (seen_held before after left now P same kept holds)
+
+-- bytes that were looked at are the front of what was read since
+pub front_read : (P : List ℕ → Type 0) (held now : List ℕ) (left left_now : Option (List ℕ)) (n : ℕ) → P held → HasRead held now left left_now n
+    → P (take (length held) now)
+front_read P held now left left_now n holds read =
+    subst P (sym (ap (take (length held)) read.behind ∙ take-append_seam held read.piece)) holds
+
+pub longer_read : (held now : List ℕ) (left left_now : Option (List ℕ)) (n : ℕ) → HasRead held now left left_now n → length held ≤ length now
+longer_read held now left left_now n read = omega (arith, ap length read.behind, length-append held read.piece)

@@ -1,6 +1,6 @@
 -- The front of a request: what was skipped and the head, and why there is none.
 use Rattle.std.proofs.Common.{◌≡◌, ℕ, ◌-◌, ◌≤◌, List, [], ◌∷◌, ◌++◌, length, take, drop, map, Option, None, Some, IfSome, refl, sym, ap, ◌∙◌, subst, arith}
-use Rattle.std.proofs.Common.{length-append}
+use Rattle.std.proofs.Common.{append-nil, length-append, lit<}
 use Rattle.std.specs.List.{before_first, after_first}
 use Rattle.std.specs.Io.KnownBytes.{Consumes, Keeps, prepend_known}
 use Rattle.std.proofs.KnownBytes.{Consumes-trans, Consumes-kept}
@@ -11,7 +11,7 @@ use Rattle.httparse.specs.Spans.{AreFieldsAt, span_bytes, header_bytes, name_and
 use Rattle.httparse.specs.declared.spans.HeaderSpan.{HeaderSpan}
 use Rattle.httparse.specs.declared.spans.RequestSpans.{RequestSpans}
 use Rattle.httparse.proofs.RunLemmas.{run_unique, run_unstopped, Stops-append}
-use Rattle.sw_http.specs.Continue.{BeginsNone, Skips}
+use Rattle.sw_http.specs.Continue.{AwaitsHead, Skips}
 use Rattle.sw_message.specs.Head.{HasNoHead, IsHeadAt, field_at}
 use Rattle.sw_http.specs.Opening.{IsHeadless, TakesHead, Opens, IsHeadCut}
 use Rattle.sw_http.specs.Input.{IfSeen, TakesRun, TakesFew, IsAllRun, IsLongRun}
@@ -20,7 +20,7 @@ use Rattle.sw_message.specs.Head.{field_of, is_question_mark}
 use Rattle.sw_message.specs.declared.fields.Field.{Field}
 use Rattle.sw_message.specs.declared.parts.OpenRequest.{OpenRequest}
 use Rattle.sw_message.proofs.HeadLemmas.{head_stops}
-use Rattle.sw_http.proofs.InputLemmas.{kept_consumes, text_taken, if_some_map, longer_run, seen_behind, seen_map}
+use Rattle.sw_http.proofs.InputLemmas.{kept_consumes, text_taken, if_some_map, longer_run, seen_behind, seen_map, unfinished_none}
 
 -- ---- the head that was found
 
@@ -125,12 +125,31 @@ headless a held left count run stops none_there = go a left run.taken none_there
 
 -- ---- a read failed before the head was whole
 
-pub opening_cut_run : (a left : Option (List ℕ)) → IfSeen a left (IsAllRun is_newline 65536) → IfSeen a left BeginsNone
-opening_cut_run a left = seen_map a left (IsAllRun is_newline 65536) BeginsNone λ bytes all. record {
-  none = λ skipped rest h are is e. run_unstopped is_newline skipped _ (subst (AllPass is_newline) e all.passes) (head_stops h rest is);
+pub opening_cut_run : (a left : Option (List ℕ)) → IfSeen a left (IsAllRun is_newline 65536) → IfSeen a left AwaitsHead
+opening_cut_run a left = seen_map a left (IsAllRun is_newline 65536) AwaitsHead λ bytes all. record {
+  none = record {
+    none = λ skipped rest h are is e. run_unstopped is_newline skipped _ (subst (AllPass is_newline) e all.passes) (head_stops h rest is);
+  };
+  skipped = bytes;
+  are_skipped = record { newlines = all.passes; few = all.few };
+  begun = [];
+  whole = sym (append-nil bytes);
+  short = lit< tt;
+  unfinished = unfinished_none _;
 }
 
-pub opening_cut_head : (a b left : Option (List ℕ)) (count : ℕ) → TakesRun is_newline a b count → IfSeen b left IsHeadCut → IfSeen a left BeginsNone
-opening_cut_head a b left count run cut =
-    seen_behind a b left run.run BeginsNone IsHeadCut run.taken
-    (λ rest head. let headless = headless_behind run.run rest run.passes head.begins head.none in headless.none) cut
+pub opening_cut_head : (a b left : Option (List ℕ)) (count : ℕ) → TakesRun is_newline a b count → count ≤ 65536
+    → IfSeen b left IsHeadCut → IfSeen a left AwaitsHead
+opening_cut_head a b left count run few cut =
+    seen_behind a b left run.run AwaitsHead IsHeadCut run.taken
+    (λ rest head.
+    let headless = headless_behind run.run rest run.passes head.begins head.none in
+    record {
+      none = headless.none;
+      skipped = run.run;
+      are_skipped = record { newlines = run.passes; few = omega (arith, run.size, few) };
+      begun = rest;
+      whole = refl;
+      short = head.short;
+      unfinished = head.unfinished;
+    }) cut

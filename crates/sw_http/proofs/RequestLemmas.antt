@@ -9,9 +9,10 @@ use Rattle.httparse.proofs.RunLemmas.{run_unstopped}
 use Rattle.sw_outside.specs.Taken.{AppendsPart}
 use Rattle.sw_http.specs.Body.{IsFramedBody, print_body}
 use Rattle.sw_http.specs.ChunkSteps.{TakesBody, HasNoBody}
-use Rattle.sw_http.specs.Continue.{Takes, HasHead, BeginsNone, FindsNoRequest, IsCutShort, IsStopped, IsToldOnce, IsToldPart, asks_continue, continue_text}
+use Rattle.sw_http.specs.Continue.{Takes, AwaitsHead, HasHead, BeginsNone, FindsNoRequest}
+use Rattle.sw_http.specs.Continue.{IsCutShort, IsStopped, IsToldOnce, IsToldPart, asks_continue, continue_text}
 use Rattle.sw_http.specs.Continue.{continue_of, puts_after}
-use Rattle.std.specs.Prelude.{codes}
+use Rattle.std.specs.Prelude.{codes, is_some}
 use Rattle.std.proofs.lemmas.Bool.{cond-true, cond-false}
 use Rattle.httparse.specs.Ascii.{crlf_bytes}
 use Rattle.sw_message.specs.Framing.{framing_of, is_framed}
@@ -162,16 +163,17 @@ pub fault_is_failed : (e : ReadError) → fault_of e ≡ faults.ReadFault → e 
 fault_is_failed errors.Failed same = refl
 fault_is_failed errors.NoMemory same = absurd (cc)
 
-pub cut_opening : (a left t : Option (List ℕ)) (calls : ℕ) → IfSeen a left BeginsNone → IfSeen a left (IsCutShort t t calls calls)
-cut_opening a left t calls = seen_map a left BeginsNone (IsCutShort t t calls calls) λ bytes none_there. record {
-  needed = λ p rest reads. none_there.none p.skipped _ p.head reads.parts.skipped reads.parts.head (reads.whole ∙ text_split p rest);
-  told = inl (none_there, Appends-nil t, refl);
+pub cut_opening : (a left t : Option (List ℕ)) (calls : ℕ) → IfSeen a left AwaitsHead → IfSeen a left (IsCutShort t t calls calls)
+cut_opening a left t calls = seen_map a left AwaitsHead (IsCutShort t t calls calls) λ bytes awaits. record {
+  needed = λ p rest reads. awaits.none.none p.skipped _ p.head reads.parts.skipped reads.parts.head (reads.whole ∙ text_split p rest);
+  told = inl (awaits, Appends-nil t, refl);
 }
 
 pub cut_body : (a b left t now : Option (List ℕ)) (calls calls_now : ℕ) (open_ : OpenRequest) (room : ℕ) → Opens a b open_ room →
     Appends t now (continue_text open_.fields)
-    → calls_now ≡ puts_after open_.fields calls → IfSeen b left (HasNoBody (framing_of open_.fields) room) → IfSeen a left (IsCutShort t now calls calls_now)
-cut_body a b left t now calls calls_now open_ room opens written called cut =
+    → calls_now ≡ puts_after open_.fields calls → is_some (framing_of open_.fields) ≡ true
+    → IfSeen b left (HasNoBody (framing_of open_.fields) room) → IfSeen a left (IsCutShort t now calls calls_now)
+cut_body a b left t now calls calls_now open_ room opens written called framed cut =
     seen_behind a b left (opens.skipped ++ print_request opens.head) (IsCutShort t now calls calls_now) (HasNoBody (framing_of open_.fields) room) opens.taken
     (λ rest holds. record {
       needed = λ p after reads.
@@ -187,6 +189,7 @@ cut_body a b left t now calls calls_now open_ room opens written called cut =
           rest = rest;
           whole = append_assoc opens.skipped (print_request opens.head) rest;
         },
+        ap (λ (l : List Field). is_some (framing_of l)) (sym opens.is_open.fields) ∙ framed,
         told a b t now open_ room opens written,
         called ∙ ap (λ (l : List Field). puts_after l calls) opens.is_open.fields,
       );

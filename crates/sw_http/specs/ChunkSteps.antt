@@ -5,11 +5,11 @@ use Rattle.std.specs.Char.{is_ascii_hexdigit}
 use Rattle.std.specs.Io.KnownBytes.{Consumes}
 use Rattle.httparse.specs.Ascii.{crlf_bytes, semicolon}
 use Rattle.httparse.specs.Grammar.{AllPass, ChunkLine, IsChunkLine, chunk_size, print_chunk_line, print_extension, IsExtension, is_ows, is_extension_byte}
-use Rattle.httparse.specs.Grammar.{Field, LineEnd, print_section}
+use Rattle.httparse.specs.Grammar.{Field, LineEnd, MayBecomeSection, print_section}
 use Rattle.httparse.specs.Pieces.{Stops}
 use Rattle.sw_http.specs.Body.{BodyText, IsFramedBody, print_body, content_of, body_of, extended, IsWithinLimit}
 use Rattle.sw_http.specs.Chunked.{Chunk, IsChunk, print_chunk, chunk_bytes, ChunkedText, IsChunked, print_chunked, IsLast, IsTrailer}
-use Rattle.sw_http.specs.Fronts.{HasNone, HasNoneWithin}
+use Rattle.sw_http.specs.Fronts.{HasNone, HasNoneWithin, IsUnfinished}
 use Rattle.sw_http.specs.declared.chunk_line.SizeLine.{SizeLine}
 use Rattle.sw_http.specs.declared.chunk.Step.{Step}
 use Rattle.sw_http.specs.declared.chunk.Step.TheVariants.{More, Last, Bad}
@@ -153,6 +153,12 @@ pub record TakesChunked (before after : Option (List ℕ)) (body body_now : Body
 -- no trailer stands in front of bytes
 abbrev pub HasNoTrailer : List ℕ → Type 0
 HasNoTrailer = HasNone {A = List Field × LineEnd} (λ trailer. IsTrailer trailer.0 trailer.1) (λ trailer. print_section trailer.0 trailer.1)
+
+-- no whole trailer stands in front of bytes, and more bytes can still make one
+pub record IsTrailerCut (bytes : List ℕ) : Type 0 where
+  pub none : HasNoTrailer bytes
+  pub short : length bytes < 65536
+  pub unfinished : IsUnfinished MayBecomeSection bytes
 
 -- the first len bytes are a trailer
 pub record IsTrailerAt (bytes : List ℕ) (len : ℕ) : Type 0 where

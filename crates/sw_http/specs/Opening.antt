@@ -1,19 +1,22 @@
 -- A head that is taken off the input, and what is skipped before it. (This project's own.)
-use Rattle.std.specs.Prelude.{◌≡◌, ℕ, ◌+◌, List, ◌++◌, length, Option, IfSome}
+use Rattle.std.specs.Prelude.{◌≡◌, ℕ, ◌+◌, ◌<◌, List, ◌++◌, length, Option, IfSome}
 use Rattle.std.specs.Io.KnownBytes.{Consumes, IsAtEnd}
-use Rattle.httparse.specs.Grammar.{RequestHead, print_request}
+use Rattle.httparse.specs.Grammar.{RequestHead, MayBecomeRequest, print_request}
 use Rattle.httparse.specs.Pieces.{Stops, is_newline}
 use Rattle.sw_http.specs.Continue.{BeginsNone}
+use Rattle.sw_http.specs.Fronts.{IsUnfinished}
 use Rattle.sw_http.specs.Request.{IsSkipped}
 use Rattle.sw_http.specs.declared.opening.Opening.{Opening}
 use Rattle.sw_http.specs.declared.opening.Opening.TheVariants.{Head, Ended, Bad}
 use Rattle.sw_message.specs.Head.{IsHead, IsOpen, HasNoHead}
 use Rattle.sw_message.specs.declared.parts.OpenRequest.{OpenRequest}
 
--- bytes begin with no line end and with no whole head
+-- bytes begin with no line end and with no whole head, and may still become one
 pub record IsHeadCut (bytes : List ℕ) : Type 0 where
   pub begins : Stops is_newline bytes
   pub none : HasNoHead bytes
+  pub short : length bytes < 65536
+  pub unfinished : IsUnfinished MayBecomeRequest bytes
 
 -- a head of len bytes was taken off the input
 pub record TakesHead (before after : Option (List ℕ)) (open_ : OpenRequest) (len : ℕ) : Type 0 where

@@ -1,8 +1,8 @@
-ghost use Rattle.std.specs.Prelude.{◌≡◌, ℕ, ◌≤◌, None, Some, Ok, Err, IfOk, IfSome, OnOk};
+ghost use Rattle.std.specs.Prelude.{◌≡◌, ◌≢◌, ℕ, ◌<◌, ◌≤◌, None, Some, Ok, Err, IfOk, IfSome, OnOk, OnErr};
 ghost use Rattle.std.specs.Io.KnownBytes.{prepend_known};
 ghost use Rattle.sw_http.specs.ChunkSteps.{IsUnread, TakesBody, HasNoBody};
 ghost use Rattle.sw_http.specs.Input.{HasFailed, IfSeen};
-ghost use Rattle.sw_message.specs.declared.framing.Framing.TheVariants.{Length, Chunked};
+ghost use Rattle.sw_message.specs.declared.framing.Framing.TheVariants.{Unframed, Length, Chunked};
 
 use crate::chunk::take_chunked;
 use crate::content::take_content;
@@ -13,9 +13,11 @@ use std::alloc::Global;
 use sw_message::{Body, Framing};
 use sw_outside::{Bytes, NoMemory, Source};
 
-/// A body of which nothing was read yet, with room for `len` bytes. Of one that is too large nothing is kept.
+/// A body of which nothing was read yet, with room for `len` bytes. Of one that is too large nothing is kept, and without a length no
+/// memory is taken.
 fn unread_body(alloc: Global, len: usize) -> Result<Body, NoMemory>
-    ensures { IfOk result (IsUnread len) }
+    ensures unread { IfOk result (IsUnread len) }
+    ensures for_some { OnErr result (0 < len) }
 {
     if len > MAX_BODY {
         Ok(Body::TooLarge)
@@ -90,6 +92,7 @@ pub(crate) fn take_body<R: Source>(
     requires { room ≤ 1_073_741_824 }
     ensures taken { IfOk result (λ found. IfSome found (TakesBody (prepend_known held.old (R.left source.old)) (prepend_known held.new (R.left source.new))
         (Some framing) room)) }
+    ensures for_some { result ≡ Err ReadError.NoMemory → framing ≢ Unframed }
     ensures none { result ≡ Ok None → IfSome (prepend_known held.old (R.left source.old)) (HasNoBody (Some framing) room) }
     ensures sound { OnOk result (R.faults source.new ≡ R.faults source.old) }
     ensures starved { result ≡ Err ReadError.NoMemory → R.faults source.new ≡ R.faults source.old }

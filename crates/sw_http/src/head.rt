@@ -1,8 +1,10 @@
-ghost use Rattle.std.specs.Prelude.{◌≡◌, ◌↔◌, ℕ, ◌≤◌, IsTrue, length, take, None, Ok, Err, IfOk, IfSome, OnOk};
+ghost use Rattle.std.specs.Prelude.{◌≡◌, ◌⊎◌, ◌↔◌, ℕ, ◌≤◌, IsTrue, length, take, None, Ok, Err, IfOk, IfSome, OnOk};
 ghost use Rattle.std.specs.Io.KnownBytes.{Keeps, prepend_known};
 ghost use Rattle.httparse.specs.Pieces.{Stops, is_newline};
 ghost use Rattle.sw_message.specs.Head.{IsHeadAt, HasNoHead};
-ghost use Rattle.sw_message.specs.Look.{IsLook};
+ghost use Rattle.httparse.specs.Grammar.{MayBecomeRequest};
+ghost use Rattle.sw_message.specs.Look.{IsLook, OnNotYet};
+ghost use Rattle.sw_http.specs.Fronts.{HasNoNewLine, IsUnfinished};
 ghost use Rattle.sw_message.specs.Head.{IsPath};
 ghost use Rattle.sw_http.specs.Input.{HasFailed, IfSeen};
 ghost use Rattle.sw_http.specs.Opening.{IsHeadCut};
@@ -20,7 +22,8 @@ fn find_new_head(bytes: &[u8], seen: usize, headers: &mut [HeaderSpan]) -> Look<
     requires begins { Stops is_newline bytes.now }
     requires within { seen ≤ length bytes.now }
     requires none_seen { HasNoHead (take seen bytes.now) }
-    ensures { IsLook (IsHeadAt bytes.now headers.new) HasNoHead bytes.now result }
+    ensures look { IsLook (IsHeadAt bytes.now headers.new) HasNoHead bytes.now result }
+    ensures unfinished { OnNotYet result (MayBecomeRequest bytes.now ⊎ HasNoNewLine seen bytes.now) }
 {
     if bytes[seen..].contains(&b'\n') {
         find_head(bytes, headers)
@@ -29,7 +32,8 @@ fn find_new_head(bytes: &[u8], seen: usize, headers: &mut [HeaderSpan]) -> Look<
     }
 }
 
-/// Reads until a head stands in front of what is held. It answers `None` where none ever will.
+/// Reads until a head stands in front of what is held. It answers `None` where none ever will: as soon as a line shows that what stands
+/// there can't become one, and nothing is read behind that.
 ///
 /// Whatever the pieces are, the bytes are gone over once for each line that a head may have, and not once for each piece.
 pub(crate) fn read_head<R: Source>(

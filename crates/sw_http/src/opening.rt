@@ -2,7 +2,7 @@
 ghost use Rattle.std.specs.Prelude.{◌≡◌, ℕ, ◌≤◌, None, Ok, Err, IfOk, IfSome, OnErr, OnOk};
 ghost use Rattle.std.specs.Io.KnownBytes.{Keeps, prepend_known};
 ghost use Rattle.httparse.specs.Pieces.{Stops, is_newline};
-ghost use Rattle.sw_http.specs.Continue.{Skips, BeginsNone};
+ghost use Rattle.sw_http.specs.Continue.{AwaitsHead, Skips};
 ghost use Rattle.sw_http.specs.Opening.{IsOpening, TakesHead, IsHeadCut};
 ghost use Rattle.sw_http.specs.Input.{HasFailed, IfSeen};
 ghost use Rattle.sw_message.specs.Head.{HasNoHead};
@@ -64,7 +64,7 @@ pub(crate) fn take_opening<R: Source>(
     ensures sound { OnOk result (R.faults source.new ≡ R.faults source.old) }
     ensures starved { result ≡ Err ReadError.NoMemory → R.faults source.new ≡ R.faults source.old }
     ensures failed { result ≡ Err ReadError.Failed → HasFailed (R.faults source.old) (R.faults source.new) }
-    ensures cut { result ≡ Err ReadError.Failed → IfSeen (prepend_known held.old (R.left source.old)) (R.left source.new) BeginsNone }
+    ensures cut { result ≡ Err ReadError.Failed → IfSeen (prepend_known held.old (R.left source.old)) (R.left source.new) AwaitsHead }
     ensures source_number { R.number source.new ≡ R.number source.old }
 {
     let skipped = match skip_run(Class::LineEnds, MAX_SKIPPED, held, source)? {

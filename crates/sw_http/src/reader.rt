@@ -1,4 +1,4 @@
-ghost use Rattle.std.specs.Prelude.{◌≡◌, ◌≢◌, ◌⊎◌, ℕ, ◌≤◌, true, [], None, Ok, Err, IfOk, IfSome, OnOk, OnErr};
+ghost use Rattle.std.specs.Prelude.{◌≡◌, ◌≢◌, ◌⊎◌, ℕ, ◌≤◌, true, [], None, Some, Ok, Err, IfOk, IfSome, OnOk, OnErr, is_some};
 ghost use Rattle.std.specs.Io.KnownBytes.{Appends, IsAtEnd, prepend_known};
 ghost use Rattle.sw_outside.specs.Counts.{raised};
 ghost use Rattle.sw_outside.specs.Faults.{HasRisen};
@@ -7,6 +7,7 @@ ghost use Rattle.sw_http.specs.Continue.{Takes, FindsNoRequest, MayContinue, IsT
 ghost use Rattle.sw_http.specs.Continue.{continue_text, puts_after};
 ghost use Rattle.sw_http.specs.ChunkSteps.{TakesBody, HasNoBody};
 ghost use Rattle.sw_message.specs.Framing.{framing_of, is_framed};
+ghost use Rattle.sw_message.specs.declared.framing.Framing.TheVariants.{Unframed};
 ghost use Rattle.sw_http.specs.Input.{HasFailed, IfSeen, fault_of};
 ghost use Rattle.sw_http.specs.Request.{IsSkipped};
 ghost use Rattle.sw_http.specs.declared.reader.HttpFault.TheVariants as faults;
@@ -164,6 +165,8 @@ fn read_body<R: Source, W: Sink>(
     ensures failed { result ≡ Err HttpFault.ReadFault → HasFailed (R.faults source.old) (R.faults source.new) }
     ensures cut { result ≡ Err HttpFault.ReadFault → IfSeen (prepend_known held.old (R.left source.old)) (R.left source.new)
         (HasNoBody (framing_of fields.now) room) }
+    ensures framed { result ≡ Err HttpFault.ReadFault → is_some (framing_of fields.now) ≡ true }
+    ensures kept_for { result ≡ Err HttpFault.NoMemory → framing_of fields.now ≢ Some Unframed }
     ensures unread { result ≡ Err HttpFault.WriteFault → (held.new ≡ held.old) × (R.left source.new ≡ R.left source.old) ×
         (R.faults source.new ≡ R.faults source.old) }
     ensures asked { result ≡ Err HttpFault.WriteFault → asks_continue fields.now ≡ true }

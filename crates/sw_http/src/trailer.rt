@@ -1,9 +1,11 @@
 //! The trailer of a chunked body: fields, which are ignored, and the empty line.
-ghost use Rattle.std.specs.Prelude.{◌≡◌, ◌↔◌, ℕ, ◌≤◌, IsTrue, true, false, length, take, None, Ok, Err, IfOk, IfSome, OnOk};
+ghost use Rattle.std.specs.Prelude.{◌≡◌, ◌⊎◌, ◌↔◌, ℕ, ◌≤◌, IsTrue, true, false, length, take, None, Ok, Err, IfOk, IfSome, OnOk};
 ghost use Rattle.std.specs.Io.KnownBytes.{Keeps, prepend_known};
-ghost use Rattle.sw_http.specs.ChunkSteps.{HasNoTrailer, IsTrailerAt, TakesTrailer, HasNoTrailerWithin};
+ghost use Rattle.sw_http.specs.ChunkSteps.{HasNoTrailer, IsTrailerCut, IsTrailerAt, TakesTrailer, HasNoTrailerWithin};
 ghost use Rattle.sw_http.specs.Input.{HasFailed, IfSeen};
-ghost use Rattle.sw_message.specs.Look.{IsLook};
+ghost use Rattle.httparse.specs.Grammar.{MayBecomeSection};
+ghost use Rattle.sw_message.specs.Look.{IsLook, OnNotYet};
+ghost use Rattle.sw_http.specs.Fronts.{HasNoNewLine, IsUnfinished};
 
 use crate::held::Held;
 use crate::input::ReadError;
@@ -15,7 +17,8 @@ use sw_outside::Source;
 /// Looks for a trailer in front of bytes.
 fn find_trailer(bytes: &[u8], headers: &mut [HeaderSpan]) -> Look<usize>
     requires room { length headers.old ≡ 128 }
-    ensures { IsLook (IsTrailerAt bytes.now) HasNoTrailer bytes.now result }
+    ensures look { IsLook (IsTrailerAt bytes.now) HasNoTrailer bytes.now result }
+    ensures unfinished { OnNotYet result (MayBecomeSection bytes.now) }
 {
     match parse_headers(bytes, headers) {
         Ok(Status::Complete((len, _))) => {
@@ -36,7 +39,8 @@ fn find_new_trailer(bytes: &[u8], seen: usize, headers: &mut [HeaderSpan]) -> Lo
     requires room { length headers.old ≡ 128 }
     requires within { seen ≤ length bytes.now }
     requires none_seen { HasNoTrailer (take seen bytes.now) }
-    ensures { IsLook (IsTrailerAt bytes.now) HasNoTrailer bytes.now result }
+    ensures look { IsLook (IsTrailerAt bytes.now) HasNoTrailer bytes.now result }
+    ensures unfinished { OnNotYet result (MayBecomeSection bytes.now ⊎ HasNoNewLine seen bytes.now) }
 {
     if bytes[seen..].contains(&b'\n') {
         find_trailer(bytes, headers)
@@ -53,7 +57,7 @@ fn read_trailer<R: Source>(held: &mut Held, source: &mut R) -> Result<Option<usi
     ensures sound { OnOk result (R.faults source.new ≡ R.faults source.old) }
     ensures starved { result ≡ Err ReadError.NoMemory → R.faults source.new ≡ R.faults source.old }
     ensures failed { result ≡ Err ReadError.Failed → HasFailed (R.faults source.old) (R.faults source.new) }
-    ensures cut { result ≡ Err ReadError.Failed → IfSeen (prepend_known held.old (R.left source.old)) (R.left source.new) HasNoTrailer }
+    ensures cut { result ≡ Err ReadError.Failed → IfSeen (prepend_known held.old (R.left source.old)) (R.left source.new) IsTrailerCut }
     ensures source_number { R.number source.new ≡ R.number source.old }
 {
     let mut headers = [EMPTY_HEADER_SPAN; MAX_FIELDS];

@@ -1,9 +1,9 @@
-ghost use Rattle.std.specs.Prelude.{◌≡◌, ◌≢◌, ◌<◌, true, None, Some, IfOk, IfErr, map, min};
+ghost use Rattle.std.specs.Prelude.{◌≡◌, ◌≢◌, ◌<◌, true, None, Some, Err, [], IfOk, IfErr, OnErr, map, min};
 ghost use Rattle.std.specs.Char.{is_ascii_digit};
 ghost use Rattle.std.specs.List.{list_all};
 ghost use Rattle.std.specs.Option.{ForSome};
 ghost use Rattle.std.specs.Str.Parse.{digits_value};
-ghost use Rattle.form_urlencoded.specs.Form.{decode, plus_to_space};
+ghost use Rattle.form_urlencoded.specs.Form.{decode, plus_to_space, raw_pairs};
 ghost use Rattle.sw_listing.specs.Queries.{delimiter_of, fault_of, is_bad_delimiter, is_numeral, is_on, is_word, limit_of, ReadsAs, value_of};
 ghost use Rattle.sw_listing.specs.declared.bad_query.BadQuery.{BadQuery};
 
@@ -22,11 +22,12 @@ impl Query {
     /// `marker`, `end_marker`, `prefix`, `delimiter`, `reverse` and `format`; others are passed over, and of a name that
     /// stands several times the last counts. A limit that isn't a number counts as absent.
     ///
-    /// [`BadQuery`] says what is wrong with the first value that can't be meant.
+    /// [`BadQuery`] says what is wrong with the first value that can't be meant. A text without any name takes no memory.
     pub fn read(alloc: Global, query: &[u8]) -> Result<Query, BadQuery>
         ensures reads { IfOk result (λ read. ReadsAs query.now read) }
         ensures good { IfOk result (λ _. fault_of query.now ≡ None) }
         ensures bad { IfErr result (λ bad. bad ≢ BadQuery.NoMemory → fault_of query.now ≡ Some bad) }
+        ensures starved { result ≡ Err BadQuery.NoMemory → raw_pairs query.now ≢ [] }
     {
         let marker = value_of(alloc, query, b"marker")?;
         let end_marker = value_of(alloc, query, b"end_marker")?;
@@ -64,9 +65,10 @@ impl Query {
 
 /// The last value of this name; an empty text where there is none.
 fn value_of(alloc: Global, query: &[u8], name: &[u8]) -> Result<Bytes, NoMemory>
-    ensures { IfOk result (λ value. value ≡ value_of name.now query.now) }
+    ensures value { IfOk result (λ value. value ≡ value_of name.now query.now) }
+    ensures starved { OnErr result (raw_pairs query.now ≢ []) }
 {
-    let mut value = Bytes::copy(alloc, b"")?;
+    let mut value = Bytes::from(Vec::new(alloc));
     for (pair_name, pair_value) in raw_pairs(query) {
         if decoded(alloc, pair_name)?.as_slice() == name {
             value = decoded(alloc, pair_value)?;

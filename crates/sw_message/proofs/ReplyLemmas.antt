@@ -1,10 +1,12 @@
 -- What is pushed to make a reply's text.
 use Rattle.std.proofs.Common.{◌≡◌, ℕ, Bool, true, false, [], length, ap, ◌<◌, ◌≤◌, ◌⊎◌, inl, inr, List, ◌++◌, Option, None, Some, refl, ◌∙◌, arith}
 use Rattle.std.proofs.Common.{append_assoc, lit≤}
-use Rattle.std.specs.Prelude.{if◌then◌else◌, ◌==◌, codes, decimal, MatchBool}
+use Rattle.std.proofs.Common.{lit<, length-append}
+use Rattle.std.specs.Prelude.{if◌then◌else◌, ◌==◌, codes, decimal, unwrap_or, MatchBool}
+use Rattle.std.proofs.lemmas.Fmt.{length-decimal-le}
 use Rattle.std.proofs.lemmas.Bool.{cond-true, cond-false, ne_eqb}
 use Rattle.httparse.specs.Ascii.{crlf_bytes}
-use Rattle.sw_message.specs.Reply.{CarriesItsLength, has_no_body, body_length, carried, length_line, body_bytes}
+use Rattle.sw_message.specs.Reply.{CarriesItsLength, FitsItsRoom, has_no_body, body_length, carried, length_line, body_bytes, reply_text}
 use Rattle.sw_message.specs.declared.response.ReplyBody.{ReplyBody}
 use Rattle.sw_message.specs.declared.response.ReplyBody.TheVariants.{Whole, LeftOut}
 use Rattle.http.specs.StatusCode.{reason_phrase}
@@ -62,3 +64,51 @@ carries_its_length r = go (has_no_body r.status) refl
     go false none =
         let bytes : body_bytes r ≡ carried r.body = cond-false _ _ _ none in
         (cond-false _ _ _ none, elim (bytes_of r.body) [ inl nothing ↦ inl (bytes ∙ nothing) | inr size ↦ inr (ap length bytes ∙ size) ])
+
+-- ---- room
+
+-- one reason more
+one_reason : (phrase : List ℕ) (rest : Option (List ℕ)) (b : Bool) → length phrase ≤ 40 → length (unwrap_or rest []) ≤ 40
+    → length (unwrap_or (if b then Some phrase else rest) []) ≤ 40
+one_reason phrase rest true short others = short
+one_reason phrase rest false short others = others
+
+-- no reason is long
+pub short_reason : (n : ℕ) → length (unwrap_or (reason_phrase n) []) ≤ 40
+short_reason n =
+    (one_reason _ _ (n == 100) (lit≤ tt) (one_reason _ _ (n == 101) (lit≤ tt) (one_reason _ _ (n == 102) (lit≤ tt)
+    (one_reason _ _ (n == 103) (lit≤ tt) (one_reason _ _ (n == 200) (lit≤ tt) (one_reason _ _ (n == 201) (lit≤ tt)
+    (one_reason _ _ (n == 202) (lit≤ tt) (one_reason _ _ (n == 203) (lit≤ tt) (one_reason _ _ (n == 204) (lit≤ tt)
+    (one_reason _ _ (n == 205) (lit≤ tt) (one_reason _ _ (n == 206) (lit≤ tt) (one_reason _ _ (n == 207) (lit≤ tt)
+    (one_reason _ _ (n == 208) (lit≤ tt) (one_reason _ _ (n == 226) (lit≤ tt) (one_reason _ _ (n == 300) (lit≤ tt)
+    (one_reason _ _ (n == 301) (lit≤ tt) (one_reason _ _ (n == 302) (lit≤ tt) (one_reason _ _ (n == 303) (lit≤ tt)
+    (one_reason _ _ (n == 304) (lit≤ tt) (one_reason _ _ (n == 305) (lit≤ tt) (one_reason _ _ (n == 307) (lit≤ tt)
+    (one_reason _ _ (n == 308) (lit≤ tt) (one_reason _ _ (n == 400) (lit≤ tt) (one_reason _ _ (n == 401) (lit≤ tt)
+    (one_reason _ _ (n == 402) (lit≤ tt) (one_reason _ _ (n == 403) (lit≤ tt) (one_reason _ _ (n == 404) (lit≤ tt)
+    (one_reason _ _ (n == 405) (lit≤ tt) (one_reason _ _ (n == 406) (lit≤ tt) (one_reason _ _ (n == 407) (lit≤ tt)
+    (one_reason _ _ (n == 408) (lit≤ tt) (one_reason _ _ (n == 409) (lit≤ tt) (one_reason _ _ (n == 410) (lit≤ tt)
+    (one_reason _ _ (n == 411) (lit≤ tt) (one_reason _ _ (n == 412) (lit≤ tt) (one_reason _ _ (n == 413) (lit≤ tt)
+    (one_reason _ _ (n == 414) (lit≤ tt) (one_reason _ _ (n == 415) (lit≤ tt) (one_reason _ _ (n == 416) (lit≤ tt)
+    (one_reason _ _ (n == 417) (lit≤ tt) (one_reason _ _ (n == 418) (lit≤ tt) (one_reason _ _ (n == 421) (lit≤ tt)
+    (one_reason _ _ (n == 422) (lit≤ tt) (one_reason _ _ (n == 423) (lit≤ tt) (one_reason _ _ (n == 424) (lit≤ tt)
+    (one_reason _ _ (n == 425) (lit≤ tt) (one_reason _ _ (n == 426) (lit≤ tt) (one_reason _ _ (n == 428) (lit≤ tt)
+    (one_reason _ _ (n == 429) (lit≤ tt) (one_reason _ _ (n == 431) (lit≤ tt) (one_reason _ _ (n == 451) (lit≤ tt)
+    (one_reason _ _ (n == 500) (lit≤ tt) (one_reason _ _ (n == 501) (lit≤ tt) (one_reason _ _ (n == 502) (lit≤ tt)
+    (one_reason _ _ (n == 503) (lit≤ tt) (one_reason _ _ (n == 504) (lit≤ tt) (one_reason _ _ (n == 505) (lit≤ tt)
+    (one_reason _ _ (n == 506) (lit≤ tt) (one_reason _ _ (n == 507) (lit≤ tt) (one_reason _ _ (n == 508) (lit≤ tt)
+    (one_reason _ _ (n == 510) (lit≤ tt) (one_reason _ _ (n == 511) (lit≤ tt) (lit≤ tt)))))))))))))))))))))))))))))))))))))))))))))))))))))))))))))))
+
+no_longer : (none : Bool) (text : List ℕ) (k : ℕ) → length text ≤ k → length (if none then [] else text) ≤ k
+no_longer true text k fits = omega (arith, fits)
+no_longer false text k fits = fits
+
+-- the text of a reply fits the room that is made for it
+pub fits_room : FitsItsRoom
+unfolding reply_text
+fits_room r status size =
+    let number = length-decimal-le 20 r.status (lit< tt) (omega (arith, status)) status in
+    let count = length-decimal-le 20 (body_length r.body) (lit< tt) (omega (arith, size)) size in
+    let reason = short_reason r.status in
+    let line : length (length_line r) ≤ 38 = no_longer (has_no_body r.status) _ 38 (grind (arith, length-append, count)) in
+    let body : length (body_bytes r) ≤ length (carried r.body) = no_longer (has_no_body r.status) _ _ (omega arith) in
+    grind (arith, length-append, number, reason, line, body)

@@ -1,5 +1,5 @@
 -- The text of a reply. (RFC 9112 sections 4 and 5; which fields a reply has is the server's choice.)
-use Rattle.std.specs.Prelude.{◌≡◌, ◌⊎◌, ℕ, Bool, List, [], ◌++◌, length, decimal, unwrap_or, codes, ◌==◌, ◌||◌, if◌then◌else◌, MatchBool}
+use Rattle.std.specs.Prelude.{◌≡◌, ◌⊎◌, ℕ, ◌+◌, ◌^◌, ◌<◌, ◌≤◌, Bool, List, [], ◌++◌, length, decimal, unwrap_or, codes, ◌==◌, ◌||◌, if◌then◌else◌, MatchBool}
 use Rattle.std.specs.List.{flat_map}
 use Rattle.http.specs.StatusCode.{reason_phrase}
 use Rattle.httparse.specs.Ascii.{crlf_bytes}
@@ -41,6 +41,14 @@ body_bytes r = if has_no_body r.status then [] else carried r.body
 -- all bytes of a reply
 unfoldable pub reply_text : Response → List ℕ
 reply_text r = status_line r.status ++ (flat_map field_line r.fields ++ (length_line r ++ (crlf_bytes ++ body_bytes r)))
+
+-- room for the text of a reply: what its fields and its body take, and 128 bytes for the other lines
+abbrev pub room_for : Response → ℕ
+room_for r = (length (carried r.body) + 128) + length (flat_map field_line r.fields)
+
+-- The text of a reply takes no more than that, where its numbers are of 64 bits.
+abbrev pub FitsItsRoom : Type 0
+FitsItsRoom = (r : Response) → r.status < 2 ^ 64 → body_length r.body < 2 ^ 64 → length (reply_text r) ≤ room_for r
 
 -- A reply carries as many bytes as its length says, or none: none where it has no length.
 abbrev pub CarriesItsLength : Type 0

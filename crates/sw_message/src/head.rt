@@ -1,7 +1,8 @@
 ghost use Rattle.std.specs.Prelude.{◌≡◌, ◌↔◌, ◌≤◌, IsTrue, length};
+ghost use Rattle.httparse.specs.Grammar.{MayBecomeRequest};
 ghost use Rattle.httparse.specs.Pieces.{Stops, is_newline};
 ghost use Rattle.sw_message.specs.Head.{IsHeadAt, HasNoHead, IsPath};
-ghost use Rattle.sw_message.specs.Look.{IsLook};
+ghost use Rattle.sw_message.specs.Look.{IsLook, OnNotYet};
 
 use crate::limits::MAX_HEAD;
 use crate::look::Look;
@@ -27,10 +28,13 @@ fn is_path(target: &[u8]) -> bool
 }
 
 /// Looks for a head in front of bytes that don't begin with a line end.
+///
+/// [`Look::NotYet`] comes only where more bytes can make one of them: what can't become a head is told at once.
 pub fn find_head(bytes: &[u8], headers: &mut [HeaderSpan]) -> Look<RequestSpans>
     requires room { length headers.old ≡ 128 }
     requires begins { Stops is_newline bytes.now }
-    ensures { IsLook (IsHeadAt bytes.now headers.new) HasNoHead bytes.now result }
+    ensures look { IsLook (IsHeadAt bytes.now headers.new) HasNoHead bytes.now result }
+    ensures unfinished { OnNotYet result (MayBecomeRequest bytes.now) }
 {
     match parse_request(bytes, headers) {
         Ok(Status::Complete(spans)) => {

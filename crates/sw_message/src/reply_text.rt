@@ -1,7 +1,7 @@
-ghost use Rattle.std.specs.Prelude.{◌≡◌, ◌++◌, [], decimal, unwrap_or, IfOk, OnOk};
+ghost use Rattle.std.specs.Prelude.{◌≡◌, ◌-◌, ◌^◌, ◌++◌, ℕ, [], min, decimal, unwrap_or, IfOk, OnOk};
 ghost use Rattle.std.specs.List.{flat_map};
 ghost use Rattle.http.specs.StatusCode.{reason_phrase};
-ghost use Rattle.sw_message.specs.Reply.{status_line, field_line, length_line, body_bytes, body_length, carried, has_no_body, reply_text};
+ghost use Rattle.sw_message.specs.Reply.{status_line, field_line, length_line, body_bytes, body_length, carried, has_no_body, reply_text, room_for};
 
 use crate::fields::Field;
 use crate::response::{ReplyBody, Response};
@@ -114,7 +114,9 @@ fn push_body(text: &mut Vec<u8>, response: &Response) -> Result<(), AllocError>
 }
 
 /// How many bytes the text of a reply has at most, so that one allocation serves.
-fn text_room(response: &Response) -> usize {
+fn text_room(response: &Response) -> usize
+    ensures { result ≡ min (room_for response.now) (2 ^ 64 - 1) }
+{
     let mut room = carried(&response.body).len().saturating_add(LINES_ROOM);
     for field in response.fields.as_slice() {
         room = room

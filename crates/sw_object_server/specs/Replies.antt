@@ -47,6 +47,12 @@ made_reply (kinds.Put content) = created content.etag
 made_reply (kinds.Meta heads) = bare 202
 made_reply kinds.Del = bare 204
 
+-- whether that reply shows the ETag of what was put
+abbrev pub shows_etag : Kind → Bool
+shows_etag (kinds.Put content) = true
+shows_etag (kinds.Meta heads) = false
+shows_etag kinds.Del = false
+
 -- the reply to a write whose step had this answer; the first argument is the reply where it was made
 abbrev pub reply_to : Response → Answer → Response
 reply_to made (answers.Done front) = made

@@ -1,6 +1,7 @@
-ghost use Rattle.std.specs.Prelude.{IfOk};
+ghost use Rattle.std.specs.Prelude.{IfOk, OnErr};
 ghost use Rattle.sw_object_server.specs.Targets.{parts_of as parts_of_path};
 ghost use Rattle.sw_object_server.specs.Asking.{IsAsked};
+ghost use Rattle.sw_object_server.specs.Requirements.{HasVerb, IsForObjects};
 ghost use Rattle.sw_object_server.specs.Reading.{AsksDevice, AsksName, Deletes, IsTimed, IsVerdict, Posts, Puts};
 ghost use Rattle.sw_object_server.specs.Places.{IsHashed, IsPlaced};
 
@@ -21,9 +22,11 @@ use sw_ring::Ring;
 /// What a request asks the nodes of a ring for, or the status that refuses it. Its body is moved, and nothing of it copied.
 ///
 /// A request whose path has fewer than five segments, or that is a container's row, isn't this server's, and is refused as a bad one.
+/// Such a refusal, and that of another method, takes no memory.
 pub fn read_request(alloc: Global, ring: &Ring, request: Request) -> Result<Asked, NoMemory>
     ensures asked { IfOk result (IsAsked ring.now request) }
     ensures placed { IfOk result (IsPlaced ring.now) }
+    ensures err { OnErr result (IsForObjects request × HasVerb request) }
 {
     if !is_for_objects(&request) {
         return Ok(Asked::Refused(400));

@@ -3,7 +3,8 @@ ghost use Rattle.sw_hashpath.specs.BadFiles.{bad_file_number as bad_file_number_
 ghost use Rattle.sw_peer.specs.Steps.{write_of};
 ghost use Rattle.sw_timestamp.specs.TimeText.{normal_text};
 ghost use Rattle.sw_object_server.specs.Replies.{at_time as at_time_reply, bare as bare_reply, created as created_reply, damaged as damaged_reply};
-ghost use Rattle.sw_object_server.specs.Replies.{made_reply as made_reply_to, not_found as not_found_reply, reply_to as reply_to_answer, shows_field};
+ghost use Rattle.sw_object_server.specs.Replies.{made_reply as made_reply_to, not_found as not_found_reply};
+ghost use Rattle.sw_object_server.specs.Replies.{reply_to as reply_to_answer, shows_etag, shows_field};
 ghost use Rattle.sw_object_server.specs.Replies.{with_field as with_field_reply};
 
 use itoa::Buffer;
@@ -26,9 +27,10 @@ pub fn bare(alloc: Global, status: u16) -> Response
     }
 }
 
-/// The reply to a change that was made.
+/// The reply to a change that was made. Only that to what was put needs memory, for its ETag.
 pub fn made_reply(alloc: Global, change: &Change) -> Result<Response, NoMemory>
-    ensures { IfOk result (λ response. response ≡ made_reply_to (write_of change.now).kind) }
+    ensures ok { IfOk result (λ response. response ≡ made_reply_to (write_of change.now).kind) }
+    ensures err { OnErr result (shows_etag (write_of change.now).kind ≡ true) }
 {
     match change {
         Change::Put { content, .. } => created(alloc, &content.etag),
@@ -40,7 +42,8 @@ pub fn made_reply(alloc: Global, change: &Change) -> Result<Response, NoMemory>
 
 /// The reply to a write of this kind that was taken over.
 fn received(alloc: Global, kind: &Kind) -> Result<Response, NoMemory>
-    ensures { IfOk result (λ response. response ≡ made_reply_to kind.now) }
+    ensures ok { IfOk result (λ response. response ≡ made_reply_to kind.now) }
+    ensures err { OnErr result (shows_etag kind.now ≡ true) }
 {
     match kind {
         Kind::Put(content) => created(alloc, &content.etag),

@@ -8,7 +8,8 @@ use Rattle.std.proofs.lemmas.Grind.{flat_map-append}
 use Rattle.std.proofs.lemmas.List.{map-append}
 use Rattle.std.proofs.lemmas.List.Elements.{All-nil, All-push}
 use Rattle.sw_outside.specs.Counts.{raised}
-use Rattle.sw_http.specs.Continue.{puts_after}
+use Rattle.sw_http.specs.Continue.{IsCutShort, puts_after}
+use Rattle.sw_http.specs.Input.{IfSeen}
 use Rattle.sw_http.specs.Request.{Parts, AreParts, request_of, text_of}
 use Rattle.sw_http.specs.Reading.{BeginsWith}
 use Rattle.sw_message.specs.declared.request.Request.{Request}
@@ -16,7 +17,7 @@ use Rattle.sw_message.specs.declared.response.Response.{Response}
 use Rattle.sw_session.specs.Passages.{Passage}
 use Rattle.sw_session.specs.Replies.{Halts, Serves, Replies, written_for}
 use Rattle.sw_session.specs.Session.{SoFar, Closed, Complete, Full, Broken, HaltedAt, IsSession, IsSound, IsWhole, most_requests}
-use Rattle.sw_session.specs.Session.{PutsBehind, PutsForSession, puts_for}
+use Rattle.sw_session.specs.Session.{PutsBehind, PutsForSession, WaitsForMore, puts_for}
 use Rattle.sw_session.specs.Turn.{AnswersOne, MayTell, MayTellAndPuts, PutsForTurn, TakesAndPuts, TakesAndTells}
 use Rattle.sw_session.specs.Turn.{CutsReply, HaltsTurn, Idles, IsCounted, IsTurn, Replied, StopsBetween}
 use Rattle.sw_session.specs.declared.server.ServerFault.{ServerFault}
@@ -429,3 +430,14 @@ fault_put last may halts mid after input left rest then_taken now_taken moments 
     ends_behind input left _ _ calls then (λ left mid. (behind : Option (List ℕ)) × TakesAndTells left behind mid now) so_far
     (one_fewer moments moments_now turn.0 turn.1) (rest, puts)
 fault_put last may halts mid after input left rest then_taken now_taken moments moments_now calls then now faults.TooLong so_far turn puts = absurd turn
+
+-- a read failed in a turn: no whole request was seen behind those that were answered
+pub waits_behind : {S : Type 0} (last : Request → Bool) (may : Serves S) (halts : Halts S) (mid after : S)
+    (input left rest then_taken now_taken source_left : Option (List ℕ)) (moments moments_now : List ℕ) (calls then now : ℕ) (fault : SessionFault)
+    → PutsSoFar input left (length moments) calls then
+    → IsTurn last may halts mid after moments moments_now left rest then_taken now_taken (Err fault) → fault ≡ faults.ReadFault
+    → IfSeen left source_left (IsCutShort then_taken now_taken then now) → WaitsForMore input source_left now_taken moments_now calls now
+waits_behind last may halts mid after input left rest then_taken now_taken source_left moments moments_now calls then now fault so_far turn is seen =
+    let idles = (subst (λ (f : SessionFault). IsTurn last may halts mid after moments moments_now left rest then_taken now_taken (Err f)) is turn).0 in
+    ends_behind input left _ _ calls then (λ rest told_by. (w : Option (List ℕ)) × IfSeen rest source_left (IsCutShort w now_taken told_by now)) so_far
+    (ap length (sym idles.no_moment)) (then_taken, seen)

@@ -5,7 +5,8 @@
 use Rattle.std.specs.Prelude.{◌≡◌, ℕ, ◌-◌, ◌<◌, Bool, true, false, List, [], ◌∷◌, ◌++◌, length, All, ⊤, Option, IfSome, Result, Ok, Err, ◌⊎◌}
 use Rattle.std.specs.Io.KnownBytes.{Appends, IsAtEnd}
 use Rattle.sw_outside.specs.Counts.{raised}
-use Rattle.sw_http.specs.Continue.{puts_after}
+use Rattle.sw_http.specs.Continue.{IsCutShort, puts_after}
+use Rattle.sw_http.specs.Input.{IfSeen}
 use Rattle.sw_http.specs.Reading.{BeginsWith}
 use Rattle.sw_http.specs.Request.{IsSkipped, request_of}
 use Rattle.sw_message.specs.declared.request.Request.{Request}
@@ -156,6 +157,13 @@ pub record PutsBehind (input : Option (List ℕ)) (count calls : ℕ) (ends : Op
   pub rest : Option (List ℕ)
   pub begins : BeginsWith input requests rest
   pub end : ends rest (puts_for requests calls)
+
+-- A read failed when these first bytes of the input had been seen: the texts of the requests that were answered, and a rest in which no whole
+-- request stands. So what came whole was answered before more was asked for, and a client that waits for a reply has it; and its next request had
+-- been told what its head asks for, in one call, where that head had come.
+abbrev pub WaitsForMore : Option (List ℕ) → Option (List ℕ) → Option (List ℕ) → List ℕ → ℕ → ℕ → Type 0
+WaitsForMore input left taken moments calls calls_now = PutsBehind input (length moments) calls
+    (λ rest told_by. (written : Option (List ℕ)) × IfSeen rest left (IsCutShort written taken told_by calls_now))
 
 -- How many calls of the sink a session made, by what its loop answered: those for the requests that were answered, each at a moment of its own,
 -- and those of what ended it. Where that is one request more, the last moment is that one's.

@@ -2,7 +2,9 @@ ghost use Rattle.std.specs.Prelude.{◌≡◌, ℕ, List, OnOk, Option, None, Ok
 ghost use Rattle.std.specs.Io.KnownBytes.{IsAtEnd, prepend_known};
 ghost use Rattle.sw_outside.specs.Readings.{TicksEach};
 ghost use Rattle.sw_session.specs.Passages.{passage};
-ghost use Rattle.sw_session.specs.Session.{IsSession, PutsForSession};
+ghost use Rattle.sw_http.specs.Continue.{IsCutShort};
+ghost use Rattle.sw_http.specs.Input.{IfSeen};
+ghost use Rattle.sw_session.specs.Session.{IsSession, PutsForSession, WaitsForMore};
 ghost use Rattle.sw_session.specs.declared.session.Turned.TheVariants as turns;
 ghost use Rattle.sw_session.specs.Turn.{IsCounted, IsReceived, IsRefusal, IsTurn, PutsForReading, PutsForRefusal, PutsForTurn};
 
@@ -83,6 +85,8 @@ fn receive<R: Source, W: Sink>(
         (W.taken out.new) result }
     ensures at_end { result ≡ Ok None → IsAtEnd (R.left source.new) }
     ensures counted { IsCounted (R.faults source.old) (R.faults source.new) (W.faults out.old) (W.faults out.new) result }
+    ensures seen { result ≡ Err SessionFault.ReadFault → IfSeen (prepend_known held.old (R.left source.old)) (R.left source.new)
+        (IsCutShort (W.taken out.old) (W.taken out.new) (W.calls out.old) (W.calls out.new)) }
     ensures puts { PutsForReading (prepend_known held.old (R.left source.old)) (W.calls out.old) (W.calls out.new) result }
     ensures source_number { R.number source.new ≡ R.number source.old }
     ensures sink_number { W.number out.new ≡ W.number out.old }
@@ -128,6 +132,8 @@ fn turn<V: Server, R: Source, W: Sink, C: Clock>(
         → TicksEach start (C.readings clock.new) moments.new.items }
     ensures at_end { result ≡ Ok turns.Ended → IsAtEnd (R.left source.new) }
     ensures counted { IsCounted (R.faults source.old) (R.faults source.new) (W.faults out.old) (W.faults out.new) result }
+    ensures seen { result ≡ Err SessionFault.ReadFault → IfSeen (prepend_known held.old (R.left source.old)) (R.left source.new)
+        (IsCutShort (W.taken out.old) (W.taken out.new) (W.calls out.old) (W.calls out.new)) }
     ensures puts { PutsForTurn (prepend_known held.old (R.left source.old)) (prepend_known held.new (R.left source.new)) (W.calls out.old)
         (W.calls out.new) result }
     ensures source_number { R.number source.new ≡ R.number source.old }
@@ -167,6 +173,10 @@ pub fn serve<V: Server, R: Source, W: Sink, C: Clock>(
     ensures session { IsSession V.last V.serves V.halts server.old (passage R.left R.faults source.old source.new) (passage W.taken W.faults out.old out.new)
         moments.new.items server.new result }
     ensures ticks { TicksEach (C.readings clock.old) (C.readings clock.new) moments.new.items }
+
+    // A read is made only where all that came whole was answered: else one that fails would break this.
+    ensures waits { result ≡ Err SessionFault.ReadFault → WaitsForMore (R.left source.old) (R.left source.new) (W.taken out.new) moments.new.items
+        (W.calls out.old) (W.calls out.new) }
 
     // Each reply is one call of the sink, and so is what tells a client to go on, and a refusal. No other call is made.
     ensures puts { PutsForSession (R.left source.old) moments.new.items (W.calls out.old) (W.calls out.new) result }

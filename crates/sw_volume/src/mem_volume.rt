@@ -101,6 +101,7 @@ impl Volume for MemVolume {
 
     fn read(&mut self, alloc: Global, dir: &[u8], file: &[u8]) -> Result<Option<Bytes>, VolumeError>
         ensures value { IfOk result (λ found. true ≡ true → found ≡ contents self.old.folders dir.now file.now) }
+        ensures starved { OnNoMemory result (true ≡ true → IsSome (contents self.old.folders dir.now file.now)) }
         ensures same { true ≡ true → IsSame (contents self.old.folders) (contents self.new.folders) }
         ensures told { true ≡ true }
         ensures cause { HasCause self.old.faults self.new.faults result }

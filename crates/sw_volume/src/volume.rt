@@ -68,9 +68,10 @@ pub trait Volume {
         ensures calls { calls self.new ≡ raised (calls self.old) }
         ensures lists { lists self.new ≡ raised (lists self.old) };
 
-    /// What stands at the path, or `None` where no file does.
+    /// What stands at the path, or `None` where no file does: that takes no memory.
     fn read(&mut self, alloc: Global, dir: &[u8], file: &[u8]) -> Result<Option<Bytes>, VolumeError>
         ensures value { IfOk result (λ found. tells self.old ≡ true → found ≡ contents (holds self.old) dir.now file.now) }
+        ensures starved { OnNoMemory result (tells self.old ≡ true → IsSome (contents (holds self.old) dir.now file.now)) }
         ensures same { tells self.old ≡ true → IsSame (contents (holds self.old)) (contents (holds self.new)) }
         ensures told { tells self.new ≡ tells self.old }
         ensures cause { HasCause (faults self.old) (faults self.new) result }

@@ -2,4 +2,4 @@ use Rattle.sw_http.proofs.BodyLemmas.{no_body_taken}
 use Rattle.sw_http.proofs.body.take_body.Goals as goal
 
 pub returns-in_ok-unread_body-in-Unframed-clause-taken : goal.returns-in_ok-unread_body-in-Unframed-clause-taken
-returns-in_ok-unread_body-in-Unframed-clause-taken g c = rw c.in-Unframed.is (no_body_taken _ _ _ c.in_ok-unread_body-in-Unframed.ensures)
+returns-in_ok-unread_body-in-Unframed-clause-taken g c = rw c.in-Unframed.is (no_body_taken _ _ _ c.in_ok-unread_body-in-Unframed.ensures.unread)

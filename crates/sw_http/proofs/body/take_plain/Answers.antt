@@ -8,7 +8,7 @@ use Rattle.sw_http.proofs.body.take_plain.Goals as goal
 
 pub returns-then-branch-clause-taken : goal.returns-then-branch-clause-taken
 returns-then-branch-clause-taken g c =
-    plain_taken _ _ _ _ _ _ c.in_ok-body.ensures (c.in_ok-take_content.ensures.taken (ap Ok c.if-branch.true)) (omega arith)
+    plain_taken _ _ _ _ _ _ c.in_ok-body.ensures.unread (c.in_ok-take_content.ensures.taken (ap Ok c.if-branch.true)) (omega arith)
 
 pub returns-else-branch-clause-none : goal.returns-else-branch-clause-none
 returns-else-branch-clause-none g c _ =

@@ -1,7 +1,11 @@
-use Rattle.std.proofs.Common.{ℕ, ◌≤◌, List, length, refl, arith, sym, subst, ◌∙◌}
+use Rattle.std.proofs.Common.{rules, ℕ, ◌<◌, ◌≤◌, List, length, refl, arith, sym, subst, ◌∙◌}
 use Rattle.std.proofs.KnownBytes.{Keeps-refl, Keeps-trans}
 use Rattle.sw_message.specs.Head.{HasNoHead}
 use Rattle.sw_message.proofs.HeadLemmas.{no_head_in_none, never_long}
+use Rattle.httparse.specs.Grammar.{MayBecomeRequest}
+use Rattle.sw_http.specs.Fronts.{IsUnfinished}
+use Rattle.sw_http.specs.Opening.{IsHeadCut}
+use Rattle.sw_http.proofs.InputLemmas.{unfinished_none, unfinished_still, front_read, longer_read, seen_still}
 use Rattle.sw_http.proofs.InputLemmas.{kept_read, read_none, if_kept, if_always, if_ended}
 use Rattle.sw_http.proofs.head.read_head.Goals as goal
 
@@ -11,6 +15,7 @@ loop-spans-init g c = record {
   within = omega arith;
   begins = c.requires.begins;
   none_seen = no_head_in_none _ refl;
+  unfinished = unfinished_none _;
   kept = Keeps-refl _;
   sound = omega arith;
   same = omega arith;
@@ -18,13 +23,40 @@ loop-spans-init g c = record {
 
 pub returns-then-seen-ge-MAX_HEAD-clause-none : goal.returns-then-seen-ge-MAX_HEAD-clause-none
 returns-then-seen-ge-MAX_HEAD-clause-none g c _ =
-    let none_there = subst HasNoHead c.rest.ensures c.in-NotYet.ensures in
+    let none_there = subst HasNoHead c.rest.ensures c.in-NotYet.ensures.look in
     let long = subst (λ (l : List ℕ). 65536 ≤ length l) c.rest-seen.ensures c.if-seen-ge-MAX_HEAD.true in
     if_kept _ _ HasNoHead c.loop-spans.invariant.kept (if_always _ _ HasNoHead (never_long _ none_there long))
 
 pub returns-then-branch-eq0-clause-none : goal.returns-then-branch-eq0-clause-none
 returns-then-branch-eq0-clause-none g c _ =
     let read = c.in_ok-read_more.ensures.read in
-    let none_there = subst HasNoHead (c.rest.ensures ∙ sym (read_none _ _ _ _ _ read c.if-branch-eq0.true)) c.in-NotYet.ensures in
+    let none_there = subst HasNoHead (c.rest.ensures ∙ sym (read_none _ _ _ _ _ read c.if-branch-eq0.true)) c.in-NotYet.ensures.look in
     if_kept _ _ HasNoHead (Keeps-trans _ _ _ c.loop-spans.invariant.kept (kept_read _ _ _ _ _ read))
     (if_ended _ _ HasNoHead none_there (read.at_end c.if-branch-eq0.true))
+
+pub loop-spans-preserved : goal.loop-spans-preserved
+loop-spans-preserved g c =
+    let read = c.in_ok-read_more.ensures.read in
+    let none_there = subst HasNoHead c.rest.ensures c.in-NotYet.ensures.look in
+    let still = unfinished_still MayBecomeRequest _ _ (rw c.rest.ensures c.loop-spans.invariant.unfinished) c.in-NotYet.ensures.unfinished in
+    record {
+      room = search rules;
+      within = rw c.rest-seen.ensures (longer_read _ _ _ _ _ read);
+      begins = search rules;
+      none_seen = rw c.rest-seen.ensures (front_read HasNoHead _ _ _ _ _ none_there read);
+      unfinished =
+          rw c.rest-seen.ensures (front_read (IsUnfinished MayBecomeRequest) _ _ _ _ _ (subst (IsUnfinished MayBecomeRequest) c.rest.ensures still) read);
+      kept = Keeps-trans _ _ _ c.loop-spans.invariant.kept (kept_read _ _ _ _ _ read);
+      sound = search rules;
+      same = search rules;
+    }
+
+pub returns-in_err-read_more-clause-cut : goal.returns-in_err-read_more-clause-cut
+returns-in_err-read_more-clause-cut g c e =
+    let still = unfinished_still MayBecomeRequest _ _ (rw c.rest.ensures c.loop-spans.invariant.unfinished) c.in-NotYet.ensures.unfinished in
+    seen_still _ c.loop-spans.held _ _ _ IsHeadCut c.loop-spans.invariant.kept c.in_err-read_more.ensures.read.0 c.in_err-read_more.ensures.read.1 (record {
+      begins = c.loop-spans.invariant.begins;
+      none = subst HasNoHead c.rest.ensures c.in-NotYet.ensures.look;
+      short = subst (λ (l : List ℕ). length l < 65536) c.rest-seen.ensures c.if-seen-ge-MAX_HEAD.false;
+      unfinished = subst (IsUnfinished MayBecomeRequest) c.rest.ensures still;
+    })

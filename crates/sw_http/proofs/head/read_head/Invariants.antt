@@ -1,6 +1,8 @@
 use Rattle.std.proofs.Common.{◌≡◌, ◌≤◌, ◌+◌, ◌-◌, length, take}
 use Rattle.std.specs.Io.KnownBytes.{Keeps, prepend_known}
+use Rattle.httparse.specs.Grammar.{MayBecomeRequest}
 use Rattle.httparse.specs.Pieces.{Stops, is_newline}
+use Rattle.sw_http.specs.Fronts.{IsUnfinished}
 use Rattle.sw_message.specs.Head.{HasNoHead}
 use Rattle.sw_http.proofs.head.read_head.Given as goal
 
@@ -11,6 +13,7 @@ invariant-loop-spans g l = record {
   within : l.seen ≤ length l.held;
   begins : Stops is_newline l.held;
   none_seen : HasNoHead (take l.seen l.held);
+  unfinished : IsUnfinished MayBecomeRequest (take l.seen l.held);
   kept : Keeps (prepend_known l.initial.held (g.R.Source.left l.initial.source)) (prepend_known l.held (g.R.Source.left l.source));
   sound : g.R.Source.faults l.source ≡ g.R.Source.faults l.initial.source;
   same : g.R.Source.number l.source ≡ g.R.Source.number l.initial.source;

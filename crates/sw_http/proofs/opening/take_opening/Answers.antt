@@ -30,4 +30,4 @@ pub returns-in_err-open-clause-cut : goal.returns-in_err-open-clause-cut
 returns-in_err-open-clause-cut g c e =
     let exit = err_from_is_err_and c.from_residual-in_err-open.result c.from_residual-in_err-open.ensures.1 in let given = exit.1 in let same = exit.2 in
     let run = rw c.in-Begun.is at c.in_ok-skipped.ensures.run in
-    opening_cut_head _ _ _ _ run.0 (c.in_err-open.ensures.cut (cc))
+    opening_cut_head _ _ _ _ run.0 run.1 (c.in_err-open.ensures.cut (cc))

@@ -40,7 +40,7 @@ returns-in_err-body-clause-seen g c e =
     let same = exit.2 in
     let opens = rw c.in-Head.is at c.in_ok-open.ensures.opening in
     cut_body _ _ _ _ _ _ _ c.in-Head.open c.in-Head.room opens (c.in_err-body.ensures.told_first (cc)) c.in_err-body.ensures.puts
-    (c.in_err-body.ensures.cut (cc))
+    (c.in_err-body.ensures.framed (cc)) (c.in_err-body.ensures.cut (cc))
 
 pub returns-in_err-body-clause-puts : goal.returns-in_err-body-clause-puts
 returns-in_err-body-clause-puts g c =

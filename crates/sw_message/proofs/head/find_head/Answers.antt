@@ -6,8 +6,8 @@ use Rattle.sw_message.proofs.HeadLemmas.{head_found, never_other}
 use Rattle.sw_message.proofs.head.find_head.Goals as goal
 use Rattle.sw_message.proofs.head.find_head.Goals.{else-is_taken-via-then-is_taken+else-is_path, else-is_taken-via-else-is_taken}
 
-pub returns-then-is_path : goal.returns-then-is_path
-returns-then-is_path c =
+pub returns-then-is_path-clause-look : goal.returns-then-is_path-clause-look
+returns-then-is_path-clause-look c =
     let found = at_complete (IsRequestOf c.args.bytes.now c.parse_request.new.headers) c.in-Ok-Complete.is c.in-Ok-Complete.field-0-is
     c.parse_request.ensures.complete in
     let within = at_complete (IsRequestWithin c.args.bytes.now c.parse_request.new.headers) c.in-Ok-Complete.is c.in-Ok-Complete.field-0-is
@@ -16,8 +16,8 @@ returns-then-is_path c =
     let path = subst IsPath (c.of.ensures ∙ found.1.path) (c.is_path.ensures.0 c.if-is_path.true) in
     head_found _ _ _ found.0 c.requires.begins found.1 within (omega arith) taken.0 taken.1 path
 
-pub returns-else-is_taken : goal.returns-else-is_taken
-returns-else-is_taken c =
+pub returns-else-is_taken-clause-look : goal.returns-else-is_taken-clause-look
+returns-else-is_taken-clause-look c =
     let found = at_complete (IsRequestOf c.args.bytes.now c.parse_request.new.headers) c.in-Ok-Complete.is c.in-Ok-Complete.field-0-is
     c.parse_request.ensures.complete in
     never_other _ found.0 _ found.1.reads λ is.

@@ -10,7 +10,7 @@ returns-clause-ok g c = IfOk-weaker c.reply_to.result _ _
     (λ response is. (
       c.in-Ok.answer,
       record { called = c.in-Ok.ensures.made; asks = c.in-Ok.ensures.asks },
-      is ∙ ap (λ (made : Response). reply_to made c.in-Ok.answer) c.in_ok-made.ensures,
+      is ∙ ap (λ (made : Response). reply_to made c.in-Ok.answer) c.in_ok-made.ensures.ok,
     ))
     c.reply_to.ensures.ok
 

@@ -1,8 +1,9 @@
-use Rattle.std.proofs.Common.{ap, arith, refl, ◌∙◌, Ok}
+use Rattle.std.proofs.Common.{◌≡◌, ap, arith, refl, ◌∙◌, Ok, Err}
 use Rattle.std.specs.Io.KnownBytes.{prepend_known}
 use Rattle.std.proofs.lemmas.Result.{err_from_is_err_and}
 use Rattle.sw_session.specs.Passages.{Passage, passage}
-use Rattle.sw_session.proofs.Ends.{begun_with, ended_by, ended_well, fault_put, filled, none_put, turn_made, turn_put, well_put}
+use Rattle.sw_session.proofs.Ends.{begun_with, ended_by, ended_well, fault_put, filled, none_put, turn_made, turn_put, waits_behind, well_put}
+use Rattle.sw_session.specs.declared.session.SessionFault.TheVariants as faults
 use Rattle.sw_session.proofs.session.serve.Goals as goal
 
 pub loop-init : goal.loop-init
@@ -39,6 +40,13 @@ returns-in_err-turn-clause-puts g c =
     fault_put g.V.Server.last g.V.Server.serves g.V.Server.halts _ _ _ _ _ _ _ _ _ _ _ _ _ c.loop.invariant.puts c.in_err-turn.ensures.turn
     c.in_err-turn.ensures.puts
     )
+
+pub returns-in_err-turn-clause-waits : goal.returns-in_err-turn-clause-waits
+returns-in_err-turn-clause-waits g c e =
+    let exit = err_from_is_err_and c.from_residual.result c.from_residual.ensures.1 in
+    let failed : c.in_err-turn.field-0.0 ≡ faults.ReadFault = cc in
+    waits_behind g.V.Server.last g.V.Server.serves g.V.Server.halts _ _ _ _ _ _ _ _ _ _ _ _ _ c.in_err-turn.field-0.0 c.loop.invariant.puts
+    c.in_err-turn.ensures.turn failed (c.in_err-turn.ensures.seen (ap Err failed))
 
 -- the input ended, or the last request was answered
 pub returns-in-Closed-clause-session : goal.returns-in-Closed-clause-session
