@@ -9,8 +9,8 @@ from .rings import Ring, suffix_of
 
 ACCOUNTS = [b"a", b"a", b"a", b"b", b".a", "\u00e9".encode()]
 CONTAINERS = [b"c", b"c", b"c", b"d", b"c d", b"."]
-OBJECTS = [b"o", b"o", b"o", b"p", b"p/a", b"p/b", b"p/a/x", b"p0", b"q", b"q/", b"/", b"//", b"%", b"%41", b"o?x", b"o#", b'"', b"\\", b"a b", b"o\x01",
-           b"o\x7f", b"\n", "\u00fc".encode(), "\uffff".encode(), "\U00010000".encode(), b"x" * 1024]
+OBJECTS = [b"o", b"o", b"o", b"p", b"p/a", b"p/b", b"p/a/x", b"p0", "p/\U0010ffff".encode(), b"pp", b"p//", b"q", b"q/", b"/", b"//", b"%", b"%41", b"o?x",
+           b"o#", b'"', b"\\", b"a b", b"o\x01", b"o\x7f", b"\n", "\u00fc".encode(), "\uffff".encode(), "\U00010000".encode(), b"x" * 1024]
 BAD_NAMES = [b"", b"z\0", b"\xff", b"\xc3", b"a/b", b"y" * 256, b"y" * 257, b"y" * 1025, b"y" * 2048, b"y" * 2049]
 TIMES = [b"5", b"5", b"5.0", b"6", b"6.00000", b"7", b"7.5", b"8", b"9", b"00009", b"5.00001", b"4.99999", b"0", b"0.00001", b"9999999999.99999",
          b"0000000007.50000"]
@@ -31,8 +31,8 @@ SPARE = [(b"Host", b"h"), (b"X-Container-Host", b"1.2.3.4:6201"), (b"Range", b"b
 MESSAGES = [b"1", b"2", b"3", b"4", b"5", b"02", b"999999999"]
 BAD_MESSAGES = [b"0", b"", b"x", b"1234567890", b"000", b"+1"]
 KEPT = [b"Content-Encoding", b"Content-Disposition", b"Content-Language", b"Cache-Control", b"Expires", b"X-Robots-Tag"]
-QUERY_TEXTS = [b"", b"o", b"p", b"p/", b"p/a", b"p0", b"q", b"q/", b"/", b"a", b"x", "\u00fc".encode(), "\uffff".encode(), b"\xff", b"\xc3", b"%", b"\"",
-               b" ", b"\x7f"]
+QUERY_TEXTS = [b"", b"o", b"p", b"p/", b"p/a", b"p0", "p/\U0010ffff".encode(), b"pp", b"p//", b"q", b"q/", b"/", b"a", b"x", "\u00fc".encode(),
+               "\uffff".encode(), b"\xff", b"\xc3", b"%", b"\"", b" ", b"\x7f"]
 LIMITS = [b"0", b"1", b"2", b"3", b"10000", b"10001", b"", b"x", b"-1", b"+1", b"01", b"0" * 40 + b"2", b"9" * 40, b"1.0", b" 1", b"18446744073709551617"]
 DELIMITERS = [b"/", b"/", b"a", b"p", b"", b"//", "\u00fc".encode(), b"\xff", b"\0", b"\x7f", b" ", b"%", b"0"]
 SWITCHES = [b"true", b"TRUE", b"yes", b"On", b"t", b"Y", b"1", b"0", b"no", b"", b"truE ", b"2"]
@@ -54,6 +54,10 @@ BAD_CHUNKS = [b"\r\n", b"g\r\nabc\r\n0\r\n\r\n", b"3\nabc\r\n0\r\n\r\n", b"3\r\n
               b"4000001\r\nabc\r\n0\r\n\r\n", b"3\r\nabc\r\n0\r\n\r", b"3\r\nabc0\r\n\r\n"]
 
 
+# How often requests are for objects, for containers and rows, for replicas, for control, and odd ones: scripts of all, of objects, of rows, of pushes.
+WEIGHTS = [[50, 28, 6, 15, 0.6], [80, 5, 5, 9, 1], [5, 90, 2, 3, 0.3], [45, 5, 6, 45, 0.3]]
+
+
 class Draw:
     """One script: a ring, and the pieces of an input."""
 
@@ -63,7 +67,8 @@ class Draw:
         self.ring = Ring(self.ring_text)
         self.accounts = [self.one(ACCOUNTS) for _ in range(self.one([1, 1, 2]))]
         self.containers = [self.one(CONTAINERS) for _ in range(self.one([1, 1, 2]))]
-        self.objects = [self.one(OBJECTS) for _ in range(self.one([1, 2, 3, 5, 8]))]
+        self.objects = [self.one(OBJECTS) for _ in range(self.one([1, 2, 3, 5, 8, 20]))]
+        self.weights = [40, 4, 6, 2, 0.5] if serves else self.one(WEIGHTS)
         self.times = self.random.sample(TIMES, self.one([3, 5, len(TIMES)]))
         self.devices = self.random.sample(self.ring.devices, min(2, len(self.ring.devices)))
 
@@ -288,9 +293,10 @@ class Draw:
             other = self.one(self.devices + [self.device()])
             part = self.mostly([self.used_part()], [b"00", b"16", b"x", b"", b"%31", b"0", b"1"], 92)
             method, target = b"POST", b"/.swc/replicate/" + device + b"/" + other + b"/" + part
+            number = self.one(MESSAGES)
             for name in (b"X-Swc-Lose", b"X-Swc-Lose-Reply", b"X-Swc-Repeat"):
-                if self.chance(20):
-                    fields.append((name, self.mostly(MESSAGES, BAD_MESSAGES, 93)))
+                if self.chance(25):
+                    fields.append((name, self.mostly([number], MESSAGES + BAD_MESSAGES, 80)))
         elif kind == "other":
             others = [b"", b"/", b"/trail/", b"/files", b"/files/%s/x" % device, b"/x", b"/pending/%s" % device, b"/trail", b"/tra%69l?x",
                       b"/restart/%s" % device, b"/files/%s" % device, b"/replicate/%s" % device]
@@ -323,12 +329,8 @@ class Draw:
         return start + b"A: b\r\n" * self.one([127, 128, 128, 129]) + b"\r\n"
 
     def request(self):
-        kind = self.random.random() * (60 if self.serves else 100)
-        for bound, draw in ((50, self.object_request), (78, self.container_request), (84, self.replicas_request), (99.4, self.control_request)):
-            if kind < bound:
-                break
-        else:
-            draw = self.odd_request
+        kinds = [self.object_request, self.container_request, self.replicas_request, self.control_request, self.odd_request]
+        draw = self.random.choices(kinds, self.weights)[0]
         skipped = self.one([b"\r\n", b"\n", b"\r", b"\r\n\r\n"]) if self.chance(8) else b""
         return skipped + draw()
 
@@ -425,10 +427,28 @@ def changed_ring(random):
     return before + data + behind
 
 
+PORTS = [b"1", b"80", b"65535", b"65536", b"0", b"00000000000000000080", b"000000000000000000080", b"99999999999999999999", b"x", b"", b"+1"]
+COUNTS = [b"1", b"001", b"65536", b"65537", b"0"]
+
+
+def serve_words(draw):
+    """Words of `serve` with a ring that isn't there or is bad, so that it never listens."""
+    values = {b"--port": PORTS, b"--workers": [b"1", b"1", b"01", b"2", b"0"], b"--connections": COUNTS, b"--passes": [b"0", b"0", b"00", b"1", b"65537"]}
+    options = [(name, draw.mostly(those[:2], those, 75)) for name, those in values.items()]
+    draw.random.shuffle(options)
+    if draw.chance(15):
+        options[draw.random.randrange(4)] = draw.one(options + [(b"--help", b"1"), (b"-p", b"80"), (b"--Port", b"80"), (b"--por", b"80"),
+                                                                (b"--port=80", b"1")])
+    return [b"serve", draw.one([b"none", b"ring", b"", b"-x"])] + [it for pair in options for it in pair]
+
+
 def drawn_words(random):
     """Words of a command line, mostly nearly good. The ring lies in `ring`."""
     draw = Draw(random)
-    if draw.chance(75):
+    if draw.chance(25):
+        words = serve_words(draw)
+        draw.ring_text = draw.one([b"{", b"{}", b"[]", b""])
+    elif draw.chance(75):
         names = [draw.mostly([draw.account()], BAD_NAMES, 85), draw.mostly([draw.container()], BAD_NAMES, 85),
                  draw.mostly([draw.object()], BAD_NAMES + OBJECTS, 80)]
         words = [b"where", b"ring"] + names[:draw.one([1, 2, 3])]

@@ -1,7 +1,7 @@
 """Which server answers, sessions, connections and commands."""
 import time
 
-from .common import LINES, BadInput, BadRing, Refused, is_utf8
+from .common import LINES, BadInput, BadRing, Refused, is_digits, is_utf8
 from .containers import answer_container
 from .control import answer_control
 from .nodes import Nodes
@@ -58,13 +58,25 @@ def read_ring(path):
         return None
 
 
+SERVE_OPTIONS = {b"--port": range(1, 65_536), b"--workers": [1], b"--connections": range(1, 65_537), b"--passes": [0]}
+
+
+def are_words(words):
+    if not words or not all(map(is_utf8, words)) or any(it.startswith(b"-") for it in words[1:2]):
+        return False
+    if words[0] == b"serve":
+        options = dict(zip(words[2::2], words[3::2]))
+        values = [is_digits(options.get(name), 1, 20) and int(options[name]) in allowed for name, allowed in SERVE_OPTIONS.items()]
+        return len(words) == 10 and len(options) == 4 and all(values)
+    return len(words) in {b"run": (2,), b"where": (3, 4, 5)}.get(words[0], ()) and not any(it.startswith(b"-") for it in words)
+
+
 def command(words, data):
-    """Both outputs and the status of a command line, as bytes each, for `run` and `where`."""
+    """Both outputs and the status of a command line. Of one that listens, which its ring decides, there is no account here."""
     def ends(status, out=b"", line=None):
         return out, (f"sw: {line or LINES[status]}\n".encode() if status else b""), status
 
-    lengths = {b"run": (2,), b"where": (3, 4, 5)}
-    if not words or len(words) not in lengths.get(words[0], ()) or not all(map(is_utf8, words)) or any(it.startswith(b"-") for it in words[1:]):
+    if not are_words(words):
         return ends(2)
     text = read_ring(words[1])
     if text is None:
@@ -73,6 +85,8 @@ def command(words, data):
         ring = Ring(text)
     except BadRing as bad:
         return ends(3, line=f"bad ring {bad.cause}")
+    if words[0] == b"serve":
+        raise NotImplementedError("it would listen")
     if words[0] == b"where":
         return ends(2) if is_bad_name(*words[2:]) else ends(0, where_text(ring, words[2:]))
     out, status, _ = session(Nodes(ring), data)
