@@ -62,7 +62,7 @@ class Draw:
     """One script: a ring, and the pieces of an input."""
 
     def __init__(self, random, serves=False):
-        self.random, self.serves = random, serves
+        self.random, self.serves, self.writes = random, serves, 0
         self.ring_text = json.dumps(self.ring_value(), ensure_ascii=self.chance(50)).encode()
         self.ring = Ring(self.ring_text)
         self.accounts = [self.one(ACCOUNTS) for _ in range(self.one([1, 1, 2]))]
@@ -184,7 +184,10 @@ class Draw:
         return [(b"Expect", self.one([b"100-continue", b"100-Continue", b"100-CONTINUE", b"200-ok", b"", b"100-continue, x"]))] if self.chance(6) else []
 
     def when(self):
-        return [(b"X-Timestamp", self.mostly(self.times, BAD_TIMES, 98))] if self.chance(99) else []
+        """A time, in half of the requests one that goes on with them, so that long scripts keep changing what stands."""
+        self.writes += 1
+        near = b"%d" % (10 + self.writes // 6 + self.random.randint(-2, 1))
+        return [(b"X-Timestamp", self.mostly(self.times + [near] * len(self.times), BAD_TIMES, 98))] if self.chance(99) else []
 
     def heads(self):
         fields = [(b"X-Delete-At", self.mostly(EXPIRIES, BAD_EXPIRIES, 75))] if self.chance(12) else []
