@@ -403,6 +403,9 @@ def changed_value(draw, value):
 def changed_text(draw, text):
     if draw.chance(10):
         text = text[:-1] + ", " + draw.one(ODD_MEMBERS)
+    if draw.chance(10):
+        spelled = draw.one([lambda it: "\\u%04x" % ord(it), lambda it: "\\u%04X" % ord(it), lambda it: "\\" + it, lambda it: "\\u00" + it, lambda it: it + "\\/"])
+        text = re.sub("[a-z]", lambda found: spelled(found[0]) if draw.chance(3) else found[0], text)
     if draw.chance(8):
         deep = draw.one([1, 125, 126, 127, 128])
         text = re.sub(r'"endcap"|"/x"|""', lambda found: draw.one([found[0], "[" * deep + "]" * deep]), text, count=1)
