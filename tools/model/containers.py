@@ -1,0 +1,137 @@
+"""The container server, with its queries and listings."""
+import re
+
+from .common import EMPTY_MD5, JSON_TYPE, TEXT_TYPE, Refused, is_digits, is_utf8, json_date, json_text, percent_decoded, plain_number
+from .nodes import Row
+from .objects import located, stands_at, time_of
+from .requests import reply
+
+
+class Query:
+    def __init__(self, data):
+        values = {}
+        for pair in filter(None, data.split(b"&")):
+            name, _, value = pair.partition(b"=")
+            values[percent_decoded(name.replace(b"+", b" "))] = percent_decoded(value.replace(b"+", b" "))
+        self.marker, self.end_marker, self.prefix = (values.get(it, b"") for it in (b"marker", b"end_marker", b"prefix"))
+        limit, self.delimiter = values.get(b"limit", b""), values.get(b"delimiter", b"")
+        self.limit = int(limit) if is_digits(limit) else 10_000
+        self.reverse = values.get(b"reverse", b"").lower() in (b"true", b"yes", b"on", b"t", b"y", b"1")
+        kind = values.get(b"format", b"").lower()
+        self.json = kind == b"json"
+        if not all(map(is_utf8, (self.marker, self.end_marker, self.prefix))):
+            raise Refused(400)
+        if self.limit > 10_000 or len(self.delimiter) > 1 or self.delimiter > b"\x7f":
+            raise Refused(412)
+        if kind == b"xml":
+            raise Refused(400)
+
+    def is_within(self, name):
+        low, high = (self.end_marker, self.marker) if self.reverse else (self.marker, self.end_marker)
+        return (not low or name > low) and (not high or name < high) and name.startswith(self.prefix)
+
+    def rolled_up(self, name):
+        """The name up to and with the first delimiter behind the prefix, or none where there isn't one."""
+        if not self.delimiter or self.delimiter not in name[len(self.prefix):]:
+            return None
+        return name[:name.index(self.delimiter, len(self.prefix)) + 1]
+
+    def entries(self, rows):
+        """The rows and rolled-up texts that the query asks for."""
+        found = []
+        for row in sorted(rows, key=lambda it: it.name, reverse=self.reverse):
+            rolled = self.rolled_up(row.name)
+            entry = row if rolled is None else rolled
+            if self.is_within(row.name) and not (found and found[-1] == entry) and not (rolled and rolled == self.marker):
+                found.append(entry)
+        return found[:self.limit]
+
+
+def json_entry(entry):
+    if isinstance(entry, bytes):
+        return {"subdir": entry.decode()}
+    return {"bytes": entry.size, "content_type": entry.type.decode(), "hash": entry.etag, "last_modified": json_date(entry.time), "name": entry.name.decode()}
+
+
+def row_of(request, name):
+    when = time_of(request)
+    if request.method == b"DELETE":
+        return Row(name, when, 0, b"text/plain", EMPTY_MD5, True)
+    size, kind, etag = (request.last(it) for it in (b"x-size", b"x-content-type", b"x-etag"))
+    if not is_digits(size, 1, 18) or not kind or not is_utf8(kind) or not re.fullmatch(rb"[0-9a-fA-F]{32}", etag or b""):
+        raise Refused(400)
+    return Row(name, when, int(size), kind, etag.decode().lower(), False)
+
+
+def merge_row(nodes, device, place, digest, row):
+    container, path = nodes.place(device, *place), b"/" + b"/".join(place)
+    made = None
+    if container.is_absent():
+        if row.deleted or not place[0].startswith(b"."):
+            raise Refused(404)
+        made = max(row.time, container.delete_time or 0)
+    old = container.rows.get(row.name)
+    changes = old is None or (old.time, old.deleted) < (row.time, row.deleted)
+    nodes.journal(device, "container", digest, (made is not None) + changes)
+    if made is not None:
+        container.put_time = made
+        nodes.tell(b"create", device, path, made)
+    if changes:
+        container.rows[row.name] = row
+        nodes.tell(b"row", device, path + b"/" + row.name, row.time)
+
+
+def change_container(nodes, request, device, place, digest):
+    container, when, path = nodes.place(device, *place), time_of(request), b"/" + b"/".join(place)
+    if request.method == b"PUT":
+        absent = container.is_absent()
+        if absent and container.delete_time is not None and when < container.delete_time:
+            raise Refused(409, stands_at(container.delete_time))
+        if absent or when > container.put_time:
+            nodes.journal(device, "container", digest, 1)
+            container.put_time = when
+            nodes.tell(b"create", device, path, when)
+        return reply(201 if absent else 202)
+    if container.is_absent():
+        raise Refused(404)
+    if container.live():
+        raise Refused(409)
+    if when <= container.put_time:
+        raise Refused(409, stands_at(container.put_time))
+    nodes.journal(device, "container", digest, 1)
+    container.delete_time = when
+    nodes.tell(b"remove", device, path, when)
+    return reply(204)
+
+
+def show_container(nodes, request, device, place):
+    query = Query(request.query) if request.method == b"GET" else None
+    replica = request.last(b"x-swc-shard-replica")
+    if replica is not None and (plain_number(replica) is None or int(replica) >= nodes.ring.replicas):
+        raise Refused(400)
+    container = nodes.place(device, *place)
+    if container.is_absent():
+        raise Refused(404)
+    if query is None:
+        return reply(204, container.told() + [(b"X-Swc-Hash", container.hash())])
+    entries = query.entries(container.live())
+    if query.json:
+        return reply(200, [(b"Content-Type", JSON_TYPE)] + container.told(), json_text([json_entry(it) for it in entries]))
+    text = b"".join((it if isinstance(it, bytes) else it.name) + b"\n" for it in entries)
+    return reply(200, [(b"Content-Type", TEXT_TYPE)] + container.told(), text) if text else reply(204, container.told())
+
+
+def answer_container(nodes, request, segments):
+    is_row = len(segments) > 4
+    if request.method not in ((b"PUT", b"DELETE") if is_row else (b"PUT", b"DELETE", b"GET", b"HEAD")):
+        raise Refused(405)
+    place, obj = (segments[2], segments[3]), b"/".join(segments[4:]) if is_row else None
+    device, digest = located(nodes.ring, segments, (*place, obj), place)
+    if device not in nodes.ring.container[nodes.ring.partition(digest)]:
+        raise Refused(404)
+    if is_row:
+        merge_row(nodes, device, place, digest, row_of(request, obj))
+        return reply(201 if request.method == b"PUT" else 204)
+    if request.method in (b"PUT", b"DELETE"):
+        return change_container(nodes, request, device, place, digest)
+    return show_container(nodes, request, device, place)

@@ -1,0 +1,83 @@
+"""Control requests, and pushes with messages that are lost or come twice."""
+from .common import TEXT_TYPE, Refused, is_digits, plain_number
+from .nodes import State
+from .requests import reply
+
+
+class Messages:
+    """The messages of a pass, counted from 1, of which some are lost, unheard or come twice."""
+
+    def __init__(self, request):
+        names = {"lose": b"x-swc-lose", "unheard": b"x-swc-lose-reply", "repeat": b"x-swc-repeat"}
+        values = {key: request.last(name) for key, name in names.items()}
+        if any(it is not None and (not is_digits(it, 1, 9) or int(it) == 0) for it in values.values()):
+            raise Refused(400)
+        self.named = {key: int(it) for key, it in values.items() if it is not None}
+        self.count = self.lost = self.asked = self.sent = self.left = 0
+        self.kept = None
+
+    def send(self, step, asks):
+        """What the message was answered, or none where that is lost."""
+        self.count += 1
+        self.asked, self.sent = self.asked + asks, self.sent + (not asks)
+        fate = next((key for key in ("lose", "unheard", "repeat") if self.named.get(key) == self.count), None)
+        answer = None if fate == "lose" else step()
+        if fate == "repeat":
+            answer = step()
+        if fate in ("lose", "unheard"):
+            self.lost += 1
+            return None
+        return answer
+
+    def outcome(self):
+        return (f"done={int(self.left == 0)} lost={self.lost} kept={self.kept or '-'} later=- asked={self.asked} sent={self.sent} left={self.left}\n").encode()
+
+
+def transfer(nodes, to, write):
+    """The status of a write that a push sends: 409 is an acknowledgement too."""
+    try:
+        return 201 if nodes.receive(to, write) else 409
+    except Refused as refused:
+        return refused.status
+
+
+def push(nodes, messages, source, to, part):
+    ours = nodes.suffix_hashes(source, part)
+    theirs = messages.send(lambda: nodes.suffix_hashes(to, part), True)
+    if theirs is None:
+        messages.left = 1
+        return
+    for suffix in (it for it in ours if theirs.get(it) != ours[it]):
+        told = messages.send(lambda suffix=suffix: {digest: nodes.state(to, digest).copy() for digest, _ in nodes.lines(to, part, suffix)}, True)
+        if told is None:
+            messages.left += 1
+            continue
+        for digest, picked in nodes.lines(source, part, suffix):
+            for write in picked:
+                if not told.get(digest, State()).changes(write):
+                    continue
+                status = messages.send(lambda write=write: transfer(nodes, to, write), False)
+                messages.left += status not in (201, 409)
+                messages.kept = messages.kept or (status if status == 503 else None)
+
+
+def answer_control(nodes, request, segments):
+    words = (request.method, *segments[1:2])
+    body = None
+    if words == (b"GET", b"trail") and len(segments) == 2:
+        body = b"".join(nodes.trail)
+    elif words == (b"GET", b"files") and len(segments) == 3 and nodes.ring.device(segments[2]) is not None:
+        body = nodes.files(nodes.ring.device(segments[2]))
+    elif words == (b"POST", b"restart") and len(segments) == 3 and nodes.ring.device(segments[2]) is not None:
+        nodes.restart(nodes.ring.device(segments[2]))
+        body = b""
+    elif words == (b"POST", b"replicate") and len(segments) == 5:
+        source, to, part = nodes.ring.device(segments[2]), nodes.ring.device(segments[3]), plain_number(segments[4])
+        if None in (source, to, part) or source == to or part >= 2**nodes.ring.power:
+            raise Refused(400)
+        messages = Messages(request)
+        push(nodes, messages, source, to, part)
+        body = messages.outcome()
+    if body is None:
+        raise Refused(400)
+    return reply(200, [(b"Content-Type", TEXT_TYPE)], body)

@@ -1,0 +1,146 @@
+"""What stands at the devices: objects, containers with their rows, journals, and the trail."""
+import hashlib
+
+from .common import ENTRY_LIMIT, GREATEST_U64, WEIGHT_LIMIT, Refused, escaped, normal
+from .rings import suffix_of
+
+
+class Write:
+    """A put, a deletion or a meta. Content is (body, type, ETag), heads are (second of expiry or none, items by name)."""
+
+    def __init__(self, kind, name, when, heads=(None, {}), content=None):
+        self.kind, self.name, self.time, self.heads, self.content = kind, name, when, heads, content
+
+    def file(self):
+        return (normal(self.time) + {"put": b".data", "delete": b".ts", "meta": b".meta"}[self.kind]).decode()
+
+
+class State:
+    """What is left of the writes of a name: the base, which is a put or a deletion, and a meta that is later."""
+
+    def __init__(self):
+        self.base = self.meta = None
+
+    def copy(self):
+        other = State()
+        other.base, other.meta = self.base, self.meta
+        return other
+
+    def changes(self, write):
+        rank = (write.time, write.kind == "delete")
+        if write.kind == "meta":
+            return all(it is None or write.time > it.time for it in (self.base, self.meta))
+        return self.base is None or rank > (self.base.time, self.base.kind == "delete")
+
+    def join(self, write):
+        if write.kind == "meta":
+            self.meta = write
+            return
+        self.base = write
+        if self.meta and self.meta.time <= write.time:
+            self.meta = None
+
+    def object(self):
+        return self.base if self.base and self.base.kind == "put" else None
+
+    def tombstone(self):
+        return self.base if self.base and self.base.kind == "delete" else None
+
+    def time(self):
+        return max(it.time for it in (self.base, self.meta) if it)
+
+    def heads(self):
+        return (self.meta or self.base).heads
+
+    def picked(self):
+        return [it for it in (self.base, self.meta) if it]
+
+
+class Row:
+    def __init__(self, name, created_at, size, kind, etag, deleted):
+        self.name, self.time, self.size, self.type, self.etag, self.deleted = name, created_at, size, kind, etag, deleted
+
+
+class Container:
+    def __init__(self):
+        self.put_time, self.delete_time, self.rows = None, None, {}
+
+    def is_absent(self):
+        return self.put_time is None or (self.delete_time is not None and self.delete_time > self.put_time)
+
+    def live(self):
+        return [it for it in self.rows.values() if not it.deleted]
+
+    def told(self):
+        return [(b"X-Container-Object-Count", b"%d" % len(self.live())),
+                (b"X-Container-Bytes-Used", b"%d" % min(sum(it.size for it in self.live()), GREATEST_U64)),
+                (b"X-Timestamp", normal(self.put_time)), (b"X-Backend-Sharding-State", b"unsharded")]
+
+    def hash(self):
+        total = 0
+        for it in self.rows.values():
+            total ^= int.from_bytes(hashlib.md5(it.name + b"-" + normal(it.time)).digest(), "big")
+        return b"%032x" % total
+
+
+class Nodes:
+    """All devices of a ring, and the trail of what was entered at them."""
+
+    def __init__(self, ring):
+        self.ring, self.objects, self.containers, self.trail = ring, {}, {}, []
+        self.journals = {}
+
+    def state(self, device, digest):
+        return self.objects.setdefault((device, digest), State())
+
+    def tell(self, kind, device, path, when=None):
+        self.trail.append(b"%d %s %s %s %s\n" % (len(self.trail) + 1, kind, self.ring.devices[device], escaped(path), b"-" if when is None else normal(when)))
+
+    def has_room(self, device, half, digest, entries, weight=0):
+        old = self.journals.get((device, half, self.ring.stripe(digest)), (0, 0))
+        return old[0] + entries <= ENTRY_LIMIT and old[1] + weight <= WEIGHT_LIMIT
+
+    def journal(self, device, half, digest, entries, weight=0):
+        if not self.has_room(device, half, digest, entries, weight):
+            raise Refused(503)
+        key = (device, half, self.ring.stripe(digest))
+        old = self.journals.get(key, (0, 0))
+        self.journals[key] = (old[0] + entries, old[1] + weight)
+
+    def enter(self, device, write, kind):
+        digest = self.ring.hash(*write.name)
+        self.journal(device, "object", digest, 1, len(write.content[0]) if write.content else 0)
+        self.state(device, digest).join(write)
+        self.tell(kind, device, b"/" + b"/".join(write.name), write.time)
+
+    def receive(self, device, write):
+        """Whether a write that is taken over changed something."""
+        state = self.state(device, self.ring.hash(*write.name))
+        if not state.changes(write):
+            return False
+        self.enter(device, write, b"receive")
+        return True
+
+    def lines(self, device, part, suffix=None):
+        """What is picked of each hash of a partition that has a file, in order of the hashes."""
+        found = [(digest, state.picked()) for (at, digest), state in self.objects.items() if at == device and self.ring.partition(digest) == part]
+        return sorted((it for it in found if it[1] and suffix in (None, suffix_of(it[0]))), key=lambda it: it[0])
+
+    def suffix_hashes(self, device, part):
+        texts = {}
+        for digest, picked in self.lines(device, part):
+            text = "".join(f"{digest.hex()}/{it.file()}\n" for it in picked)
+            texts[suffix_of(digest)] = texts.get(suffix_of(digest), "") + text
+        return {it: hashlib.md5(texts[it].encode()).hexdigest() for it in sorted(texts)}
+
+    def files(self, device):
+        paths = [f"objects/{self.ring.partition(digest)}/{suffix_of(digest)}/{digest.hex()}/{it.file()}"
+                 for (at, digest), state in self.objects.items() if at == device for it in state.picked()]
+        return "".join(f"{it}\n" for it in sorted(paths)).encode()
+
+    def restart(self, device):
+        self.journals = {key: it for key, it in self.journals.items() if key[0] != device}
+        self.tell(b"restart", device, b"/")
+
+    def place(self, device, account, container):
+        return self.containers.setdefault((device, account, container), Container())
