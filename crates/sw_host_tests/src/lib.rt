@@ -9,6 +9,8 @@ mod doors;
 #[cfg(test)]
 mod folders;
 #[cfg(test)]
+mod notes;
+#[cfg(test)]
 mod steps;
 #[cfg(test)]
 mod stores;

@@ -113,7 +113,7 @@ impl<W: Write + Drop, C: Clock + Drop> LineNotes<W, C> {
         let count = self.left_out.replace(0);
         if count > 0 {
             let mut line = Line::new();
-            if write!(line, "sw: {count} more faults of the host\n").is_ok() {
+            if write!(line, "sw: faults of the host left out: {count}\n").is_ok() {
                 self.put(&line);
             }
         }
@@ -174,7 +174,7 @@ fn write_reason(line: &mut Line, call: HostCall, path: &str, error: &io::Error) 
 
 fn write_end(line: &mut Line, left_out: u64) -> fmt::Result {
     if left_out > 0 {
-        write!(line, "; {left_out} more faults before it")?;
+        write!(line, "; {left_out} more before it")?;
     }
     write!(line, "\n")
 }
