@@ -62,6 +62,11 @@ class Node:
             self.process.kill()
             sys.exit(f"the node doesn't listen: {line!r} {self.process.stderr.read()!r}")
 
+    def second(self, folder):
+        """The status of a second node that is started in the same folder meanwhile."""
+        words = [program(), "serve", str(RING), "--port", str(free_port()), "--workers", "1", "--connections", "1", "--passes", "0"]
+        return subprocess.run(words, cwd=folder, capture_output=True, timeout=60, check=False).returncode
+
     def kill(self):
         self.process.send_signal(signal.SIGKILL)
         self.process.wait()

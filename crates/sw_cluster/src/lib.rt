@@ -22,5 +22,5 @@ mod words;
 pub use command::{cluster, report};
 pub use connection::{DoorServer, serve_connection};
 pub use running::run_session;
-pub use status::NO_MEMORY;
+pub use status::{DOOR_FAULT, NO_MEMORY, STORE_FAULT};
 pub use whereabouts::where_text;

@@ -1,15 +1,16 @@
 ghost use Rattle.std.specs.Prelude.{◌≤◌, length};
 
 use std::alloc::Global;
-use std::io;
 use std::io::{Read, Write};
-use std::net::{Ipv4Addr, Shutdown, TcpStream};
+use std::net::{IpAddr, Ipv4Addr, Shutdown, TcpStream};
 use std::test::Fail;
+use std::time::Duration;
+use std::{io, thread};
 use sw_outside::{
     Bytes, Doors, Failed, FailingPut, MemConnection, MemDoors, MemFinished, Sink, Source,
     StoreError,
 };
-use sw_store::TcpDoors;
+use sw_store::{NoNotes, Patience, TcpDoors};
 
 /// Whether the source gives these bytes and then ends.
 fn gives(source: &mut impl Source, wanted: &[u8]) -> Result<bool, Failed> {
@@ -64,13 +65,25 @@ fn client(rt: &HostRuntime, port: u16, bytes: &[u8]) -> io::Result<TcpStream> {
     Ok(stream)
 }
 
+/// Doors of the host.
+type HostDoors<'a> = TcpDoors<'a, HostRuntime, NoNotes>;
+
+/// The port at which it is listened, where only this host itself reaches it.
+fn own_port(doors: &HostDoors<'_>) -> Result<u16, Fail> {
+    let address = doors.address().ok_or("no address")?;
+    if address.ip() != IpAddr::V4(Ipv4Addr::LOCALHOST) {
+        return Err(Fail::from("it is listened at another address"));
+    }
+    Ok(address.port())
+}
+
 #[test]
 fn clients_are_answered_over_sockets(rt: HostRuntime) -> Result<(), Fail> {
     let alloc = rt.alloc();
-    let mut doors = TcpDoors::new(&rt);
+    let mut doors = TcpDoors::new(&rt, &NoNotes);
     assert!(rt; serves(&mut doors, b"", b"", 0) == Err(StoreError::Failed));
     doors.listen(0)?;
-    let port = doors.port().ok_or("no port")?;
+    let port = own_port(&doors)?;
     let mut first = client(&rt, port, b"first question")?;
     let mut second = client(&rt, port, b"")?;
     assert!(rt; serves(&mut doors, b"first question", b"first answer", 0) == Ok(true));
@@ -79,6 +92,102 @@ fn clients_are_answered_over_sockets(rt: HostRuntime) -> Result<(), Fail> {
     first.read_to_end(&mut answers)?;
     second.read_to_end(&mut answers)?;
     assert_eq!(rt; answers.as_slice(), b"first answersecond answer".as_slice());
+    Ok(())
+}
+
+/// Two seconds for a request, or for each 4 bytes of it.
+fn quick() -> Patience {
+    Patience {
+        time: Duration::from_secs(2),
+        bytes: 4,
+    }
+}
+
+/// What a client does, each time when more than half of the time has gone, and whether it is then read; or what is replied.
+#[derive(Clone, Copy)]
+enum Move<'a> {
+    Sends(&'a [u8]),
+    IsLate(&'a [u8]),
+    IsAnswered,
+}
+
+use Move::{IsAnswered, IsLate, Sends};
+
+/// Whether each read goes as it should.
+fn all_go(
+    rt: &HostRuntime,
+    input: &mut impl Source,
+    output: &mut impl Sink,
+    client: &mut TcpStream,
+    moves: &[Move],
+) -> Result<bool, Fail> {
+    let mut room = [0; 8];
+    let mut well = true;
+    for step in moves {
+        match *step {
+            Sends(bytes) => {
+                client.write_all(bytes)?;
+                well = well && input.read(&mut room) == Ok(bytes.len());
+            }
+            IsLate(bytes) => {
+                client.write_all(bytes)?;
+                well = well && input.read(&mut room) == Err(Failed);
+            }
+            IsAnswered => output.put(b"answer")?,
+        }
+        thread::sleep(rt, Duration::from_millis(1200));
+    }
+    Ok(well)
+}
+
+/// Accepts the next client, and looks whether each read of what it sends goes as it should.
+fn goes<D: Doors>(
+    rt: &HostRuntime,
+    doors: &mut D,
+    client: &mut TcpStream,
+    moves: &[Move],
+) -> Result<bool, Fail>
+    requires { length (D.finished doors.old) ≤ length (D.accepts doors.old) }
+    ensures { length (D.finished doors.new) ≤ length (D.accepts doors.new) }
+{
+    let (mut input, mut output) = doors.accept()?;
+    let gone = all_go(rt, &mut input, &mut output, client, moves);
+    doors.finish(input, output, 0);
+    gone
+}
+
+/// Clients that send in time, or not: a second byte comes in time, and a third one doesn't, but where enough came before it, or it was answered meanwhile.
+const MOVES: [&[Move]; 3] = [
+    &[Sends(b"a"), Sends(b"b"), IsLate(b"c")],
+    &[Sends(b"a"), Sends(b"bcd"), Sends(b"e")],
+    &[Sends(b"a"), Sends(b"b"), IsAnswered, Sends(b"c")],
+];
+
+#[test]
+fn a_client_that_sends_a_byte_now_and_then_is_not_waited_for(rt: HostRuntime) -> Result<(), Fail> {
+    let mut doors = TcpDoors::patient(&rt, &NoNotes, quick());
+    doors.listen(0)?;
+    let port = own_port(&doors)?;
+    for moves in MOVES {
+        let mut client = TcpStream::connect(&rt, (Ipv4Addr::LOCALHOST, port))?;
+        assert!(rt; goes(&rt, &mut doors, &mut client, moves)?);
+    }
+    Ok(())
+}
+
+#[test]
+fn a_silent_client_is_not_waited_for(rt: HostRuntime) -> Result<(), Fail> {
+    let mut doors = TcpDoors::patient(&rt, &NoNotes, quick());
+    doors.listen(0)?;
+    let port = own_port(&doors)?;
+    let silent = TcpStream::connect(&rt, (Ipv4Addr::LOCALHOST, port))?;
+    let mut other = client(&rt, port, b"question")?;
+    assert!(rt; serves(&mut doors, b"", b"", 1) == Err(StoreError::Failed));
+    assert!(rt; serves(&mut doors, b"question", b"answer", 0) == Ok(true));
+    let mut answer = Vec::new(rt.alloc());
+    other.read_to_end(&mut answer)?;
+    assert_eq!(rt; answer.as_slice(), b"answer".as_slice());
+    drop(silent);
     Ok(())
 }
 

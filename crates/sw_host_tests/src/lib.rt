@@ -9,6 +9,12 @@ mod doors;
 #[cfg(test)]
 mod folders;
 #[cfg(test)]
+mod notes;
+#[cfg(test)]
+mod steps;
+#[cfg(test)]
+mod stores;
+#[cfg(test)]
 mod volume;
 #[cfg(test)]
 mod watched;

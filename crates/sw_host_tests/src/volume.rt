@@ -1,19 +1,14 @@
-ghost use Rattle.std.specs.Prelude.{◌≡◌, ℕ, false};
-
 use crate::folders::{end_folder, entries, fresh_folder};
-use crate::watched::{Steps, Watched};
 use std::alloc::Global;
 use std::fs;
-use std::rc::Rc;
 use std::test::Fail;
-use sw_outside::{Bytes, StoreError};
-use sw_store::{HostStores, HostVolume};
-use sw_stores::Stores;
+use sw_outside::Bytes;
+use sw_store::{HostVolume, NoNotes};
 use sw_volume::{Listing, Volume, VolumeError};
 
 /// A call of a volume, with what a listing or a reading tells.
 #[derive(Clone, Copy)]
-enum Call<'a> {
+pub(crate) enum Call<'a> {
     Put(&'a [u8], &'a [u8], &'a [u8]),
     Unlink(&'a [u8], &'a [u8]),
     Read(&'a [u8], &'a [u8], Option<&'a [u8]>),
@@ -22,14 +17,14 @@ enum Call<'a> {
 
 use Call::{List, Put, Read, Unlink};
 
-const HASH: &[u8] = b"objects/0/a83/06fbf0b514e5199dfc4e00f42eb5ea83";
+pub(crate) const HASH: &[u8] = b"objects/0/a83/06fbf0b514e5199dfc4e00f42eb5ea83";
 
-const DATA: &[u8] = b"0000000005.00000.data";
+pub(crate) const DATA: &[u8] = b"0000000005.00000.data";
 
 const TOMBSTONE: &[u8] = b"0000000005.00000.ts";
 
 /// Calls in their order, none of which fails.
-const CALLS: [Call; 15] = [
+pub(crate) const CALLS: [Call; 15] = [
     List(b"objects", &[], &[]),
     Read(HASH, DATA, None),
     Unlink(HASH, DATA),
@@ -48,7 +43,7 @@ const CALLS: [Call; 15] = [
 ];
 
 /// What a volume finds that is opened after these.
-const CALLS_LATER: [Call; 5] = [
+pub(crate) const CALLS_LATER: [Call; 5] = [
     List(b"objects", &[], &[b"0"]),
     List(HASH, &[DATA], &[]),
     Read(HASH, DATA, Some(b"more data")),
@@ -73,7 +68,11 @@ const REFUSED: [Call; 12] = [
 ];
 
 /// Whether the call tells what it is to tell, where it doesn't fail.
-fn is_as_told<V: Volume>(alloc: Global, volume: &mut V, call: Call) -> Result<bool, VolumeError> {
+pub(crate) fn is_as_told<V: Volume>(
+    alloc: Global,
+    volume: &mut V,
+    call: Call,
+) -> Result<bool, VolumeError> {
     match call {
         Put(dir, file, bytes) => {
             volume.put(alloc, dir, file, bytes)?;
@@ -98,7 +97,7 @@ fn are_these(found: &[Bytes], wanted: &[&[u8]]) -> bool {
 }
 
 /// Whether these bytes were found, or none.
-fn is_some_of(found: &Option<Bytes>, wanted: Option<&[u8]>) -> bool {
+pub(crate) fn is_some_of(found: &Option<Bytes>, wanted: Option<&[u8]>) -> bool {
     match (found, wanted) {
         (Some(bytes), Some(wanted)) => bytes.as_slice() == wanted,
         (None, None) => true,
@@ -107,7 +106,7 @@ fn is_some_of(found: &Option<Bytes>, wanted: Option<&[u8]>) -> bool {
 }
 
 /// The number of the first call that answers otherwise.
-fn first_other<V: Volume>(
+pub(crate) fn first_other<V: Volume>(
     alloc: Global,
     volume: &mut V,
     calls: &[Call],
@@ -121,6 +120,9 @@ fn first_other<V: Volume>(
     None
 }
 
+/// The number of the process that has the volumes.
+pub(crate) const OWNER: u32 = 4711;
+
 /// The number of the first call that answers otherwise, in a volume that is opened for these.
 fn first_other_in(
     rt: &HostRuntime,
@@ -129,7 +131,7 @@ fn first_other_in(
     wanted: Result<bool, VolumeError>,
 ) -> Result<Option<usize>, Fail> {
     let alloc = rt.alloc();
-    let mut volume = HostVolume::open(rt, String::from_str(alloc, root)?)?;
+    let mut volume = HostVolume::open(rt, &NoNotes, String::from_str(alloc, root)?, OWNER)?;
     Ok(first_other(alloc, &mut volume, calls, wanted))
 }
 
@@ -138,6 +140,7 @@ fn files_are_found_by_a_volume_that_is_opened_later(rt: HostRuntime) -> Result<(
     let base = fresh_folder(&rt, "later")?;
     let root = format!(in rt.alloc(); "{base}/0/03")?;
     let left = format!(in rt.alloc(); "{root}/tmp")?;
+    fs::create_dir_all(&rt, root.as_str())?;
     assert_eq!(rt; first_other_in(&rt, &root, &CALLS, Ok(true))?, None);
     assert_eq!(rt; entries(&rt, &left)?, 0);
     fs::write(&rt, format!(in rt.alloc(); "{left}/put-7")?, "half a fi")?;
@@ -149,111 +152,12 @@ fn files_are_found_by_a_volume_that_is_opened_later(rt: HostRuntime) -> Result<(
 #[test]
 fn paths_that_are_none_of_a_volume_fail(rt: HostRuntime) -> Result<(), Fail> {
     let base = fresh_folder(&rt, "refused")?;
+    fs::create_dir(&rt, base.as_str())?;
     assert_eq!(rt; first_other_in(&rt, &base, &CALLS, Ok(true))?, None);
     let failed = Err(VolumeError::Failed);
     assert_eq!(rt; first_other_in(&rt, &base, &REFUSED, failed)?, None);
     assert_eq!(rt; first_other_in(&rt, &base, &CALLS_LATER, Ok(true))?, None);
     end_folder(&rt, &base)
-}
-
-/// Starts the volume of a lock, makes these calls, and gives it back: the number of the first call that answers otherwise.
-fn visit<S: Stores>(
-    alloc: Global,
-    stores: &mut S,
-    stripe: u8,
-    calls: &[Call],
-) -> Result<Option<usize>, StoreError>
-    requires { (d s : ℕ) → S.out stores.old d s ≡ false }
-    ensures { (d s : ℕ) → S.out stores.new d s ≡ false }
-{
-    let mut volume = stores.start(alloc, 0, stripe)?;
-    let other = first_other(alloc, &mut volume, calls, Ok(true));
-    stores.give_back(0, stripe, volume);
-    Ok(other)
-}
-
-#[test]
-fn each_lock_has_a_folder_of_its_own(rt: HostRuntime) -> Result<(), Fail> {
-    let alloc = rt.alloc();
-    let base = fresh_folder(&rt, "locks")?;
-    let mut stores = HostStores::below(&rt, &base);
-    assert!(rt; visit(alloc, &mut stores, 3, &CALLS) == Ok(None));
-    assert!(rt; visit(alloc, &mut stores, 12, &CALLS) == Ok(None));
-    assert!(rt; visit(alloc, &mut stores, 3, &CALLS_LATER) == Ok(None));
-    let mut later = HostStores::below(&rt, &base);
-    assert!(rt; visit(alloc, &mut later, 12, &CALLS_LATER) == Ok(None));
-    assert_eq!(rt; entries(&rt, &base)?, 1);
-    assert_eq!(rt; entries(&rt, &format!(in alloc; "{base}/0")?)?, 2);
-    assert!(rt; fs::exists(&rt, format!(in alloc; "{base}/0/03/objects/0/power")?)?);
-    end_folder(&rt, &base)
-}
-
-/// Calls, and the steps of the host that they take: a file is synced before it is moved to its place, and its folders after that.
-const STEPS: [(Call, &[u8]); 5] = [
-    (Put(b"objects/0", b"f", b"old"), b"cwsmsmssrss"),
-    (Put(b"objects/0", b"g", b""), b"csrss"),
-    (Put(b"objects/0", b"f", b"new"), b"cwsrss"),
-    (Unlink(b"objects/0", b"g"), b"us"),
-    (Unlink(b"objects/0", b"g"), b""),
-];
-
-#[test]
-fn a_file_is_synced_before_it_is_moved_to_its_place(rt: HostRuntime) -> Result<(), Fail> {
-    let alloc = rt.alloc();
-    let root = fresh_folder(&rt, "steps")?;
-    let steps = Rc::new(alloc, Steps::new(alloc))?;
-    let watched = Watched {
-        rt,
-        steps: steps.clone()?,
-    };
-    let host = (watched, alloc);
-    let mut volume = HostVolume::open(&host, root.clone()?)?;
-    for (call, wanted) in STEPS {
-        steps.begin(u64::MAX);
-        assert!(rt; is_as_told(alloc, &mut volume, call) == Ok(true));
-        assert!(rt; steps.are(wanted));
-    }
-    end_folder(&rt, &root)
-}
-
-/// What stands at a path of a volume that is opened for it, if these bytes or those do.
-fn stands(
-    rt: &HostRuntime,
-    root: &str,
-    was: Option<&[u8]>,
-    put: Option<&[u8]>,
-) -> Result<bool, Fail> {
-    let alloc = rt.alloc();
-    let mut volume = HostVolume::open(rt, String::from_str(alloc, root)?)?;
-    let found = volume.read(alloc, b"objects/0", b"f")?;
-    Ok(is_some_of(&found, was) || is_some_of(&found, put))
-}
-
-#[test]
-fn a_put_that_fails_leaves_the_old_file_or_the_new_one(rt: HostRuntime) -> Result<(), Fail> {
-    let alloc = rt.alloc();
-    let root = fresh_folder(&rt, "failing")?;
-    let left = format!(in alloc; "{root}/tmp")?;
-    let steps = Rc::new(alloc, Steps::new(alloc))?;
-    let watched = Watched {
-        rt,
-        steps: steps.clone()?,
-    };
-    let host = (watched, alloc);
-    let mut volume = HostVolume::open(&host, root.clone()?)?;
-    let puts: [(Option<&[u8]>, &[u8]); 2] = [(None, b"old"), (Some(b"old"), b"new")];
-    for (was, bytes) in puts {
-        let put = Put(b"objects/0", b"f", bytes);
-        for failing in 0..24 {
-            steps.begin(failing);
-            let _ = is_as_told(alloc, &mut volume, put);
-            assert_eq!(rt; entries(&rt, &left)?, 0);
-            assert!(rt; stands(&rt, &root, was, Some(bytes))?);
-        }
-        steps.begin(u64::MAX);
-        assert!(rt; is_as_told(alloc, &mut volume, put) == Ok(true));
-    }
-    end_folder(&rt, &root)
 }
 
 /// Calls that find nothing, or write: over a folder that is gone none of them is answered.
@@ -269,7 +173,8 @@ fn a_volume_whose_folder_is_gone_fails_until_it_is_back(rt: HostRuntime) -> Resu
     let alloc = rt.alloc();
     let root = fresh_folder(&rt, "gone")?;
     let elsewhere = format!(in alloc; "{root}-elsewhere")?;
-    let mut volume = HostVolume::open(&rt, root.clone()?)?;
+    fs::create_dir(&rt, root.as_str())?;
+    let mut volume = HostVolume::open(&rt, &NoNotes, root.clone()?, OWNER)?;
     assert_eq!(rt; first_other(alloc, &mut volume, &CALLS, Ok(true)), None);
     fs::rename(&rt, root.as_str(), elsewhere.as_str())?;
     let failed = Err(VolumeError::Failed);

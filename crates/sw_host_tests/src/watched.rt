@@ -1,12 +1,22 @@
 ghost use Rattle.std.specs.Prelude.{◌≡◌};
 
-use std::alloc::{Allocator, Global};
+use std::alloc::{AllocError, Allocator, Global};
 use std::cell::{Cell, RefCell};
 use std::fs::{File, Metadata, OpenFile, OpenOptions};
-use std::io;
 use std::io::{ErrorKind, Read, Seek, SeekFrom, Write};
 use std::rc::Rc;
 use std::rt::Files;
+use std::{fs, io};
+
+/// Which of the steps fail.
+#[derive(Clone, Copy)]
+pub(crate) enum Failing {
+    None,
+    /// The step of this number, with this error.
+    One(u64, ErrorKind),
+    /// All from this number on, as after a kill.
+    From(u64),
+}
 
 /// What was asked of the host, and which of it is to fail.
 #[derive(Drop)]
@@ -14,26 +24,37 @@ pub(crate) struct Steps {
     /// A letter a step that changes something: `c` makes a file, `w` writes to it, `s` syncs a file or a folder, `m` makes a folder, `r` moves a
     /// file, `u` takes one away.
     letters: RefCell<Vec<u8>>,
+    /// The paths of what was made or moved in folders that weren't synced since: a loss of power takes it away.
+    unsynced: RefCell<Vec<String>>,
     asked: Cell<u64>,
-    failing: Cell<u64>,
+    failing: Cell<Failing>,
+    has_failed: Cell<bool>,
 }
 
 impl Steps {
     pub(crate) fn new(alloc: Global) -> Steps {
         Steps {
             letters: RefCell::new(Vec::new(alloc)),
+            unsynced: RefCell::new(Vec::new(alloc)),
             asked: Cell::new(0),
-            failing: Cell::new(u64::MAX),
+            failing: Cell::new(Failing::None),
+            has_failed: Cell::new(false),
         }
     }
 
-    /// Begins anew, and has the step of this number fail.
-    pub(crate) fn begin(&self, failing: u64) {
+    /// Begins to count anew, and has these steps fail.
+    pub(crate) fn begin(&self, failing: Failing) {
         self.asked.set(0);
         self.failing.set(failing);
+        self.has_failed.set(false);
         if let Ok(mut letters) = self.letters.try_borrow_mut() {
             letters.clear();
         }
+    }
+
+    /// Whether one of the steps since has failed as it was to.
+    pub(crate) fn has_failed(&self) -> bool {
+        self.has_failed.get()
     }
 
     /// Whether these are the steps that were made since.
@@ -44,14 +65,33 @@ impl Steps {
         }
     }
 
+    /// Takes away what a loss of power would.
+    pub(crate) fn lose_power(&self, rt: &HostRuntime) {
+        if let Ok(mut unsynced) = self.unsynced.try_borrow_mut() {
+            for path in unsynced.iter() {
+                let _ = fs::remove_dir_all(rt, path.as_str());
+                let _ = fs::remove_file(rt, path.as_str());
+            }
+            unsynced.clear();
+        }
+    }
+
     /// Asks for a step: it fails, or may be made.
     fn ask(&self) -> io::Result<()> {
         let number = self.asked.get();
         self.asked.set(number.saturating_add(1));
-        if number == self.failing.get() {
-            return Err(io::Error::from(ErrorKind::StorageFull));
+        let fails = match self.failing.get() {
+            Failing::One(one, kind) if one == number => Some(kind),
+            Failing::From(first) if first <= number => Some(ErrorKind::StorageFull),
+            _ => None,
+        };
+        match fails {
+            Some(kind) => {
+                self.has_failed.set(true);
+                Err(io::Error::from(kind))
+            }
+            None => Ok(()),
         }
-        Ok(())
     }
 
     /// Writes a step down, where it was made.
@@ -64,6 +104,37 @@ impl Steps {
             }
         }
         made
+    }
+
+    /// Something stands at this path from now on, in a folder that isn't synced.
+    fn stands(&self, alloc: Global, path: &str) -> io::Result<()> {
+        let path = String::from_str(alloc, path)?;
+        if let Ok(mut unsynced) = self.unsynced.try_borrow_mut() {
+            unsynced.push(path).map_err(AllocError::from)?;
+        }
+        Ok(())
+    }
+
+    /// What stands in this folder was synced.
+    fn synced(&self, folder: &str) {
+        if let Ok(mut unsynced) = self.unsynced.try_borrow_mut() {
+            unsynced.retain(|path| !is_in(path.as_str(), folder));
+        }
+    }
+
+    /// Nothing stands at this path any more.
+    fn gone(&self, gone: &str) {
+        if let Ok(mut unsynced) = self.unsynced.try_borrow_mut() {
+            unsynced.retain(|path| path.as_str() != gone);
+        }
+    }
+}
+
+/// Whether the path is that of an entry of the folder.
+fn is_in(path: &str, folder: &str) -> bool {
+    match path.rsplit_once('/') {
+        Some((above, _)) => above == folder,
+        None => false,
     }
 }
 
@@ -78,6 +149,7 @@ pub(crate) struct Watched {
 #[derive(Drop)]
 pub(crate) struct WatchedFile {
     file: File,
+    path: String,
     steps: Rc<Steps>,
 }
 
@@ -115,7 +187,9 @@ impl OpenFile for WatchedFile {
 
     fn sync_all(&self) -> io::Result<()> {
         self.steps.ask()?;
-        self.steps.made(b's', self.file.sync_all())
+        self.steps.made(b's', self.file.sync_all())?;
+        self.steps.synced(&self.path);
+        Ok(())
     }
 
     fn sync_data(&self) -> io::Result<()> {
@@ -132,21 +206,26 @@ impl Files for Watched {
         self.steps.ask()?;
         let opened = self.rt.open_file(how, path);
         let file = if how.asks_create() {
-            self.steps.made(b'c', opened)?
+            let made = self.steps.made(b'c', opened)?;
+            self.steps.stands(self.rt.alloc(), path)?;
+            made
         } else {
             opened?
         };
         Ok(WatchedFile {
             file,
+            path: String::from_str(self.rt.alloc(), path)?,
             steps: self.steps.clone()?,
         })
     }
 
     fn open_dir(&self, path: &str) -> io::Result<<HostRuntime as Files>::Dir> {
+        self.steps.ask()?;
         self.rt.open_dir(path)
     }
 
     fn metadata(&self, path: &str) -> io::Result<Metadata> {
+        self.steps.ask()?;
         self.rt.metadata(path)
     }
 
@@ -160,17 +239,22 @@ impl Files for Watched {
 
     fn rename(&self, from: &str, to: &str) -> io::Result<()> {
         self.steps.ask()?;
-        self.steps.made(b'r', self.rt.rename(from, to))
+        self.steps.made(b'r', self.rt.rename(from, to))?;
+        self.steps.gone(from);
+        self.steps.stands(self.rt.alloc(), to)
     }
 
     fn remove_file(&self, path: &str) -> io::Result<()> {
         self.steps.ask()?;
-        self.steps.made(b'u', self.rt.remove_file(path))
+        self.steps.made(b'u', self.rt.remove_file(path))?;
+        self.steps.gone(path);
+        Ok(())
     }
 
     fn create_dir(&self, path: &str) -> io::Result<()> {
         self.steps.ask()?;
-        self.steps.made(b'm', self.rt.create_dir(path))
+        self.steps.made(b'm', self.rt.create_dir(path))?;
+        self.steps.stands(self.rt.alloc(), path)
     }
 
     fn remove_dir(&self, path: &str) -> io::Result<()> {

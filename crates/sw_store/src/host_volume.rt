@@ -1,11 +1,14 @@
-ghost use Rattle.std.specs.Prelude.{◌≡◌, ◌≤◌, [], false, Ok, IfOk, IsErr, IsErrAnd};
+ghost use Rattle.std.specs.Prelude.{◌≡◌, ◌≢◌, ◌≤◌, [], false, Ok, IfOk, IsErrAnd};
 ghost use Rattle.std.specs.IoError.{error_kind};
 ghost use Rattle.sw_outside.specs.Counts.{raised};
 ghost use Rattle.sw_outside.specs.Faults as outside;
+ghost use Rattle.sw_outside.specs.declared.store_error.StoreError.{StoreError as StoreErrorSeen};
 ghost use Rattle.sw_volume.specs.Volume.{HasCause, OnFailed, OnNoMemory};
 
-use crate::paths::{file_path, folder_path, put_path, writing_path};
-use crate::writing::{make_folders, make_folders_below, sync, sync_around, sync_with_above, write};
+use crate::host::Host;
+use crate::notes::{HostCall, Notes};
+use crate::paths::{HostPath, file_path, folder_path, put_path, writing_path};
+use crate::writing::make_way;
 use std::alloc::{AllocError, Global};
 use std::fs::DirEntry;
 use std::io::ErrorKind;
@@ -19,40 +22,49 @@ use sw_volume::{Listing, Volume, VolumeError};
 /// Paths are text: a directory whose segments aren't all names (an empty one, `.` or `..`), or that begins with `tmp`, and a file that isn't
 /// a name, fail, as what isn't UTF-8 does. A file of the host whose name isn't UTF-8 is none of the volume's, and isn't listed.
 #[derive(Drop)]
-pub struct HostVolume<'a, R: Files + AllocGlobal> {
-    rt: &'a R,
+pub struct HostVolume<'a, R: Files + AllocGlobal, N: Notes> {
+    host: Host<'a, R, N>,
     root: String,
+    owner: u32,
     calls: u64,
     faults: u64,
     lists: u64,
 }
 
-impl<'a, R: Files + AllocGlobal> HostVolume<'a, R> {
-    /// The volume over the folder of this path, which is made where it is missing. What a crash left of files that were being written is
-    /// taken away.
-    pub fn open(rt: &'a R, root: String) -> Result<HostVolume<'a, R>, StoreError>
-        ensures { IfOk result (λ v. (v.calls ≡ 0) × (v.faults ≡ 0) × (v.lists ≡ 0)) }
+impl<'a, R: Files + AllocGlobal, N: Notes> HostVolume<'a, R, N> {
+    /// The volume over the folder of this path, which has to be there, for the process of this number. What a kill left of files that were being
+    /// written is taken away. The notes are told why a call of the volume failed; of this one they only keep it.
+    pub fn open(
+        rt: &'a R,
+        notes: &'a N,
+        root: String,
+        owner: u32,
+    ) -> Result<HostVolume<'a, R, N>, StoreError>
+        ensures untouched { IfOk result (λ v. (v.calls ≡ 0) × (v.faults ≡ 0) × (v.lists ≡ 0)) }
+        ensures root { IfOk result (λ v. v.root ≡ root) }
     {
-        match clear(rt, root.as_str()) {
+        let host = Host { rt, notes };
+        match clear(&host, root.as_str()) {
             Ok(()) => Ok(HostVolume {
-                rt,
+                host,
                 root,
+                owner,
                 calls: 0,
                 faults: 0,
                 lists: 0,
             }),
-            Err(error) if error.kind() == ErrorKind::OutOfMemory => Err(StoreError::NoMemory),
-            Err(_) => Err(StoreError::Failed),
+            Err(error) => Err(store_error(error)),
         }
     }
 
-    /// Counts a failure.
+    /// Counts a failure, and has it told.
     fn fail(&mut self) -> Failed
         ensures after { self.new ≡ record self.old { faults = raised self.old.faults } }
         ensures later { self.old.faults ≤ self.new.faults }
         ensures risen { outside.HasRisen self.old.faults self.new.faults }
     {
         self.faults = self.faults.saturating_add(1);
+        self.host.notes.tell();
         Failed
     }
 
@@ -60,7 +72,7 @@ impl<'a, R: Files + AllocGlobal> HostVolume<'a, R> {
     fn told<T>(&mut self, answer: io::Result<T>) -> Result<T, VolumeError>
         ensures ok { IfOk result (λ value. answer ≡ Ok value) }
         ensures memory { OnNoMemory result (IsErrAnd answer (λ e. error_kind e ≡ ErrorKind.OutOfMemory)) }
-        ensures failed { OnFailed result (IsErr answer) }
+        ensures failed { OnFailed result (IsErrAnd answer (λ e. error_kind e ≢ ErrorKind.OutOfMemory)) }
         ensures cause { HasCause self.old.faults self.new.faults result }
         ensures calls { self.new.calls ≡ self.old.calls }
         ensures lists { self.new.lists ≡ self.old.lists }
@@ -73,7 +85,19 @@ impl<'a, R: Files + AllocGlobal> HostVolume<'a, R> {
     }
 }
 
-impl<R: Files + AllocGlobal> Volume for HostVolume<'_, R> {
+/// What an error of the host is to stores: want of memory is no failure of theirs, and each other one is.
+pub(crate) fn store_error(error: io::Error) -> StoreError
+    ensures memory { result ≡ StoreErrorSeen.NoMemory → error_kind error ≡ ErrorKind.OutOfMemory }
+    ensures failed { result ≡ StoreErrorSeen.Failed → error_kind error ≢ ErrorKind.OutOfMemory }
+{
+    if error.kind() == ErrorKind::OutOfMemory {
+        StoreError::NoMemory
+    } else {
+        StoreError::Failed
+    }
+}
+
+impl<R: Files + AllocGlobal, N: Notes> Volume for HostVolume<'_, R, N> {
     ghost tells = { λ _. false };
 
     ghost holds = { λ _. [] };
@@ -87,7 +111,7 @@ impl<R: Files + AllocGlobal> Volume for HostVolume<'_, R> {
     fn list(&mut self, _alloc: Global, dir: &[u8]) -> Result<Listing, VolumeError> {
         self.calls = self.calls.saturating_add(1);
         self.lists = self.lists.saturating_add(1);
-        let listing = listing(self.rt, self.root.as_str(), dir);
+        let listing = listing(&self.host, self.root.as_str(), dir);
         self.told(listing)
     }
 
@@ -98,7 +122,7 @@ impl<R: Files + AllocGlobal> Volume for HostVolume<'_, R> {
         file: &[u8],
     ) -> Result<Option<Bytes>, VolumeError> {
         self.calls = self.calls.saturating_add(1);
-        let contents = contents(self.rt, self.root.as_str(), dir, file);
+        let contents = contents(&self.host, self.root.as_str(), dir, file);
         self.told(contents)
     }
 
@@ -112,7 +136,8 @@ impl<R: Files + AllocGlobal> Volume for HostVolume<'_, R> {
     ) -> Result<(), VolumeError> {
         let number = self.calls;
         self.calls = number.saturating_add(1);
-        match put(self.rt, self.root.as_str(), number, dir, file, bytes) {
+        let written = put_path(self.root.as_str(), self.owner, number);
+        match put(&self.host, self.root.as_str(), written, dir, file, bytes) {
             Ok(()) => Ok(()),
             Err(_) => Err(self.fail().into()),
         }
@@ -120,39 +145,61 @@ impl<R: Files + AllocGlobal> Volume for HostVolume<'_, R> {
 
     fn unlink(&mut self, dir: &[u8], file: &[u8]) -> Result<(), Failed> {
         self.calls = self.calls.saturating_add(1);
-        match unlink(self.rt, self.root.as_str(), dir, file) {
+        match unlink(&self.host, self.root.as_str(), dir, file) {
             Ok(()) => Ok(()),
             Err(_) => Err(self.fail()),
         }
     }
 }
 
-/// Makes the folder of a volume and the one in which it writes, and empties that. All three are synced, and the folder above the volume: a crash
-/// may have left one of them made and not synced.
-fn clear<R: Files + AllocGlobal>(rt: &R, root: &str) -> io::Result<()> {
-    let writing = writing_path(root)?;
-    make_folders(rt, writing.as_str())?;
-    for entry in fs::read_dir(&rt, writing.as_str())? {
+/// Looks whether the folder of a volume is there, makes the one in which it writes, and empties that. Both are synced where they stand: a kill may have left
+/// one of them made and not synced.
+fn clear<R: Files + AllocGlobal, N: Notes>(host: &Host<'_, R, N>, root: &str) -> io::Result<()> {
+    host.look(root)?;
+    let named = writing_path(root);
+    let writing = host.noted(HostCall::Name, root, named)?;
+    host.make_missing(&writing)?;
+    let emptied = empty(host.rt, &writing);
+    host.noted(HostCall::Remove, &writing, emptied)?;
+    host.sync_with_above(root)
+}
+
+/// Takes all files of a folder away.
+fn empty<R: Files + AllocGlobal>(rt: &R, folder: &str) -> io::Result<()> {
+    for entry in fs::read_dir(&rt, folder)? {
         if let Some(entry) = with_text(entry)? {
             fs::remove_file(rt, entry.path())?;
         }
     }
-    sync(rt, writing.as_str())?;
-    sync_with_above(rt, root)
+    Ok(())
 }
 
 /// What stands in a directory: nothing where it isn't there.
-fn listing<R: Files + AllocGlobal>(rt: &R, root: &str, dir: &[u8]) -> io::Result<Listing> {
-    let folder = folder_path(root, dir)?;
+fn listing<R: Files + AllocGlobal, N: Notes>(
+    host: &Host<'_, R, N>,
+    root: &str,
+    dir: &[u8],
+) -> io::Result<Listing> {
+    let named = folder_path(root, dir);
+    let folder = host.noted(HostCall::Name, root, named)?;
+    match listed(host.rt, &folder) {
+        Err(error) if error.kind() == ErrorKind::NotFound => {
+            host.look(root)?;
+            let alloc: Global = host.rt.alloc();
+            Ok(Listing {
+                files: BytesList::from(Vec::new(alloc)),
+                folders: BytesList::from(Vec::new(alloc)),
+            })
+        }
+        listed => host.noted(HostCall::ListFolder, &folder, listed),
+    }
+}
+
+fn listed<R: Files + AllocGlobal>(rt: &R, folder: &str) -> io::Result<Listing> {
     let mut files = Vec::new(rt.alloc());
     let mut folders = Vec::new(rt.alloc());
-    match fs::read_dir(&rt, folder.as_str()) {
-        Ok(entries) => {
-            for entry in entries {
-                add(&mut files, &mut folders, entry)?;
-            }
-        }
-        Err(error) => or_gone(rt, root, error)?,
+    for entry in fs::read_dir(&rt, folder)? {
+        add(&mut files, &mut folders, entry)?;
     }
     Ok(Listing {
         files: in_order(files)?,
@@ -200,80 +247,78 @@ fn in_order(names: Vec<String>) -> Result<BytesList, AllocError> {
     Ok(BytesList::from(list))
 }
 
-/// What a file holds, where one stands there.
-fn contents<R: Files + AllocGlobal>(
-    rt: &R,
+/// What a file holds, where one stands there. Where the volume's own folder is gone, as that of a disk that isn't mounted, nothing is known of its files, and
+/// the call has failed: so it is for a listing and an unlink.
+fn contents<R: Files + AllocGlobal, N: Notes>(
+    host: &Host<'_, R, N>,
     root: &str,
     dir: &[u8],
     file: &[u8],
 ) -> io::Result<Option<Bytes>> {
-    let folder = folder_path(root, dir)?;
-    let path = file_path(folder.as_str(), file)?;
-    match fs::read(rt, path.as_str()) {
+    let named = path_of(root, dir, file);
+    let (_, path) = host.noted(HostCall::Name, root, named)?;
+    match fs::read(host.rt, path.as_str()) {
         Ok(bytes) => Ok(Some(Bytes::from(bytes))),
-        Err(error) => {
-            or_gone(rt, root, error)?;
+        Err(error) if error.kind() == ErrorKind::NotFound => {
+            host.look(root)?;
             Ok(None)
         }
+        Err(error) => host.noted(HostCall::Read, &path, Err(error)),
     }
 }
 
+/// The path of a file, behind that of its folder.
+fn path_of(root: &str, dir: &[u8], file: &[u8]) -> io::Result<(HostPath, HostPath)> {
+    let folder = folder_path(root, dir)?;
+    let path = file_path(&folder, file)?;
+    Ok((folder, path))
+}
+
 /// Writes a file under a name of no grammar, and moves it to its place once it is synced: so it stands there whole, or not at all.
-fn put<R: Files>(
-    rt: &R,
+fn put<R: Files, N: Notes>(
+    host: &Host<'_, R, N>,
     root: &str,
-    number: u64,
+    written: io::Result<HostPath>,
     dir: &[u8],
     file: &[u8],
     bytes: &[u8],
 ) -> io::Result<()> {
-    let folder = folder_path(root, dir)?;
-    let path = file_path(folder.as_str(), file)?;
-    let written = put_path(root, number)?;
-    let put = move_whole(
-        rt,
-        root,
-        written.as_str(),
-        folder.as_str(),
-        path.as_str(),
-        bytes,
-    );
+    let written = host.noted(HostCall::Name, root, written)?;
+    let named = path_of(root, dir, file);
+    let (folder, path) = host.noted(HostCall::Name, root, named)?;
+    let put = move_whole(host, root, &written, &folder, &path, bytes);
     if put.is_err() {
-        let _ = fs::remove_file(rt, written.as_str());
+        let _ = fs::remove_file(host.rt, written.as_str());
     }
     put
 }
 
-fn move_whole<R: Files>(
-    rt: &R,
+fn move_whole<R: Files, N: Notes>(
+    host: &Host<'_, R, N>,
     root: &str,
     written: &str,
     folder: &str,
     path: &str,
     bytes: &[u8],
 ) -> io::Result<()> {
-    write(rt, written, bytes)?;
-    make_folders_below(rt, root, folder)?;
-    fs::rename(rt, written, path)?;
-    sync_around(rt, root, folder)
+    host.write_whole(written, bytes)?;
+    make_way(host, root, folder)?;
+    host.rename(written, path)?;
+    host.sync_folder(folder)
 }
 
 /// Takes a file away, where one stands there.
-fn unlink<R: Files>(rt: &R, root: &str, dir: &[u8], file: &[u8]) -> io::Result<()> {
-    let folder = folder_path(root, dir)?;
-    let path = file_path(folder.as_str(), file)?;
-    match fs::remove_file(rt, path.as_str()) {
-        Ok(()) => sync(rt, folder.as_str()),
-        Err(error) => or_gone(rt, root, error),
+fn unlink<R: Files, N: Notes>(
+    host: &Host<'_, R, N>,
+    root: &str,
+    dir: &[u8],
+    file: &[u8],
+) -> io::Result<()> {
+    let named = path_of(root, dir, file);
+    let (folder, path) = host.noted(HostCall::Name, root, named)?;
+    if host.remove(&path)? {
+        host.sync_folder(&folder)
+    } else {
+        host.look(root)
     }
-}
-
-/// Whether what a call didn't find may simply not be there. Where the volume's own folder is gone, as that of a disk that isn't mounted, nothing is known of
-/// its files, and the call has failed.
-fn or_gone<R: Files>(rt: &R, root: &str, error: io::Error) -> io::Result<()> {
-    if error.kind() != ErrorKind::NotFound {
-        return Err(error);
-    }
-    fs::metadata(rt, root)?;
-    Ok(())
 }

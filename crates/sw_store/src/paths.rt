@@ -1,4 +1,5 @@
 use arrayvec::ArrayString;
+use itoa::Buffer;
 use std::io::ErrorKind;
 use std::{io, str};
 
@@ -29,11 +30,13 @@ pub(crate) fn writing_path(root: &str) -> io::Result<HostPath> {
     below(root, WRITING)
 }
 
-/// Where the bytes of a put of this number are written.
-pub(crate) fn put_path(root: &str, number: u64) -> io::Result<HostPath> {
+/// Where the bytes of a put of this number are written by the process of this one: no two processes write one file.
+pub(crate) fn put_path(root: &str, owner: u32, number: u64) -> io::Result<HostPath> {
     let mut path = writing_path(root)?;
+    let mut digits = Buffer::new();
     push(&mut path, "/put-")?;
-    let mut digits = itoa::Buffer::new();
+    push(&mut path, digits.format(owner))?;
+    push(&mut path, "-")?;
     push(&mut path, digits.format(number))?;
     Ok(path)
 }

@@ -1,14 +1,20 @@
 ghost use Rattle.std.specs.Prelude.{◌≡◌, [], None};
 ghost use Rattle.sw_store.specs.Connections.{accepts_of, finished_of};
 
+use crate::host_volume::store_error;
+use crate::notes::{HostCall, Notes, noted};
+use crate::pace::Patience;
+use crate::tcp_sink::TcpSink;
+use crate::tcp_source::TcpSource;
+use arrayvec::ArrayString;
+use std::alloc::Global;
+use std::cell::Cell;
 use std::io;
 use std::io::ErrorKind;
-use std::net::{Ipv4Addr, Net, TcpListener, TcpStream};
-use std::time::Duration;
-use sw_outside::{Doors, Failed, ReaderSource, Roll, StoreError, WriterSink};
-
-/// How many seconds a read or a write waits for the client. One that waits longer has failed: a silent client holds nothing up for ever.
-const PATIENCE: u64 = 60;
+use std::net::{Ipv4Addr, Net, SocketAddr, TcpListener, TcpStream};
+use std::rc::Rc;
+use std::time::Clock;
+use sw_outside::{Doors, Failed, NoMemory, Roll, StoreError};
 
 /// The numbers and the counts of both ends of a connection that was finished, its status, and how many had been accepted by then.
 #[derive(Clone, Copy, Debug)]
@@ -24,24 +30,44 @@ pub struct TcpFinished {
 }
 
 /// Doors over the host's TCP sockets, at 127.0.0.1. They tell nothing of bytes. Where it isn't listened an accept fails; where no client comes
-/// it waits for ever.
+/// it waits for ever. The notes keep why a call failed.
 #[derive(Drop)]
-pub struct TcpDoors<'a, R: Net<Listener = TcpListener, Stream = TcpStream> + AllocGlobal> {
+pub struct TcpDoors<
+    'a,
+    R: Net<Listener = TcpListener, Stream = TcpStream> + Clock + AllocGlobal,
+    N: Notes,
+> {
     rt: &'a R,
+    notes: &'a N,
+    patience: Patience,
     listener: Option<TcpListener>,
     faults: u64,
     calls: u64,
     finished: Roll<TcpFinished>,
 }
 
-impl<'a, R: Net<Listener = TcpListener, Stream = TcpStream> + AllocGlobal> TcpDoors<'a, R> {
-    /// No call was made, and no connection was accepted.
-    pub fn new(rt: &'a R) -> TcpDoors<'a, R>
+impl<
+    'a,
+    R: Net<Listener = TcpListener, Stream = TcpStream> + Clock + AllocGlobal,
+    N: Notes,
+> TcpDoors<'a, R, N> {
+    /// No call was made, and no connection was accepted. A client has a minute for a request, or for each 64 KiB of it.
+    pub fn new(rt: &'a R, notes: &'a N) -> TcpDoors<'a, R, N>
+        ensures roll { result.finished ≡ record { items = []; promised = 0 } }
+        ensures counts { (result.calls ≡ 0) × (result.faults ≡ 0) }
+    {
+        TcpDoors::patient(rt, notes, Patience::of_a_minute())
+    }
+
+    /// The same with clients of which this is asked. Its time isn't zero.
+    pub fn patient(rt: &'a R, notes: &'a N, patience: Patience) -> TcpDoors<'a, R, N>
         ensures roll { result.finished ≡ record { items = []; promised = 0 } }
         ensures counts { (result.calls ≡ 0) × (result.faults ≡ 0) }
     {
         TcpDoors {
             rt,
+            notes,
+            patience,
             listener: None,
             faults: 0,
             calls: 0,
@@ -49,20 +75,25 @@ impl<'a, R: Net<Listener = TcpListener, Stream = TcpStream> + AllocGlobal> TcpDo
         }
     }
 
-    /// The port at which it is listened, where the host tells it.
-    pub fn port(&self) -> Option<u16> {
+    /// Where it is listened, where the host tells it.
+    pub fn address(&self) -> Option<SocketAddr> {
         match &self.listener {
-            Some(listener) => listener.local_addr().ok().map(|address| address.port()),
+            Some(listener) => listener.local_addr().ok(),
             None => None,
         }
     }
+
+    /// The port at which it is listened, where the host tells it.
+    pub fn port(&self) -> Option<u16> {
+        self.address().map(|address| address.port())
+    }
 }
 
-impl<'a, R: Net<Listener = TcpListener, Stream = TcpStream> + AllocGlobal> Doors
-    for TcpDoors<'a, R> {
-    type In = ReaderSource<TcpStream>;
+impl<'a, R: Net<Listener = TcpListener, Stream = TcpStream> + Clock + AllocGlobal, N: Notes> Doors
+    for TcpDoors<'a, R, N> {
+    type In = TcpSource<'a, R>;
 
-    type Out = WriterSink<TcpStream>;
+    type Out = TcpSink<'a, R>;
 
     ghost accepts = { λ d. accepts_of d.finished.promised };
 
@@ -74,7 +105,8 @@ impl<'a, R: Net<Listener = TcpListener, Stream = TcpStream> + AllocGlobal> Doors
 
     fn listen(&mut self, port: u16) -> Result<(), Failed> {
         self.calls = self.calls.saturating_add(1);
-        match TcpListener::bind(self.rt, (Ipv4Addr::LOCALHOST, port)) {
+        let bound = TcpListener::bind(self.rt, (Ipv4Addr::LOCALHOST, port));
+        match noted(self.notes, HostCall::Listen, &address_text(port), bound) {
             Ok(listener) => {
                 self.listener = Some(listener);
                 Ok(())
@@ -87,33 +119,31 @@ impl<'a, R: Net<Listener = TcpListener, Stream = TcpStream> + AllocGlobal> Doors
     }
 
     // The record of the connection has its room from now on, so that finishing it takes no memory. Where there is none, it is closed.
-    fn accept(&mut self) -> Result<(ReaderSource<TcpStream>, WriterSink<TcpStream>), StoreError> {
+    fn accept(&mut self) -> Result<(TcpSource<'a, R>, TcpSink<'a, R>), StoreError> {
         self.calls = self.calls.saturating_add(1);
-        let accepted = next(&self.listener);
-        match accepted {
+        let accepted = next(&self.listener, self.patience);
+        match noted(self.notes, HostCall::Accept, "127.0.0.1", accepted) {
             Ok((input, output)) => {
+                let (replied, told) = shared(self.rt.alloc())?;
                 self.finished.promise()?;
                 let number = self.finished.promised() as u64;
                 Ok((
-                    ReaderSource::new(input).of_connection(number),
-                    WriterSink::new(output).of_connection(number),
+                    TcpSource::new(self.rt, input, self.patience, replied, number),
+                    TcpSink::new(self.rt, output, self.patience, told, number),
                 ))
             }
-            Err(error) if error.kind() == ErrorKind::OutOfMemory => Err(StoreError::NoMemory),
-            Err(_) => {
-                self.faults = self.faults.saturating_add(1);
-                Err(StoreError::Failed)
+            Err(error) => {
+                let error = store_error(error);
+                if let StoreError::Failed = error {
+                    self.faults = self.faults.saturating_add(1);
+                }
+                Err(error)
             }
         }
     }
 
     // Letting both ends go closes the connection.
-    fn finish(
-        &mut self,
-        input: ReaderSource<TcpStream>,
-        output: WriterSink<TcpStream>,
-        status: u8,
-    ) {
+    fn finish(&mut self, input: TcpSource<'a, R>, output: TcpSink<'a, R>, status: u8) {
         self.finished.add(TcpFinished {
             read_at: input.number(),
             written_at: output.number(),
@@ -128,14 +158,32 @@ impl<'a, R: Net<Listener = TcpListener, Stream = TcpStream> + AllocGlobal> Doors
 }
 
 /// The ends of the next connection, where it is listened.
-fn next(listener: &Option<TcpListener>) -> io::Result<(TcpStream, TcpStream)> {
+fn next(listener: &Option<TcpListener>, patience: Patience) -> io::Result<(TcpStream, TcpStream)> {
     let Some(listener) = listener else {
         return Err(io::Error::from(ErrorKind::NotConnected));
     };
     let (stream, _) = listener.accept()?;
     stream.set_nodelay(true)?;
-    stream.set_read_timeout(Some(Duration::from_secs(PATIENCE)))?;
-    stream.set_write_timeout(Some(Duration::from_secs(PATIENCE)))?;
+    stream.set_read_timeout(Some(patience.time))?;
+    stream.set_write_timeout(Some(patience.time))?;
     let output = stream.try_clone()?;
     Ok((stream, output))
+}
+
+/// What the two ends of a connection share: whether a reply was written since it was last read.
+fn shared(alloc: Global) -> Result<(Rc<Cell<bool>>, Rc<Cell<bool>>), NoMemory> {
+    let Ok(replied) = Rc::new(alloc, Cell::new(false)) else {
+        return Err(NoMemory);
+    };
+    let told = replied.clone()?;
+    Ok((replied, told))
+}
+
+/// The address of a port, as it is told.
+fn address_text(port: u16) -> ArrayString<24> {
+    let mut text = ArrayString::new();
+    let mut digits = itoa::Buffer::new();
+    let _ = text.try_push_str("127.0.0.1:");
+    let _ = text.try_push_str(digits.format(port));
+    text
 }

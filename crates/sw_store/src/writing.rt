@@ -1,41 +1,51 @@
+//! How a volume makes its folders. Of each folder below its own this is kept true at every moment, so also after a kill: a folder in which anything stands was
+//! synced into the one above it before its first entry was made. So an entry is on the disk once its own folder was synced, and a folder is synced into the one
+//! above it where it was just made, or where nothing stands in it yet: then a kill may have come between.
+use crate::host::Host;
+use crate::notes::Notes;
 use crate::paths::above;
-use std::fs::OpenFile;
-use std::io::{ErrorKind, Write};
+use std::io;
 use std::rt::Files;
-use std::{fs, io};
 
-/// Makes the folder and those above it that are missing, and syncs where each new one stands.
-pub(crate) fn make_folders<R: Files>(rt: &R, path: &str) -> io::Result<()> {
-    for end in 1..path.len() {
-        if let Some(folder) = folder_before(path, end) {
-            make_folder(rt, folder)?;
+/// Makes the folders that are missing on the way to one below the volume's own.
+pub(crate) fn make_way<R: Files, N: Notes>(
+    host: &Host<'_, R, N>,
+    root: &str,
+    folder: &str,
+) -> io::Result<()> {
+    let there = there_of(host, root, folder)?;
+    for end in there.saturating_add(1)..folder.len() {
+        if let Some(folder) = folder_before(folder, end) {
+            make_folder(host, folder)?;
         }
     }
-    make_folder(rt, path)
-}
-
-fn make_folder<R: Files>(rt: &R, path: &str) -> io::Result<()> {
-    if is_made(rt, path)? {
-        sync(rt, above(path))?;
+    if there < folder.len() {
+        make_folder(host, folder)?;
     }
     Ok(())
 }
 
-/// Makes the folder and those between it and the volume's own that are missing, and syncs around where each new one stands.
-pub(crate) fn make_folders_below<R: Files>(rt: &R, root: &str, path: &str) -> io::Result<()> {
-    for end in root.len().saturating_add(1)..path.len() {
-        if let Some(folder) = folder_before(path, end) {
-            make_folder_below(rt, root, folder)?;
+/// How much of the way is there, in bytes of its path: the volume's own folder at least. The last folder of it may take an entry.
+fn there_of<R: Files, N: Notes>(
+    host: &Host<'_, R, N>,
+    root: &str,
+    folder: &str,
+) -> io::Result<usize> {
+    let mut way = folder;
+    for _ in 0..folder.len() {
+        if way.len() <= root.len() {
+            break;
+        }
+        match host.is_filled(way)? {
+            Some(true) => break,
+            Some(false) => {
+                host.sync_folder(above(way))?;
+                break;
+            }
+            None => way = above(way),
         }
     }
-    make_folder_below(rt, root, path)
-}
-
-fn make_folder_below<R: Files>(rt: &R, root: &str, path: &str) -> io::Result<()> {
-    if is_made(rt, path)? {
-        sync_around(rt, root, above(path))?;
-    }
-    Ok(())
+    Ok(way.len())
 }
 
 /// The folder whose path ends before `end`, where a slash stands there.
@@ -46,40 +56,8 @@ fn folder_before(path: &str, end: usize) -> Option<&str> {
     }
 }
 
-/// Makes a folder, and tells whether it was missing.
-fn is_made<R: Files>(rt: &R, path: &str) -> io::Result<bool> {
-    match fs::create_dir(rt, path) {
-        Ok(()) => Ok(true),
-        Err(error) if error.kind() == ErrorKind::AlreadyExists => Ok(false),
-        Err(error) => Err(error),
-    }
-}
-
-/// Syncs the folder, in which something was made, and the one above it, unless the folder is the volume's own. A crash may have left a folder
-/// that was made and not synced into the one above: it is empty, so its first entry is made after the crash, and syncs it. What is above the
-/// volume is synced when that is opened, and need not be readable by the node.
-pub(crate) fn sync_around<R: Files>(rt: &R, root: &str, folder: &str) -> io::Result<()> {
-    sync(rt, folder)?;
-    if folder.len() > root.len() {
-        sync(rt, above(folder))?;
-    }
-    Ok(())
-}
-
-/// Syncs a folder and the one in which it stands.
-pub(crate) fn sync_with_above<R: Files>(rt: &R, folder: &str) -> io::Result<()> {
-    sync(rt, folder)?;
-    sync(rt, above(folder))
-}
-
-/// Syncs a folder.
-pub(crate) fn sync<R: Files>(rt: &R, folder: &str) -> io::Result<()> {
-    fs::open(rt, folder)?.sync_all()
-}
-
-/// Writes a file, and syncs it.
-pub(crate) fn write<R: Files>(rt: &R, path: &str, bytes: &[u8]) -> io::Result<()> {
-    let mut file = fs::create(rt, path)?;
-    file.write_all(bytes)?;
-    file.sync_all()
+/// Makes a folder, and syncs the one above it.
+fn make_folder<R: Files, N: Notes>(host: &Host<'_, R, N>, path: &str) -> io::Result<()> {
+    host.make_folder(path)?;
+    host.sync_folder(above(path))
 }

@@ -1,0 +1,201 @@
+use crate::folders::{end_folder, entries, fresh_folder};
+use crate::volume::{Call, DATA, HASH, OWNER, is_as_told, is_some_of};
+use crate::watched::{Failing, Steps, Watched};
+use Call::{List, Put, Read, Unlink};
+use std::alloc::Global;
+use std::fs;
+use std::io::ErrorKind;
+use std::rc::Rc;
+use std::rt::Files;
+use std::test::Fail;
+use sw_store::{HostVolume, NoNotes};
+use sw_volume::{Volume, VolumeError};
+
+/// Other objects: in the same suffix, in the same partition, in another partition.
+const BESIDE: &[u8] = b"objects/0/a83/16fbf0b514e5199dfc4e00f42eb5ea83";
+
+const IN_PARTITION: &[u8] = b"objects/0/59e/06fbf0b514e5199dfc4e00f42eb5e59e";
+
+const ELSEWHERE: &[u8] = b"objects/3/59e/f6fbf0b514e5199dfc4e00f42eb5e59e";
+
+const TIME: &[u8] = b"0000000006.00000.data";
+
+/// Calls, and the steps of the host that they take: a file is synced before it is moved to its place, and its folder after that; each folder is synced
+/// into the one above it before anything is made in it. The first object of a lock takes six syncs, one in a new partition five, in a new suffix four,
+/// beside others of its suffix three, and one over another two.
+const STEPS: [(Call, &[u8]); 8] = [
+    (Put(HASH, DATA, b"old"), b"cwsmsmsmsmsrs"),
+    (Put(ELSEWHERE, DATA, b"new partition"), b"cwsmsmsmsrs"),
+    (Put(IN_PARTITION, DATA, b"new suffix"), b"cwsmsmsrs"),
+    (Put(BESIDE, DATA, b""), b"csmsrs"),
+    (Put(HASH, TIME, b"new"), b"cwsrs"),
+    (Put(HASH, TIME, b"newer"), b"cwsrs"),
+    (Unlink(HASH, DATA), b"us"),
+    (Unlink(HASH, DATA), b""),
+];
+
+#[test]
+fn each_call_takes_so_many_syncs(rt: HostRuntime) -> Result<(), Fail> {
+    let alloc = rt.alloc();
+    let root = fresh_folder(&rt, "steps")?;
+    fs::create_dir(&rt, root.as_str())?;
+    let steps = Rc::new(alloc, Steps::new(alloc))?;
+    let watched = Watched {
+        rt,
+        steps: steps.clone()?,
+    };
+    let host = (watched, alloc);
+    let mut volume = HostVolume::open(&host, &NoNotes, root.clone()?, OWNER)?;
+    for (call, wanted) in STEPS {
+        steps.begin(Failing::None);
+        assert!(rt; is_as_told(alloc, &mut volume, call) == Ok(true));
+        assert!(rt; steps.are(wanted));
+    }
+    end_folder(&rt, &root)
+}
+
+/// Calls each of which needs the host, over a volume that has some files, and how each answers where the host has no memory.
+const NEEDING: [(Call, VolumeError); 6] = [
+    (Put(HASH, DATA, b"data"), VolumeError::Failed),
+    (Put(HASH, TIME, b"later"), VolumeError::Failed),
+    (Put(ELSEWHERE, DATA, b"data"), VolumeError::Failed),
+    (Unlink(HASH, TIME), VolumeError::Failed),
+    (Read(HASH, DATA, Some(b"data")), VolumeError::NoMemory),
+    (List(HASH, &[DATA], &[]), VolumeError::NoMemory),
+];
+
+/// Whether each call fails exactly where a step of it does, with this error of the host: with that of its own, or as any other.
+fn each_fails_with_its_steps<R: Files + AllocGlobal>(
+    rt: &R,
+    root: String,
+    steps: &Steps,
+    kind: ErrorKind,
+) -> Result<bool, Fail> {
+    let alloc: Global = rt.alloc();
+    let mut volume = HostVolume::open(rt, &NoNotes, root, OWNER)?;
+    let mut same = true;
+    for (call, without_memory) in NEEDING {
+        let error = if kind == ErrorKind::OutOfMemory {
+            without_memory
+        } else {
+            VolumeError::Failed
+        };
+        for number in 0..24 {
+            steps.begin(Failing::One(number, kind));
+            let told = is_as_told(alloc, &mut volume, call);
+            same = same
+                && told
+                    == if steps.has_failed() {
+                        Err(error)
+                    } else {
+                        Ok(true)
+                    };
+        }
+        steps.begin(Failing::None);
+    }
+    Ok(same)
+}
+
+#[test]
+fn no_error_of_the_host_is_passed_over(rt: HostRuntime) -> Result<(), Fail> {
+    let alloc = rt.alloc();
+    let root = fresh_folder(&rt, "errors")?;
+    fs::create_dir(&rt, root.as_str())?;
+    let steps = Rc::new(alloc, Steps::new(alloc))?;
+    let watched = Watched {
+        rt,
+        steps: steps.clone()?,
+    };
+    let host = (watched, alloc);
+    for kind in [ErrorKind::StorageFull, ErrorKind::OutOfMemory] {
+        assert!(rt; each_fails_with_its_steps(&host, root.clone()?, &steps, kind)?);
+    }
+    end_folder(&rt, &root)
+}
+
+/// What stands at a path of a volume that is opened for it, if these bytes or those do.
+fn stands(
+    rt: &HostRuntime,
+    root: &str,
+    was: Option<&[u8]>,
+    put: Option<&[u8]>,
+) -> Result<bool, Fail> {
+    let alloc = rt.alloc();
+    let mut volume = HostVolume::open(rt, &NoNotes, String::from_str(alloc, root)?, OWNER)?;
+    let found = volume.read(alloc, HASH, DATA)?;
+    Ok(is_some_of(&found, was) || is_some_of(&found, put))
+}
+
+#[test]
+fn a_put_that_fails_or_is_cut_leaves_the_old_file_or_the_new_one(
+    rt: HostRuntime,
+) -> Result<(), Fail> {
+    let alloc = rt.alloc();
+    let root = fresh_folder(&rt, "failing")?;
+    let left = format!(in alloc; "{root}/tmp")?;
+    fs::create_dir(&rt, root.as_str())?;
+    let steps = Rc::new(alloc, Steps::new(alloc))?;
+    let watched = Watched {
+        rt,
+        steps: steps.clone()?,
+    };
+    let host = (watched, alloc);
+    let mut volume = HostVolume::open(&host, &NoNotes, root.clone()?, OWNER)?;
+    let puts: [(Option<&[u8]>, &[u8]); 2] = [(None, b"old"), (Some(b"old"), b"new")];
+    for (was, bytes) in puts {
+        let put = Put(HASH, DATA, bytes);
+        for number in 0..24 {
+            steps.begin(Failing::From(number));
+            let _ = is_as_told(alloc, &mut volume, put);
+            assert!(rt; stands(&rt, &root, was, Some(bytes))?);
+            steps.begin(Failing::One(number, ErrorKind::StorageFull));
+            let _ = is_as_told(alloc, &mut volume, put);
+            assert_eq!(rt; entries(&rt, &left)?, 0);
+            assert!(rt; stands(&rt, &root, was, Some(bytes))?);
+        }
+        steps.begin(Failing::None);
+        assert!(rt; is_as_told(alloc, &mut volume, put) == Ok(true));
+    }
+    end_folder(&rt, &root)
+}
+
+/// Puts a file, with a kill before the step of this number. Then a later volume puts two, and the power is lost once these puts are answered: whether
+/// they stand.
+fn stand_after_a_kill<R: Files + AllocGlobal>(
+    host: &R,
+    rt: &HostRuntime,
+    root: &str,
+    steps: &Steps,
+    number: u64,
+) -> Result<bool, Fail> {
+    let alloc = rt.alloc();
+    let mut killed = HostVolume::open(host, &NoNotes, String::from_str(alloc, root)?, OWNER)?;
+    steps.begin(Failing::From(number));
+    let _ = killed.put(alloc, HASH, DATA, b"killed");
+    steps.begin(Failing::None);
+    let mut later = HostVolume::open(host, &NoNotes, String::from_str(alloc, root)?, OWNER)?;
+    later.put(alloc, HASH, TIME, b"later")?;
+    later.put(alloc, BESIDE, TIME, b"later")?;
+    steps.lose_power(rt);
+    let own = later.read(alloc, HASH, TIME)?;
+    let beside = later.read(alloc, BESIDE, TIME)?;
+    Ok(is_some_of(&own, Some(b"later")) && is_some_of(&beside, Some(b"later")))
+}
+
+#[test]
+fn what_is_put_over_what_a_kill_left_outlives_a_loss_of_power(rt: HostRuntime) -> Result<(), Fail> {
+    let alloc = rt.alloc();
+    let root = fresh_folder(&rt, "power")?;
+    let steps = Rc::new(alloc, Steps::new(alloc))?;
+    let watched = Watched {
+        rt,
+        steps: steps.clone()?,
+    };
+    let host = (watched, alloc);
+    for number in 0..32 {
+        fs::create_dir(&rt, root.as_str())?;
+        assert!(rt; stand_after_a_kill(&host, &rt, &root, &steps, number)?);
+        end_folder(&rt, &root)?;
+    }
+    Ok(())
+}
