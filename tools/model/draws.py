@@ -16,7 +16,7 @@ TIMES = [b"5", b"5", b"5.0", b"6", b"6.00000", b"7", b"7.5", b"8", b"9", b"00009
          b"0000000007.50000"]
 BAD_TIMES = [b"", b"10000000000", b"1.123456", b"5.", b".5", b"-1", b"+5", b"5_1", b"1e3", b"5,0", b"0x5", b"00000000005", b"5 5", "\u0665".encode(),
              b"5.0.0"]
-METHODS = [b"PATCH", b"OPTIONS", b"get", b"Put", b"REPLICATE", b"COPY", b"P", b"TRACE"]
+METHODS = [b"PATCH", b"OPTIONS", b"get", b"Put", b"REPLICATE", b"COPY", b"P", b"!#$%&'*+-.^_`|~"]
 TYPES = [b"text/plain"] * 6 + [b"image/jpeg; q=1", "t/\u00e9".encode(), b'a"\\b', b"a\tb"]
 BAD_TYPES = [b"", b"\xff", b"t/\xc3"]
 DIGESTS = [b"900150983cd24fb0d6963f7d28e17f72", b"900150983CD24FB0D6963F7D28E17F7A"]
@@ -34,7 +34,7 @@ KEPT = [b"Content-Encoding", b"Content-Disposition", b"Content-Language", b"Cach
 QUERY_TEXTS = [b"", b"o", b"p", b"p/", b"p/a", b"p0", "p/\U0010ffff".encode(), b"pp", b"p//", b"q", b"q/", b"/", b"a", b"x", "\u00fc".encode(),
                "\uffff".encode(), b"\xff", b"\xc3", b"%", b"\"", b" ", b"\x7f"]
 LIMITS = [b"0", b"1", b"2", b"3", b"10000", b"10001", b"", b"x", b"-1", b"+1", b"01", b"0" * 40 + b"2", b"9" * 40, b"1.0", b" 1", b"18446744073709551617"]
-DELIMITERS = [b"/", b"/", b"a", b"p", b"", b"//", "\u00fc".encode(), b"\xff", b"\0", b"\x7f", b" ", b"%", b"0"]
+DELIMITERS = [b"/", b"/", b"/", b"/", b"/", b"/", b"a", b"p", b"", b"//", "\u00fc".encode(), b"\xff", b"\0", b"\x7f", b" ", b"%", b"0"]
 SWITCHES = [b"true", b"TRUE", b"yes", b"On", b"t", b"Y", b"1", b"0", b"no", b"", b"truE ", b"2"]
 FORMATS = [b"json", b"JSON", b"Json", b"xml", b"XML", b"plain", b"", b"csv", b"json "]
 BAD_TAILS = [b"GET /sda HTTP/1.0\r\n\r\n", b"GET * HTTP/1.1\r\n\r\n", b"GET sda HTTP/1.1\r\n\r\n", b"GET  / HTTP/1.1\r\n\r\n", b"GET / HTTP/1.1 \r\n\r\n",
@@ -68,6 +68,8 @@ class Draw:
         self.accounts = [self.one(ACCOUNTS) for _ in range(self.one([1, 1, 2]))]
         self.containers = [self.one(CONTAINERS) for _ in range(self.one([1, 1, 2]))]
         self.objects = [self.one(OBJECTS) for _ in range(self.one([1, 2, 3, 5, 8, 20]))]
+        if self.chance(25):
+            self.objects += [b"p/a", b"p/b", b"p/a/x", b"p/", b"q/", b"q/a", b"p0", b"a b"]
         self.weights = [40, 4, 6, 2, 0.5] if serves else self.one(WEIGHTS)
         self.times = self.random.sample(TIMES, self.one([3, 5, len(TIMES)]))
         self.devices = self.random.sample(self.ring.devices, min(2, len(self.ring.devices)))
@@ -241,7 +243,7 @@ class Draw:
                  b"delimiter": DELIMITERS, b"reverse": SWITCHES, b"format": FORMATS, b"path": [b"x"], b"Limit": [b"1"]}
         pairs = []
         for _ in range(self.one([0, 1, 1, 2, 2, 3, 4])):
-            name = self.one(list(kinds))
+            name = self.one([*kinds, b"delimiter", b"marker", b"prefix"])
             value = b"".join(self.query_byte(it) for it in self.one(kinds[name])).replace(b"%20", self.one([b"+", b"%20"]))
             spelled = self.one([name, name, name, name.replace(b"i", b"%69"), name.replace(b"e", b"%65")])
             pairs.append(spelled + self.one([b"=", b"=", b"=", b"=", b"==", b""]) + value)
@@ -373,7 +375,7 @@ class Draw:
 
 
 ODD_VALUES = [0, 1, 2, 3, 4, 5, 16, 17, 2**32, 2**64 - 1, 2**64, 10**400, -1, 1.0, 1e5, "1", "", "x", None, True, [], {}, [[]], [[0]], "sda", "\u00e9",
-              ["sda"], ["sda", "sda"], ["a"] * 9]
+              ["sda"], ["sda", "sda"], ["a"] * 9, "a" * 32, "a" * 33, 6, 15]
 ODD_NUMBERS = ["01", "1.", "+1", "-0", "1e5", "1E400", "-1e999", "1.0", "NaN", "Infinity", "0x1", "1" * 309, "1" * 400, "1e-999", "-",
                "18446744073709551616", "9" * 19]
 ODD_MEMBERS = ['"lock_bits": 1}', '"part_power": 1e999}', '"hash_suffix": "\\ud800"}', '"object": 1, "object": []}', '"hash_prefix": "\\ud83d\\ude00"}',
@@ -404,7 +406,8 @@ def changed_text(draw, text):
     if draw.chance(10):
         text = text[:-1] + ", " + draw.one(ODD_MEMBERS)
     if draw.chance(10):
-        spelled = draw.one([lambda it: "\\u%04x" % ord(it), lambda it: "\\u%04X" % ord(it), lambda it: "\\" + it, lambda it: "\\u00" + it, lambda it: it + "\\/"])
+        spelled = draw.one([lambda it: "\\u%04x" % ord(it), lambda it: "\\u%04X" % ord(it), lambda it: "\\" + it, lambda it: "\\u00" + it,
+                            lambda it: it + "\\/"])
         text = re.sub("[a-z]", lambda found: spelled(found[0]) if draw.chance(3) else found[0], text)
     if draw.chance(8):
         deep = draw.one([1, 125, 126, 127, 128])
@@ -419,6 +422,10 @@ def changed_ring(random):
     if draw.chance(12):
         value[draw.one(["object", "container"])] = [draw.one([[0, 0], [1, 1], [0], [0, 1, 2, 3], [0, 1]])] * len(value["object"])
         value["replicas"] = draw.one([1, 2, 2, 4])
+    if draw.chance(8):
+        name, edges = draw.one([("lock_bits", [4, 5]), ("part_power", [0, 15, 16, 17]), ("replicas", [0, 3, 4])])
+        value[name] = draw.one(edges)
+        value["part_power"] = draw.one([0, 3, 4, 5]) if name == "lock_bits" else value["part_power"]
     if draw.chance(4):
         value["devices"] = ["d%d" % it for it in range(draw.one([7, 8, 9]))]
     for _ in range(draw.one([0, 1, 1, 1, 2])):
