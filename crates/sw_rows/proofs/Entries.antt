@@ -25,7 +25,7 @@ use Rattle.sw_rows.specs.Rows.{find_named, is_named, is_numbered, IsNamedOnce, I
 use Rattle.sw_rows.specs.declared.numbered.Numbered.{Numbered}
 use Rattle.sw_rows.specs.declared.row.Row.{Row}
 use Rattle.sw_rows.proofs.Merging.{rising-filter, rising-push}
-use Rattle.sw_rows.proofs.Latest.{but-above, but-none, latest-cut, latest-once, latest-push}
+use Rattle.sw_rows.proofs.Latest.{but-above, latest-cut, latest-once, latest-push}
 use Rattle.sw_rows.proofs.Named.{name-sym, same_name}
 
 -- ---- numbers
@@ -328,10 +328,6 @@ pub found_row : (o : Option Numbered) (row : Row) → option_map (λ n. n.row) o
 found_row None row found = cc
 found_row (Some n) row found = (n, refl, cc)
 
-no_row : (o : Option Numbered) → option_map (λ n. n.row) o ≡ None → o ≡ None
-no_row None none = refl
-no_row (Some n) none = cc
-
 -- the row of a number is gone from both maps
 pub indexed-cut : (es es' : List (ℕ × Row)) (names names' : List (Vec ℕ Global × ℕ)) (rowid : ℕ) (before : Option ℕ) (row : Row) → IsIndex es names →
     es' ≡ remove_entry (is_at (nat_cmp rowid)) es → row_numbered (rows_of es) rowid ≡ Some row → GoesBack (rows_of es) rowid before →
@@ -346,11 +342,3 @@ indexed-cut es es' names names' rowid before row index rows found back given =
       numbers = λ q. rw all (given q ∙ rw (index.numbers row.name, index.numbers q, ← some.2)
           (latest-cut (rows_of es) rowid before some.0 q index.rising some.1 back));
     }
-
--- where no row has the number, nothing goes
-pub indexed-none : (es es' : List (ℕ × Row)) (names : List (Vec ℕ Global × ℕ)) (rowid : ℕ) → IsIndex es names →
-    es' ≡ remove_entry (is_at (nat_cmp rowid)) es → row_numbered (rows_of es) rowid ≡ None → IsIndex es' names
-indexed-none es es' names rowid index rows none =
-    let all : rows_of es' ≡ rows_of es = ap rows_of rows ∙ remove-numbered 0 es rowid index.rising
-    ∙ but-none rowid (rows_of es) (no_row (find (is_numbered rowid) (rows_of es)) none) in
-    record { rising = rw all index.rising; numbers = λ q. index.numbers q ∙ ap (λ (l : List Numbered). latest l q) (sym all) }

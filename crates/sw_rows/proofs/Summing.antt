@@ -6,7 +6,7 @@ use Rattle.std.specs.List.{find, fold, sum_by}
 use Rattle.std.specs.Option.{option_map}
 use Rattle.std.specs.Prelude.{bit_xor}
 use Rattle.std.proofs.lemmas.List.Elements.{All-filter, All-push, All-weaker}
-use Rattle.std.proofs.lemmas.List.Sums.{count_by-le-length, fold-append, sum_by-append, sum_by-cons, sum_by-le}
+use Rattle.std.proofs.lemmas.List.Sums.{fold-append, sum_by-append, sum_by-cons, sum_by-le}
 use Rattle.std.proofs.lemmas.Nat.{xor_comm}
 use lib.Bits.{xor_self, xor_zero_l, xor_zero_r}
 use Rattle.sw_rows.specs.Index.{but, row_numbered}
@@ -91,9 +91,6 @@ taken list name gone once found =
     let some = found_row (find (is_named name) list) gone found in
     let p : Parted name list some.0 = parted name list some.0 once some.1 in
     taken_from list (without name list) p.before p.after some.0 gone p.whole p.rest some.2
-
-pub count-fits : (sums : Sums) (list : List Numbered) → AreSums sums list → length list < 2 ^ 63 → sums.count < 2 ^ 63
-count-fits sums list are short = omega (arith, are.count, count_by-le-length (λ n. not n.row.deleted) list)
 
 pub bytes-fit : (sums : Sums) (list : List Numbered) → AreSums sums list → length list < 2 ^ 63 → sums.bytes < 2 ^ 127
 bytes-fit sums list are short =
