@@ -4,6 +4,7 @@ pub mod Listed
 pub mod Placed
 pub mod Settling
 pub mod Slots
+pub mod Sound
 pub mod Stopped
 pub mod Stripes
 pub mod Wanting

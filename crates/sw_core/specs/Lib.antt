@@ -2,5 +2,6 @@ pub mod Lifting
 pub mod Lines
 pub mod Listing
 pub mod Making
+pub mod Sound
 pub mod Stopping
 pub mod Worlds

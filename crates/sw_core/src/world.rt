@@ -23,7 +23,7 @@ use std::marker::Model;
 use std::mem;
 use sw_container_locks::ContLocks;
 use sw_hashpath::{Secrets, partition};
-use sw_keeper::MemKeeper;
+use sw_keeper::SoundKeeper;
 use sw_outside::{BytesList, NoMemory};
 use sw_peer::KeptLine;
 use sw_ring::Ring;
@@ -44,8 +44,8 @@ pub struct World<V: Volume + Drop> {
     /// How many messages asked for hashes or files.
     asks: u64,
     lifted: Option<u8>,
-    /// One lock of containers beside each slot. Their tables are kept in memory, for as long as the world stands.
-    containers: ContLocks<MemKeeper>,
+    /// One lock of containers beside each slot. Their tables are kept in memory, for as long as the world stands, and no call of a keeper fails.
+    containers: ContLocks<SoundKeeper>,
     /// Empty, with room for all volumes, so that giving them back takes no memory.
     room: Vec<V>,
     /// Empty, with room for one line while a device is out, so that setting it down takes none either.

@@ -5,8 +5,8 @@
 //! holds is a meaning that contracts see, where the keeper tells it, and so are its count of failed calls and its count of calls.
 //! A change is a [`Batch`], which is made whole or not at all. Code above is generic over the trait and proved once.
 //!
-//! [`MemKeeper`] keeps its tables in memory, for tests and for runs without a host; tests choose which of its calls fail. The
-//! next layer up is the containers of one lock, which decides what a batch is.
+//! [`MemKeeper`] keeps its tables in memory, for tests and for runs without a host; tests choose which of its calls fail.
+//! [`SoundKeeper`] is one no call of which fails. The next layer up is the containers of one lock, which decides what a batch is.
 #![tactic(auto)]
 
 mod batch;
@@ -17,10 +17,12 @@ mod mem_keeper;
 mod order;
 mod shelf;
 mod shelves;
+mod sound_keeper;
 mod tables;
 
 pub use batch::{Batch, Change};
 pub use keeper::Keeper;
 pub use keeper_error::KeeperError;
 pub use mem_keeper::MemKeeper;
+pub use sound_keeper::SoundKeeper;
 pub use tables::Tables;

@@ -7,7 +7,7 @@ use std::alloc::Global;
 use sw_container_locks::ContLocks;
 use sw_container_steps::{ContAnswer, ContChange, Info};
 use sw_hashpath::Place;
-use sw_keeper::MemKeeper;
+use sw_keeper::SoundKeeper;
 use sw_listing::{Entries, Query};
 use sw_outside::NoMemory;
 use sw_peer::{ContainerDoor, Link, Lost};
@@ -15,7 +15,7 @@ use sw_timestamp::Timestamp;
 use sw_volume::Volume;
 
 /// So many container locks, under which no container was ever created.
-pub(crate) fn empty_locks(alloc: Global, count: usize) -> Result<ContLocks<MemKeeper>, NoMemory>
+pub(crate) fn empty_locks(alloc: Global, count: usize) -> Result<ContLocks<SoundKeeper>, NoMemory>
     ensures { IfOk result (AreEmpty count) }
 {
     let keepers = empty_keepers(alloc, count)?;
@@ -26,13 +26,13 @@ pub(crate) fn empty_locks(alloc: Global, count: usize) -> Result<ContLocks<MemKe
 }
 
 /// So many keepers that hold nothing.
-fn empty_keepers(alloc: Global, count: usize) -> Result<Vec<MemKeeper>, NoMemory>
+fn empty_keepers(alloc: Global, count: usize) -> Result<Vec<SoundKeeper>, NoMemory>
     ensures count { IfOk result (λ made. length made.items ≡ count) }
     ensures empty { IfOk result (λ made. All (λ keeper. keeper ≡ empty_keeper) made.items) }
 {
     let mut made = Vec::with_capacity(alloc, count)?;
     for _ in 0..count {
-        made.push(MemKeeper::new(alloc, Vec::new(alloc)))?;
+        made.push(SoundKeeper::new(alloc))?;
     }
     Ok(made)
 }

@@ -1,0 +1,5 @@
+use Rattle.sw_core.proofs.Sound.{no-look-fails}
+use Rattle.sw_core.proofs.laws.no_look_fails.Goals as goal
+
+pub returns : goal.returns
+returns g c = let v = g.V.Volume in no-look-fails v.tells v.holds v.faults
