@@ -1,5 +1,6 @@
 -- All entries of a step are of its place.
 use Rattle.std.proofs.Common.{◌≡◌, ◌≢◌, ℕ, Bool, true, false, cond, ◌&&◌, nat_lt, List, [], ◌∷◌, ◌++◌, Option, None, Some, refl, sym, ◌∙◌, ap, subst}
+use Rattle.std.proofs.Common.{◌⊎◌, inl, inr}
 use Rattle.std.specs.Str.{bytes_eq}
 use Rattle.std.proofs.lemmas.Slice.Eq.{bytes_eq-Decides}
 use Rattle.sw_hashpath.specs.declared.place.Place.{Place}
@@ -34,6 +35,16 @@ bytes-self a = (bytes_eq-Decides a a).1 refl
 
 pub place-self : (a : Place) → is_same_place a a ≡ true
 place-self a = rw (bytes-self a.hash, bytes-self a.account, bytes-self a.container) refl
+
+pub place-cases : (a b : Place) → (a ≡ b) ⊎ (a ≢ b)
+place-cases a b = by (is_same_place a b) refl
+  where
+    clash : false ≡ true → ⊥
+    clash same = cc
+
+    by : (t : Bool) → is_same_place a b ≡ t → (a ≡ b) ⊎ (a ≢ b)
+    by true is = inl (place-same a b is)
+    by false is = inr (λ same. clash (sym is ∙ subst (λ (x : Place). is_same_place a x ≡ true) same (place-self a)))
 
 place-other : (a b : Place) → a ≢ b → is_same_place a b ≡ false
 place-other a b away = by (is_same_place a b) refl

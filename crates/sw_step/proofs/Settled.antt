@@ -5,7 +5,7 @@ use Rattle.std.proofs.lemmas.List.{append-nil}
 use Rattle.sw_step.specs.Journals.{StepHistory, StepJournal, flat}
 use Rattle.sw_step.specs.Laws.{AllAmong, EntersDoubtsAlone, IsAmong, NoDoubtsTell, NothingToSettle}
 use Rattle.sw_step.specs.Rules.{AreChosen, CanStand, RulesOf, stands}
-use Rattle.sw_step.specs.Steps.{Settles, SettlesOne}
+use Rattle.sw_step.specs.Steps.{Settles, SettlesOne, StepChanges, added_by}
 
 among-middle : {X : Type 0} (front : List X) (x : X) (behind : List X) → IsAmong (front ++ x ∷ behind) x
 among-middle [] x behind = inl refl
@@ -78,3 +78,10 @@ module _ {K V E C A : Type 0} (r : RulesOf K V E C A) where
   settles-both at (suc n) m j mid after one more =
       let rest = settles-both at n m one.0 mid after one.2 more in
       (suc rest.0, (one.0, one.1, rest.1))
+
+  -- the entries of a step came in two parts: those of what it settled, and its own
+  pub added-is : {alone : Bool} {h : StepHistory K V E} {s : K → V} {key : K} {change : C} {answer : A} {g : StepHistory K V E} {t : V}
+      (step : StepChanges r alone h s key change answer g t) → g.journal.entries ≡ h.journal.entries ++ added_by r step
+  added-is {h = h} step = step.after.entries.1
+      ∙ (ap (λ (es : List E). es ++ step.after.entries.0) step.follows.entries.1
+      ∙ append_assoc h.journal.entries step.follows.entries.0 step.after.entries.0)
