@@ -1,5 +1,6 @@
 -- What is made of a step: nothing, or all that it enters over the tables that were read.
 use Rattle.std.proofs.Common.{◌≡◌, Bool, true, false, List, [], ◌∷◌, ◌++◌, None, Option, ◌⊎◌, inl, inr, refl, sym, ◌∙◌, ap}
+use Rattle.sw_container_steps.proofs.Ruling.{one-cut}
 use Rattle.sw_container_steps.specs.Rules.{ContJournal, cont_ending, cont_rules, one_batch}
 use Rattle.sw_container_steps.specs.Steps.{cont_refusal, entries_for}
 use Rattle.sw_container_steps.specs.declared.cont_answer.ContAnswer.{ContAnswer}
@@ -11,16 +12,10 @@ use Rattle.sw_step.specs.Journals.{flat}
 use Rattle.sw_step.specs.Rules.{Damages, Ending, Fails, Makes, Overflows, Refuses, Wants, has_failed, has_made}
 use Rattle.sw_step.specs.Steps.{Answers, EndsSeen, EndsUnseen, Stops}
 
-no-list : {A : Type 0} (xs : List A) (x : A) (ys : List A) → [] ≡ xs ++ x ∷ ys → ⊥
-no-list [] x ys is = cc
-no-list (z ∷ xs) x ys is = cc
-
--- a batch has one change, and is none where nothing is to be entered
-batch-cut : (es : List ContEntry) (first : List (List ContEntry)) (here : List ContEntry) (behind : List (List ContEntry))
-    → one_batch es ≡ first ++ here ∷ behind → (first ≡ []) × (here ≡ es) × (es ≡ [] → ⊥)
-batch-cut [] first here behind is = absurd (no-list first here behind is)
-batch-cut (e ∷ es) [] here behind is = (refl, cc, λ none. cc)
-batch-cut (e ∷ es) (f ∷ first) here behind is = let rest : [] ≡ first ++ here ∷ behind = cc in absurd (no-list first here behind rest)
+-- where there is nothing to enter there is no change at which it could have stopped
+no-batch : (first : List (List ContEntry)) (here : List ContEntry) (behind : List (List ContEntry)) → one_batch [] ≡ first ++ here ∷ behind → ⊥
+no-batch [] here behind is = cc
+no-batch (f ∷ first) here behind is = cc
 
 -- all of it was made
 pub record IsAllMade (ending : Ending) (saw : Bool) (read : Option Tables) (place : Place) (change : ContChange) (made : List ContEntry) : Type 0 where
@@ -37,15 +32,18 @@ module _ (read : Option Tables) (j : ContJournal) (place : Place) (change : Cont
       → (made ≡ []) ⊎ ((failed ≡ true) × (made ≡ entries_for read place change) × (made ≡ [] → ⊥))
   stopped failed st = by st.is_made
     where
-      cut : (st.first ≡ []) × (st.here ≡ entries_for read place change) × (entries_for read place change ≡ [] → ⊥)
-      cut = batch-cut (entries_for read place change) st.first st.here st.behind st.cut
+      cut : (st.first ≡ []) × (st.here ≡ entries_for read place change)
+      cut = one-cut (entries_for read place change) st.first st.here st.behind st.cut
+
+      full : entries_for read place change ≡ [] → ⊥
+      full none = no-batch st.first st.here st.behind (ap one_batch (sym none) ∙ st.cut)
 
       by : (made ≡ flat st.first) ⊎ ((st.doubted ≡ true) × (made ≡ flat st.first ++ st.here))
           → (made ≡ []) ⊎ ((failed ≡ true) × (made ≡ entries_for read place change) × (made ≡ [] → ⊥))
       by (inl is) = inl (is ∙ ap flat cut.0)
       by (inr (doubted, is)) =
           let all : made ≡ entries_for read place change = is ∙ (ap (λ (x : List (List ContEntry)). flat x ++ st.here) cut.0 ∙ cut.1) in
-          inr (st.may_doubt doubted, all, λ none. cut.2 (sym all ∙ none))
+          inr (st.may_doubt doubted, all, λ none. full (sym all ∙ none))
 
   seen : (ending : Ending) → EndsSeen cont_rules ending read j place change answer made after → IsMade ending true read place change made
   seen Makes d = inr (record { looked = refl; allowed = d.not_refused; all = d.is_made; ends = inl refl })
