@@ -1,6 +1,7 @@
 pub mod Batches
 pub mod Deciding
 pub mod Entries
+pub mod Halves
 pub mod Histories
 pub mod Journals
 pub mod Laws

@@ -6,8 +6,9 @@
 //! entered, and what is left in doubt. [`laws`] has what follows of any rules: a step keeps what the journal tells of its own key and of all others, also
 //! where it failed, and a lock in order can end a step in each way.
 //!
-//! Histories themselves are those of `sw_history`. The next layer up is `sw_object_steps`, which has the rules of objects. Steps at containers, and what the
-//! locks themselves promise, are still said in words of their own (`sw_container_steps`, `sw_peer`).
+//! Histories themselves are those of `sw_history`. The next layers up have the rules: `sw_container_steps` those of containers, in
+//! which container locks and doors to containers promise their steps, and `sw_object_steps` those of objects. What object locks promise is still said in words
+//! of its own (`sw_peer`).
 #![tactic(auto)]
 
 pub mod laws;
