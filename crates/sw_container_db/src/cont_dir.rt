@@ -72,6 +72,14 @@ impl<K: Keeper + Drop> ContDir<K> {
         }
     }
 
+    /// What is held at each place is what the place may stand for. It does nothing: its clause tells it.
+    pub fn may_stand(&self)
+        ensures { K.tells self.now.began ≡ true → (place : Place)
+            → CanStand cont_rules (cont_history_of K.tells K.holds K.faults self.now) place (K.holds self.now.keeper place) }
+    {
+        let _ = &self.keeper;
+    }
+
     /// The front: how many entries the journal has.
     pub fn front(&self) -> u64
         ensures { result ≡ length self.now.journal.entries }

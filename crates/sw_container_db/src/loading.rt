@@ -42,7 +42,7 @@ impl<K: Keeper + Drop> ContDir<K> {
         ensures called { ReadCalled K.tells K.holds K.faults K.calls self.old place.now result self.new }
     {
         let looked = self.look(alloc, place);
-        self.see_held();
+        self.may_stand();
         looked
     }
 
@@ -69,14 +69,6 @@ impl<K: Keeper + Drop> ContDir<K> {
             Err(KeeperError::Failed) => Err(ContAnswer::Failed),
             Err(KeeperError::NoMemory) => Err(ContAnswer::NoMemory),
         }
-    }
-
-    /// Each place may stand for what is held there: between two steps this always holds.
-    fn see_held(&self)
-        ensures { K.tells self.now.began ≡ true → (p : Place)
-            → CanStand cont_rules (cont_history_of K.tells K.holds K.faults self.now) p (K.holds self.now.keeper p) }
-    {
-        let _ = &self.keeper;
     }
 
     /// Loads the tables of the place where they aren't loaded. Those of another place go first, so that two are never held at once.
