@@ -21,7 +21,7 @@ use Rattle.sw_keeper.specs.declared.tables.Tables.{Tables}
 use Rattle.sw_step.specs.Rules.{CanStand}
 use Rattle.sw_step.specs.Steps.{added_by}
 use Rattle.sw_container_locks.proofs.Lists.{at-set_other, at-set_same}
-use Rattle.sw_container_locks.specs.Halves.{cont_held_of, cont_seen_of, half_of}
+use Rattle.sw_container_locks.specs.Halves.{MayStand, cont_held_of, cont_seen_of, half_of}
 use Rattle.sw_container_locks.specs.Laws.{ChangeMoves, ChangesAtLock, HasLocks, IsOfDevice, LiftingRestarts, ReadMoves, ReadsAtLock}
 use Rattle.sw_container_locks.specs.Making.{IsChangedAt, IsReadAt, line_of, taken}
 use Rattle.sw_container_locks.specs.Slots.{AreSetDown, IsLock, Lifts, begun}
@@ -52,6 +52,14 @@ module _ {K : Type 0} (tells : K → Bool) (holds : K → Place → Option Table
       by : (b : Bool) → tells k.keeper ≡ b → held (Some (slots.Open n)) place ≡ held (Some (slots.Open k)) place
       by true is = sym (held-told n place (told ∙ is)) ∙ (same is ∙ held-told k place is)
       by false is = rw (told, is) refl
+
+  -- where a lock's own places may stand for what its keeper holds, they may for what is told of that
+  pub may-stand : (all : List (ContSlot K)) (l : ℕ) (k : ContKept K) → slice_get all l ≡ Some (slots.Open k) → IsLock tells k
+      → (tells k.began ≡ true → (place : Place) → CanStand cont_rules (history k) place (holds k.keeper place)) → MayStand tells holds faults all l
+  may-stand all l k there is can =
+      subst (λ (o : Option (ContSlot K)). (seen o).told ≡ true → (place : Place) → CanStand cont_rules (seen o) place (held o place)) (sym there)
+      (λ told place.
+      subst (λ (t : Option Tables). CanStand cont_rules (history k) place t) (held-told k place (is.told ∙ told)) (can told place))
 
   -- ---- all locks, one of which has made a step
 

@@ -59,9 +59,10 @@ impl<K: Keeper + Drop> ContLocks<K> {
         requires is_open { IsOpen self.now lock }
         ensures { MayStand K.tells K.holds K.faults self.now lock }
     {
-        if let ContSlot::Open(dir) = &self.slots[lock] {
-            dir.may_stand();
-        }
+        let ContSlot::Open(dir) = &self.slots[lock] else {
+            unreachable!()
+        };
+        dir.may_stand();
     }
 
     /// Ends all locks, and gives their keepers back, in the order of the locks; those that are out are not among them. It takes no memory.
