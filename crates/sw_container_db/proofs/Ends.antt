@@ -97,7 +97,8 @@ module _ (h : ContHistory) (s : Place → Option Tables) (place : Place) (change
 
   pub wanted : (entries : List ContEntry) (f : ℕ) (t : Option Tables) → entries ≡ h.journal.entries → h.faults ≤ f → (h.told ≡ true → t ≡ s place)
       → ChangesContainer true h s place change conts.NoMemory (later h (record h.journal { entries = entries }) f) t
-  wanted entries f t same up now = rw same (ended false conts.NoMemory [] h.journal f t (stays f up) (record { not_made = refl; same = refl }) (λ fails. cc) now)
+  wanted entries f t same up now =
+      rw same (ended false conts.NoMemory [] h.journal f t (stays f up) (record { not_made = refl; same = refl }) (λ fails. cc) now)
 
   pub done : (answer : ContAnswer) (entries : List ContEntry) (f : ℕ) (t : Option Tables) → cont_refusal read place change ≡ None
       → cont_room h.journal read (entries_for read place change) ≡ true → entries ≡ h.journal.entries ++ entries_for read place change

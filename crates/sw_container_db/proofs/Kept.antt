@@ -287,7 +287,8 @@ module _ {K : Type 0} (tells : K → Bool) (holds : K → Place → Option Table
       1,
       (
         record k.journal { entries = entries; doubts = [] },
-        settles-one (record k.journal { entries = entries; doubts = [] }) (inr (ap (λ (es : List ContEntry). record k.journal { entries = es; doubts = [] }) are)),
+        settles-one (record k.journal { entries = entries; doubts = [] })
+            (inr (ap (λ (es : List ContEntry). record k.journal { entries = es; doubts = [] }) are)),
         refl,
       ),
     )

@@ -93,7 +93,8 @@ module _ {K : Type 0} (tells : K → Bool) (holds : K → Place → Option Table
         there = taken-at loaded taken place was (sym node.place ∙ at)
 
         pub make-takes : (IsSome after → IsBatch taken.tables changes) → tells k.keeper ≡ true → IsBatch (holds k.keeper place) changes
-        make-takes fits told = takes taken.tables read (holds k.keeper place) after place change given changes turn decided.0 (give ∙ are) leaves fits (held told)
+        make-takes fits told =
+            takes taken.tables read (holds k.keeper place) after place change given changes turn decided.0 (give ∙ are) leaves fits (held told)
 
         all_make : all_changed read changes ≡ fold entered read batch
         all_make = makes-entries taken.tables read after batch given changes turn makes leaves give

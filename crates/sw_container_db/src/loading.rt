@@ -34,7 +34,8 @@ impl<K: Keeper + Drop> ContDir<K> {
         ensures fresh { (added : List ContEntry) → self.new.journal.entries ≡ self.old.journal.entries ++ added → self.new.fresh ≡ self.old.fresh ++ added }
         ensures same { K.tells self.old.keeper ≡ true → (p : Place) → K.holds self.new.keeper p ≡ K.holds self.old.keeper p }
         ensures grows { GrowsOf (cont_history_of K.tells K.holds K.faults self.old) (cont_history_of K.tells K.holds K.faults self.new) }
-        ensures settles { OnlySettles cont_rules (λ place. true) (cont_history_of K.tells K.holds K.faults self.old) (cont_history_of K.tells K.holds K.faults self.new) }
+        ensures settles { OnlySettles cont_rules (λ place. true) (cont_history_of K.tells K.holds K.faults self.old)
+            (cont_history_of K.tells K.holds K.faults self.new) }
         ensures fits { K.tells self.new.began ≡ true → (p : Place)
             → CanStand cont_rules (cont_history_of K.tells K.holds K.faults self.new) p (K.holds self.new.keeper p) }
         ensures fault { IfErr result (λ answer. look_by (cont_ending answer) ≢ Tells) }
@@ -54,7 +55,8 @@ impl<K: Keeper + Drop> ContDir<K> {
         ensures fresh { (added : List ContEntry) → self.new.journal.entries ≡ self.old.journal.entries ++ added → self.new.fresh ≡ self.old.fresh ++ added }
         ensures same { K.tells self.old.keeper ≡ true → (p : Place) → K.holds self.new.keeper p ≡ K.holds self.old.keeper p }
         ensures grows { GrowsOf (cont_history_of K.tells K.holds K.faults self.old) (cont_history_of K.tells K.holds K.faults self.new) }
-        ensures settles { OnlySettles cont_rules (λ place. true) (cont_history_of K.tells K.holds K.faults self.old) (cont_history_of K.tells K.holds K.faults self.new) }
+        ensures settles { OnlySettles cont_rules (λ place. true) (cont_history_of K.tells K.holds K.faults self.old)
+            (cont_history_of K.tells K.holds K.faults self.new) }
         ensures fault { IfErr result (λ answer. look_by (cont_ending answer) ≢ Tells) }
         ensures cause { IfErr result (λ answer. cont_ending answer ≡ Fails → HasRisen (K.faults self.old.keeper) (K.faults self.new.keeper)) }
         ensures called { ReadCalled K.tells K.holds K.faults K.calls self.old place.now result self.new }

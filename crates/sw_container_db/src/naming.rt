@@ -21,7 +21,8 @@ impl<K: Keeper + Drop> ContDir<K> {
         ensures same { IsSameDir K.tells K.holds K.faults self.old self.new }
         ensures tables { SameTables K.tells K.holds K.faults K.calls self.old self.new }
         ensures grows { GrowsOf (cont_history_of K.tells K.holds K.faults self.old) (cont_history_of K.tells K.holds K.faults self.new) }
-        ensures settles { OnlySettles cont_rules (λ place. true) (cont_history_of K.tells K.holds K.faults self.old) (cont_history_of K.tells K.holds K.faults self.new) }
+        ensures settles { OnlySettles cont_rules (λ place. true) (cont_history_of K.tells K.holds K.faults self.old)
+            (cont_history_of K.tells K.holds K.faults self.new) }
         ensures settled { OnOk result (self.new.journal.doubts ≡ []) }
         ensures places { IfOk result (λ places. K.tells self.old.began ≡ true
             → ListsPlaces places.items (λ place. IsSome (stands cont_rules (cont_history_of K.tells K.holds K.faults self.new) place))) }

@@ -24,7 +24,8 @@ impl<K: Keeper + Drop> ContDir<K> {
         ensures began { self.new.began ≡ self.old.began }
         ensures grows { GrowsOf (cont_history_of K.tells K.holds K.faults self.old) (cont_history_of K.tells K.holds K.faults self.new) }
         ensures fresh { (added : List ContEntry) → self.new.journal.entries ≡ self.old.journal.entries ++ added → self.new.fresh ≡ self.old.fresh ++ added }
-        ensures settles { OnlySettles cont_rules (λ place. true) (cont_history_of K.tells K.holds K.faults self.old) (cont_history_of K.tells K.holds K.faults self.new) }
+        ensures settles { OnlySettles cont_rules (λ place. true) (cont_history_of K.tells K.holds K.faults self.old)
+            (cont_history_of K.tells K.holds K.faults self.new) }
         ensures same { K.tells self.old.keeper ≡ true → (p : Place) → K.holds self.new.keeper p ≡ K.holds self.old.keeper p }
         ensures told { K.tells self.new.keeper ≡ K.tells self.old.keeper }
         ensures tied { K.tells self.old.keeper ≡ K.tells self.old.began }

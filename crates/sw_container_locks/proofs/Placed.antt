@@ -190,7 +190,8 @@ module _ {K : Type 0} (tells : K → Bool) (holds : K → Place → Option Table
   -- ---- a read
 
   module _ {A : Type 0} (place : Place) (reading : Option Tables → ℕ → Result A ContAnswer) (got : Result A ContAnswer) (k n : ContKept K)
-      (is : IsLock tells k) (same : tells n.keeper ≡ tells k.keeper) (step : ReadsContainer true (history k) place reading got (history n) (holds n.keeper)) where
+      (is : IsLock tells k) (same : tells n.keeper ≡ tells k.keeper)
+      (step : ReadsContainer true (history k) place reading got (history n) (holds n.keeper)) where
     told-now : tells n.began ≡ true → tells n.keeper ≡ true
     told-now told = same ∙ was-told k is (sym step.follows.told ∙ told)
 

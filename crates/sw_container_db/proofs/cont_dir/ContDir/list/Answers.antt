@@ -29,11 +29,13 @@ returns-in_err-ready-clause-read g c =
     let v = g.K.Keeper in
     let exit = err_from_is_err_and c.from_residual.result c.from_residual.ensures.1 in
     rw (exit.1, exit.2) (read-none v.tells v.holds v.faults c.args.self.now c.ready.new.self c.args.place.now c.ready.ensures.began c.ready.ensures.told
-    c.ready.ensures.fresh c.ready.ensures.same c.ready.ensures.grows c.ready.ensures.settles c.ready.ensures.fits (listing_of c.args.query.now) c.in_err-ready.field-0.0 c.in_err-ready.ensures.fault
+    c.ready.ensures.fresh c.ready.ensures.same c.ready.ensures.grows c.ready.ensures.settles c.ready.ensures.fits
+    (listing_of c.args.query.now) c.in_err-ready.field-0.0 c.in_err-ready.ensures.fault
     c.in_err-ready.ensures.cause)
 
 pub returns-in-Err-clause-read : goal.returns-in-Err-clause-read
 returns-in-Err-clause-read g c =
     let v = g.K.Keeper in
     read-none v.tells v.holds v.faults c.args.self.now c.ready.new.self c.args.place.now c.ready.ensures.began c.ready.ensures.told
-    c.ready.ensures.fresh c.ready.ensures.same c.ready.ensures.grows c.ready.ensures.settles c.ready.ensures.fits (listing_of c.args.query.now) conts.NoMemory (λ tells. cc) (λ fails. cc)
+    c.ready.ensures.fresh c.ready.ensures.same c.ready.ensures.grows c.ready.ensures.settles c.ready.ensures.fits
+    (listing_of c.args.query.now) conts.NoMemory (λ tells. cc) (λ fails. cc)

@@ -11,7 +11,8 @@ use Rattle.sw_container_db.proofs.Calls.{called-made, called-refused, commit-fai
 use Rattle.sw_container_db.proofs.Commits.{taken-at}
 use Rattle.sw_container_db.proofs.Fresh.{IsKept, fresh-entered, fresh-same}
 use Rattle.sw_container_db.proofs.Kept.{empty, kept-same, nonempty}
-use Rattle.sw_container_db.proofs.Making.{done-kept, doubted-kept, held, make-done, make-doubted, make-full, make-none, make-refused, make-takes, make-wanted, there}
+use Rattle.sw_container_db.proofs.Making.{done-kept, doubted-kept, held, make-done, make-doubted, make-full, make-none}
+use Rattle.sw_container_db.proofs.Making.{make-refused, make-takes, make-wanted, there}
 use Rattle.sw_container_db.proofs.cont_dir.ContDir.make.Goals as goal
 use Rattle.sw_container_db.proofs.cont_dir.ContDir.make.Goals.{in-None-4, in-Some-3}
 
@@ -186,7 +187,8 @@ invariant_of-self-in-Err-Failed g c =
     c.if-more-eq0.false c.has_numbers.result c.has_room.result c.deref.result.now c.deref.ensures.value c.has_numbers.ensures c.has_room.ensures
     c.if-not-has_room.false c.take-at.result c.take-at.ensures.value c.deref-2.result.now c.deref-2.ensures.value c.in-Ok.made.batch c.in-Ok.made.tables
     c.in-Ok.ensures.makes c.in-Ok.ensures.tables in
-    rw (c.make_room.ensures.entries, c.take-at.ensures.after) (doubted-kept v.tells v.holds v.faults _ i.doubt i.loaded c.self.invariant place change none at read c.tables_in-tables.ensures
+    rw (c.make_room.ensures.entries, c.take-at.ensures.after)
+    (doubted-kept v.tells v.holds v.faults _ i.doubt i.loaded c.self.invariant place change none at read c.tables_in-tables.ensures
     c.into-batch.result.items c.in-Ok-Makes.entries decided c.into-batch.ensures c.count_of-count.result c.count_of-more.result
     c.count_of-count.ensures.length c.count_of-more.ensures.length
     c.if-more-eq0.false c.has_numbers.result c.has_room.result c.deref.result.now c.deref.ensures.value c.has_numbers.ensures c.has_room.ensures
@@ -212,7 +214,8 @@ invariant_of-self-in-Err-Failed-2 g c =
     c.if-more-eq0.false c.has_numbers.result c.has_room.result c.deref.result.now c.deref.ensures.value c.has_numbers.ensures c.has_room.ensures
     c.if-not-has_room.false c.take-at.result c.take-at.ensures.value c.deref-2.result.now c.deref-2.ensures.value c.in-Ok.made.batch c.in-Ok.made.tables
     c.in-Ok.ensures.makes c.in-Ok.ensures.tables in
-    rw (c.make_room.ensures.entries, c.take-at.ensures.after) (doubted-kept v.tells v.holds v.faults _ i.doubt i.loaded c.self.invariant place change none at read c.tables_in-tables.ensures
+    rw (c.make_room.ensures.entries, c.take-at.ensures.after)
+    (doubted-kept v.tells v.holds v.faults _ i.doubt i.loaded c.self.invariant place change none at read c.tables_in-tables.ensures
     c.into-batch.result.items c.in-Ok-Makes.entries decided c.into-batch.ensures c.count_of-count.result c.count_of-more.result
     c.count_of-count.ensures.length c.count_of-more.ensures.length
     c.if-more-eq0.false c.has_numbers.result c.has_room.result c.deref.result.now c.deref.ensures.value c.has_numbers.ensures c.has_room.ensures
@@ -270,7 +273,8 @@ returns-then-more-eq0-clause-called g c =
     subst (IsDecided read place change) c.in-Ok-Makes.field-0-is c.in-Ok-Makes.ensures in
     let nothing : c.into-batch.result.items ≡ [] = empty c.into-batch.result.items c.count_of-more.result c.count_of-more.ensures.length c.if-more-eq0.true in
     let same = held v.tells v.holds v.faults _ i.doubt i.loaded c.self.invariant place change none at read c.tables_in-tables.ensures in
-    rw (sym c.self.view_is, c.made_answer-answer.ensures) (called-made v.tells v.holds v.faults v.calls _ _ 0 read place change (c.count_of-count.result + c.count_of-more.result)
+    rw (sym c.self.view_is, c.made_answer-answer.ensures)
+    (called-made v.tells v.holds v.faults v.calls _ _ 0 read place change (c.count_of-count.result + c.count_of-more.result)
     (wrote-none v.tells v.holds v.faults v.calls _ _ read place change none none (sym (c.into-batch.ensures ∙ decided.1) ∙ nothing) same refl refl at))
 
 pub returns-in-Ok-commit-clause-called : goal.returns-in-Ok-commit-clause-called
@@ -284,7 +288,8 @@ returns-in-Ok-commit-clause-called g c =
     let full : c.into-batch.result.items ≢ [] = nonempty c.into-batch.result.items c.count_of-more.result c.count_of-more.ensures.length c.if-more-eq0.false in
     let same = held v.tells v.holds v.faults _ i.doubt i.loaded c.self.invariant place change none at read c.tables_in-tables.ensures in
     let there = taken-at i.loaded c.take-at.result place c.take-at.ensures.value at in
-    rw (sym c.self.view_is, c.made_answer-answer.ensures) (called-made v.tells v.holds v.faults v.calls _ _ 0 read place change (c.count_of-count.result + c.count_of-more.result)
+    rw (sym c.self.view_is, c.made_answer-answer.ensures)
+    (called-made v.tells v.holds v.faults v.calls _ _ 0 read place change (c.count_of-count.result + c.count_of-more.result)
     (wrote v.tells v.holds v.faults v.calls _ _ read place change none none (λ is. full (c.into-batch.ensures ∙ (decided.1 ∙ is))) same c.commit.ensures.calls
     c.in-Ok-commit.ensures.cause.kept (ap Some there)))
 
