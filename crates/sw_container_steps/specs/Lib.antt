@@ -2,8 +2,6 @@ pub mod Batches
 pub mod Deciding
 pub mod Entries
 pub mod Halves
-pub mod Histories
-pub mod Journals
 pub mod Laws
 pub mod Presence
 pub mod Reads
