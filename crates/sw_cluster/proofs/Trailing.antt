@@ -30,6 +30,7 @@ use Rattle.sw_nodes.proofs.Readying.{ready-of}
 use Rattle.sw_nodes.proofs.Restarting.{called-on, none-called, out-called, whole-called}
 use Rattle.sw_object_machine.proofs.Sessions.{run-begins}
 use Rattle.sw_container_machine.proofs.Sessions.{cont-run-begins}
+use Rattle.sw_container_steps.specs.Halves.{ContHalf}
 use Rattle.sw_container_machine.specs.Machine.{ContRuns, cont_machine_of}
 use Rattle.sw_container_machine.specs.Standing.{HasContRun}
 use Rattle.sw_core.proofs.Containing.{empty-holds, empty-told}
@@ -177,8 +178,7 @@ module _ {V : Type 0} (tells : V → Bool) (files : V → Folders) (faults : V �
           (empty-holds volumes (place_lock ring.lock_bits ring.power device place) place);
       cont_runs = cont-run-begins (cont_machine_of (see began)) (see began)
           (record {
-            tables = λ device place. refl;
-            seen = λ l. refl;
+            half = refl;
             told = λ device place. subst (λ (w : AllNodes V). ((see w).containers.seen (cont_lock (see w).nodes device place)).told ≡ true) (sym is)
                 (empty-told volumes (place_lock ring.lock_bits ring.power device place));
           })
@@ -249,7 +249,7 @@ module _ {V : Type 0} (tells : V → Bool) (files : V → Folders) (faults : V �
           machine = r.after;
           run = subst (λ (n : SightNodes). ContRuns n (cont_machine_of (see began)) after.lines r.after) way.ready.nodes
               (subst (λ (ls : List Line). ContRuns (see w).nodes (cont_machine_of (see began)) ls r.after) (sym lines_are) r.run);
-          holds = λ device place. same device place ∙ r.stands.tables device place;
+          holds = λ device place. same device place ∙ ap (λ (c : ContHalf). c.holds device place) r.stands.half;
         }
 
     none-lifted : (device : ℕ) → None ≡ Some device → ⊥

@@ -79,7 +79,7 @@ module _ {V : Type 0} (tells : V → Bool) (files : V → Folders) (faults : V �
     pub machine : ContMachine
     pub run : ContRuns (nodes_of (length ring.devices) ring.lock_bits ring.power ring.secrets) (cont_machine_of (sight_of tells files faults began)) steps
         machine
-    pub holds : (device : ℕ) (place : Place) → (sight_of tells files faults after).containers.holds device place ≡ machine.tables device place
+    pub holds : (device : ℕ) (place : Place) → (sight_of tells files faults after).containers.holds device place ≡ machine.half.holds device place
 
   -- A session was run over these nodes of a ring, in which no request is a last one, and then their volumes were given back. Of its requests
   -- two that pushed a partition, there and back, and were told that it is done, meet

@@ -8,11 +8,13 @@ use Rattle.sw_rows.specs.Sums.{bytes_of, count_of, hash_of}
 use Rattle.sw_listing.specs.Listing.{listing}
 use Rattle.sw_listing.specs.declared.entry.Entry.{Entry}
 use Rattle.sw_listing.specs.declared.query.Query.{Query}
-use Rattle.sw_container_steps.specs.Histories.{is_fault}
+use Rattle.sw_step.specs.Rules.{Refuses}
+use Rattle.sw_step.specs.Steps.{Tells}
+use Rattle.sw_container_steps.proofs.Ruling.{refusal-ends}
 use Rattle.sw_container_steps.specs.Presence.{deletion_after, is_no_time, is_present}
 use Rattle.sw_container_steps.specs.Reads.{info_of, listing_of}
 use Rattle.sw_container_steps.specs.Steps.{cont_made_answer, cont_refusal, creation_answer, entries_for}
-use Rattle.sw_container_steps.specs.Journals.{ContJournal}
+use Rattle.sw_container_steps.specs.Rules.{ContJournal, cont_ending, look_by}
 use Rattle.sw_container_steps.specs.declared.cont_answer.ContAnswer.{ContAnswer}
 use Rattle.sw_container_steps.specs.declared.cont_answer.ContAnswer.TheVariants as conts
 use Rattle.sw_container_steps.specs.declared.cont_change.ContChange.{ContChange}
@@ -21,27 +23,24 @@ use Rattle.sw_container_steps.specs.declared.cont_entry.ContEntry.{ContEntry}
 use Rattle.sw_container_steps.specs.declared.info.Info.{Info}
 use Rattle.sw_container_db.specs.Calling.{CalledBy, CommitFails, Counts, Looked, LookedBy, RefusedBy, SameTables, Wanted, Wrote, call_for, loaded_after}
 use Rattle.sw_container_db.specs.Calling.{raised_by}
-use Rattle.sw_container_db.specs.ContDirs.{AreOwn, ContKept, batch_in}
+use Rattle.sw_container_db.specs.ContDirs.{ContKept, doubts_in}
 use Rattle.sw_container_db.specs.declared.sign.Doubt.{Doubt}
-use Rattle.sw_container_db.proofs.Kept.{RefusesSo, refuses-so}
 
 zero-one : (n : ℕ) → n ≡ 0 → n ≡ 1 → ⊥
 zero-one n a b = omega (arith, a, b)
 
-pub one-call : (entries : List ContEntry) → entries ≢ [] → call_for entries ≡ 1
+pub one-call : {A : Type 0} (entries : List A) → entries ≢ [] → call_for entries ≡ 1
 one-call [] full = absurd (full refl)
 one-call (e ∷ es) full = refl
 
--- a doubt has entries
-pub one-doubt : (doubt : Option Doubt) (d : Doubt) → AreOwn doubt → doubt ≡ Some d → call_for (batch_in doubt) ≡ 1
-one-doubt None d own is = cc
-one-doubt (Some e) d own is = one-call e.batch.items own.full
+pub one-doubt : (doubt : Option Doubt) (d : Doubt) → doubt ≡ Some d → call_for (doubts_in doubt) ≡ 1
+one-doubt doubt d is = ap (λ (x : Option Doubt). call_for (doubts_in x)) is
 
-pub no-doubt : (doubt : Option Doubt) → doubt ≡ None → call_for (batch_in doubt) ≡ 0
-no-doubt doubt is = ap (λ (x : Option Doubt). call_for (batch_in x)) is
+pub no-doubt : (doubt : Option Doubt) → doubt ≡ None → call_for (doubts_in doubt) ≡ 0
+no-doubt doubt is = ap (λ (x : Option Doubt). call_for (doubts_in x)) is
 
 -- nothing stays loaded from before a doubt
-pub none-loaded : (doubts : List ContEntry) (loaded : Option Place) → call_for doubts ≡ 1 → loaded_after doubts loaded ≡ None
+pub none-loaded : {A : Type 0} (doubts : List A) (loaded : Option Place) → call_for doubts ≡ 1 → loaded_after doubts loaded ≡ None
 none-loaded [] loaded one = absurd (zero-one 0 refl one)
 none-loaded (d ∷ ds) loaded one = refl
 
@@ -52,7 +51,7 @@ module _ {K : Type 0} (tells : K → Bool) (holds : K → Place → Option Table
       faults n.keeper ≡ raised_by fails (faults k.keeper)
       → Counts tells holds faults calls 0 commits fails k n
   counts k n commits fails none called failed = record {
-    called = called ∙ ap (λ (d : List ContEntry). raised_by commits (raised_by (call_for d) (calls k.keeper))) (sym none);
+    called = called ∙ ap (λ (d : List (List ContEntry)). raised_by commits (raised_by (call_for d) (calls k.keeper))) (sym none);
     failed = failed;
   }
 
@@ -101,7 +100,7 @@ module _ {K : Type 0} (tells : K → Bool) (holds : K → Place → Option Table
   }
 
   pub commit-fails : (k n : ContKept K) (read : Option Tables) (place : Place) (change : ContChange) → k.journal.doubts ≡ [] →
-      n.journal.doubts ≡ entries_for read place change
+      n.journal.doubts ≡ entries_for read place change ∷ []
       → (tells k.keeper ≡ true → read ≡ holds k.keeper place) → calls n.keeper ≡ raised (calls k.keeper) → faults n.keeper ≡ raised (faults k.keeper) →
       n.loaded ≡ None → CommitFails tells holds faults calls 0 k place change n
   commit-fails k n read place change none doubts known called failed loaded = record {
@@ -117,9 +116,9 @@ module _ {K : Type 0} (tells : K → Bool) (holds : K → Place → Option Table
   pub called-refused : (k n : ContKept K) (loads : ℕ) (t : Option Tables) (place : Place) (change : ContChange) (answer : ContAnswer) →
       cont_refusal t place change ≡ Some answer
       → Looked tells holds faults calls loads (Some place) k n → CalledBy tells holds faults calls loads k place change answer n
-  called-refused k n loads t place change answer refused look = by answer (subst RefusesSo refused (refuses-so t place change))
+  called-refused k n loads t place change answer refused look = by answer (refusal-ends t place change answer refused)
     where
-      by : (a : ContAnswer) → RefusesSo (Some a) → CalledBy tells holds faults calls loads k place change a n
+      by : (a : ContAnswer) → cont_ending a ≡ Refuses → CalledBy tells holds faults calls loads k place change a n
       by conts.Absent so = look
       by (conts.Stale time) so = look
       by (conts.NotEmpty count) so = look
@@ -143,7 +142,7 @@ module _ {K : Type 0} (tells : K → Bool) (holds : K → Place → Option Table
   called-made k n loads t place (MergeRows rows) front done = done
 
   -- of a step that didn't come to the container's tables
-  pub called-fault : (k n : ContKept K) (loads : ℕ) (place : Place) (change : ContChange) (answer : ContAnswer) → is_fault answer ≡ true →
+  pub called-fault : (k n : ContKept K) (loads : ℕ) (place : Place) (change : ContChange) (answer : ContAnswer) → look_by (cont_ending answer) ≢ Tells →
       RefusedBy tells holds faults calls loads (Some place) k answer n
       → CalledBy tells holds faults calls loads k place change answer n
   called-fault k n loads place change conts.Failed fault (inl settling) = inl settling
@@ -157,13 +156,13 @@ module _ {K : Type 0} (tells : K → Bool) (holds : K → Place → Option Table
     same = w.same;
     loaded = w.loaded;
   }
-  called-fault k n loads place change (conts.New front) fault w = cc
-  called-fault k n loads place change (conts.There front) fault w = cc
-  called-fault k n loads place change (conts.Done front) fault w = cc
-  called-fault k n loads place change conts.Absent fault w = cc
-  called-fault k n loads place change (conts.Stale time) fault w = cc
-  called-fault k n loads place change (conts.NotEmpty count) fault w = cc
-  called-fault k n loads place change conts.JournalFull fault w = cc
+  called-fault k n loads place change (conts.New front) fault w = absurd (fault refl)
+  called-fault k n loads place change (conts.There front) fault w = absurd (fault refl)
+  called-fault k n loads place change (conts.Done front) fault w = absurd (fault refl)
+  called-fault k n loads place change conts.Absent fault w = absurd (fault refl)
+  called-fault k n loads place change (conts.Stale time) fault w = absurd (fault refl)
+  called-fault k n loads place change (conts.NotEmpty count) fault w = absurd (fault refl)
+  called-fault k n loads place change conts.JournalFull fault w = absurd (fault refl)
 
   pub listed : (k n : ContKept K) (loads : ℕ) (at : Option Place) (query : Query) (t : Option Tables) (front : ℕ) (got : Result (List Entry) ContAnswer) →
       got ≡ listing_of query t front
@@ -226,7 +225,7 @@ module _ {K : Type 0} (tells : K → Bool) (holds : K → Place → Option Table
     counts-after : (n : ContKept K) (commits fails : ℕ) → Counts tells holds faults calls 0 commits fails i n →
         Counts tells holds faults calls loads commits fails k n
     counts-after n commits fails c = record {
-      called = c.called ∙ (ap (λ (d : List ContEntry). raised_by commits (raised_by (call_for d) (calls i.keeper))) seen.settled ∙ ap (raised_by commits)
+      called = c.called ∙ (ap (λ (d : List (List ContEntry)). raised_by commits (raised_by (call_for d) (calls i.keeper))) seen.settled ∙ ap (raised_by commits)
           seen.counts.called);
       failed = c.failed ∙ ap (raised_by fails) seen.counts.failed;
     }

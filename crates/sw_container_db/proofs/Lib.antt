@@ -1,6 +1,7 @@
 pub mod Calls
 pub mod Commits
+pub mod Ends
 pub mod Fresh
 pub mod Kept
-pub mod Placed
+pub mod Making
 pub mod ReadSteps

@@ -9,7 +9,6 @@ use Rattle.sw_container_steps.specs.Steps.{entries_for}
 use Rattle.sw_container_steps.specs.declared.cont_answer.ContAnswer.{ContAnswer}
 use Rattle.sw_container_steps.specs.declared.cont_answer.ContAnswer.TheVariants as answers
 use Rattle.sw_container_steps.specs.declared.cont_change.ContChange.{ContChange}
-use Rattle.sw_container_steps.specs.declared.cont_entry.ContEntry.{ContEntry}
 use Rattle.sw_container_db.specs.ContDirs.{ContKept}
 
 -- one more for each of so many calls, up to the greatest count
@@ -17,15 +16,15 @@ abbrev pub raised_by : ℕ → ℕ → ℕ
 raised_by zero n = n
 raised_by (suc k) n = raised (raised_by k n)
 
--- one call where there are entries: the load that settles those in doubt, or the commit that makes new ones
-abbrev pub call_for : List ContEntry → ℕ
+-- one call where there are any: the load that settles what is in doubt, or the commit that makes new entries
+abbrev pub call_for : {A : Type 0} → List A → ℕ
 call_for [] = 0
-call_for (entry ∷ entries) = 1
+call_for (x ∷ xs) = 1
 
 -- the place whose tables are loaded once the doubt is settled: none where there was one
-abbrev pub loaded_after : List ContEntry → Option Place → Option Place
+abbrev pub loaded_after : {A : Type 0} → List A → Option Place → Option Place
 loaded_after [] loaded = loaded
-loaded_after (entry ∷ entries) loaded = None
+loaded_after (x ∷ xs) loaded = None
 
 -- whether the tables that are loaded are those of this place
 abbrev pub is_loaded : Option Place → Place → Bool
@@ -86,7 +85,7 @@ module _ {K : Type 0} (tells : K → Bool) (holds : K → Place → Option Table
     pub read : Option Tables
     pub known : tells k.keeper ≡ true → read ≡ holds k.keeper place
     pub counts : Counts loads 1 1 k n
-    pub doubted : n.journal.doubts ≡ entries_for read place change
+    pub doubted : n.journal.doubts ≡ entries_for read place change ∷ []
     pub loaded : n.loaded ≡ None
 
   -- memory ran out: no tables have changed, no call failed, and nothing is in doubt that wasn't. Of the calls that may be made each was made or

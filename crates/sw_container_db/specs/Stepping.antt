@@ -1,8 +1,8 @@
--- What a step at the containers of a lock is: one of its lock, by the relations that every door of container nodes uses. (This project's own.)
+-- What a step at the containers of a lock is: one by the rules of containers. (This project's own.)
 use Rattle.std.specs.Prelude.{◌≡◌, ◌≢◌, ℕ, Bool, true, List, ◌++◌, Option, Result}
 use Rattle.sw_hashpath.specs.declared.place.Place.{Place}
 use Rattle.sw_keeper.specs.declared.tables.Tables.{Tables}
-use Rattle.sw_container_steps.specs.Histories.{ContStepChanges, ContStepReads}
+use Rattle.sw_container_steps.specs.Rules.{ChangesContainer, ReadsContainer}
 use Rattle.sw_container_steps.specs.declared.cont_answer.ContAnswer.{ContAnswer}
 use Rattle.sw_container_steps.specs.declared.cont_change.ContChange.{ContChange}
 use Rattle.sw_container_steps.specs.declared.cont_entry.ContEntry.{ContEntry}
@@ -19,7 +19,7 @@ module _ {K : Type 0} (tells : K → Bool) (holds : K → Place → Option Table
   pub record IsStep (k : ContKept K) (place : Place) (change : ContChange) (answer : ContAnswer) (n : ContKept K) : Type 0 where
     pub same : IsSameDir k n
     pub others : tells k.keeper ≡ true → (p : Place) → p ≢ place → holds n.keeper p ≡ holds k.keeper p
-    pub made : ContStepChanges true (cont_history_of tells holds faults k) (holds k.keeper place) place change answer (cont_history_of tells holds faults n)
+    pub made : ChangesContainer true (cont_history_of tells holds faults k) (holds k.keeper) place change answer (cont_history_of tells holds faults n)
         (holds n.keeper place)
 
   -- a step that reads what stands at the place; at every place is held what was held there
@@ -27,4 +27,4 @@ module _ {K : Type 0} (tells : K → Bool) (holds : K → Place → Option Table
       (n : ContKept K) : Type 0 where
     pub same : IsSameDir k n
     pub all : tells k.keeper ≡ true → (p : Place) → holds n.keeper p ≡ holds k.keeper p
-    pub read : ContStepReads true (cont_history_of tells holds faults k) place reading got (cont_history_of tells holds faults n) (holds n.keeper place)
+    pub read : ReadsContainer true (cont_history_of tells holds faults k) place reading got (cont_history_of tells holds faults n) (holds n.keeper)

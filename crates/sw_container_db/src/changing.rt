@@ -2,7 +2,7 @@ ghost use Rattle.std.specs.Prelude.{◌≡◌, ◌≢◌, ◌+◌, ◌<◌, ◌^
 ghost use Rattle.sw_container_db.specs.Calling.{Called, CalledBy};
 ghost use Rattle.sw_container_db.specs.ContDirs.{cont_history_of};
 ghost use Rattle.sw_container_db.specs.Stepping.{IsStep};
-ghost use Rattle.sw_container_steps.specs.Histories.{ContStepChanges};
+ghost use Rattle.sw_container_steps.specs.Rules.{ChangesContainer};
 ghost use Rattle.sw_container_steps.specs.declared.cont_entry.ContEntry.{ContEntry};
 ghost use Rattle.sw_hashpath.specs.declared.place.Place.{Place};
 
@@ -44,7 +44,7 @@ impl<K: Keeper + Drop> ContDir<K> {
         ensures told { K.tells self.new.keeper ≡ K.tells self.old.keeper }
         ensures fresh { (added : List ContEntry) → self.new.journal.entries ≡ self.old.journal.entries ++ added → self.new.fresh ≡ self.old.fresh ++ added }
         ensures others { K.tells self.old.keeper ≡ true → (p : Place) → p ≢ place.now → K.holds self.new.keeper p ≡ K.holds self.old.keeper p }
-        ensures made { ContStepChanges true (cont_history_of K.tells K.holds K.faults self.old) (K.holds self.old.keeper place.now) place.now change.now
+        ensures made { ChangesContainer true (cont_history_of K.tells K.holds K.faults self.old) (K.holds self.old.keeper) place.now change.now
             result (cont_history_of K.tells K.holds K.faults self.new) (K.holds self.new.keeper place.now) }
         ensures called { CalledBy K.tells K.holds K.faults K.calls 0 self.old place.now change.now result self.new }
     {

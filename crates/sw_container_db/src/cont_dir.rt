@@ -1,7 +1,7 @@
 ghost use Rattle.std.specs.Prelude.{◌≡◌, true, [], None, length};
-ghost use Rattle.sw_container_db.specs.ContDirs.{Fits, cont_history_of};
-ghost use Rattle.sw_container_steps.specs.Entries.{about};
-ghost use Rattle.sw_container_steps.specs.Histories.{cont_stands};
+ghost use Rattle.sw_container_db.specs.ContDirs.{cont_history_of};
+ghost use Rattle.sw_container_steps.specs.Rules.{cont_rules};
+ghost use Rattle.sw_step.specs.Rules.{CanStand};
 ghost use Rattle.sw_hashpath.specs.declared.place.Place.{Place};
 
 use crate::loading::Loaded;
@@ -31,7 +31,7 @@ pub struct ContDir<K: Keeper + Drop> {
 }
 
 impl<K: Keeper + Drop> Model for ContDir<K> {
-    ghost use Rattle.sw_container_db.specs.ContDirs.{ContKept, IsContDir, batch_in, place_of};
+    ghost use Rattle.sw_container_db.specs.ContDirs.{ContKept, IsContDir, doubts_in, place_of};
 
     ghost Value = { ContKept K };
 
@@ -40,7 +40,7 @@ impl<K: Keeper + Drop> Model for ContDir<K> {
       began = n.opening.value;
       loaded = place_of n.loaded;
       fresh = n.fresh.items;
-      journal = record { entries = n.entries.items; doubts = batch_in n.doubt; max_entries = n.max_entries; max_bytes = 0 };
+      journal = record { entries = n.entries.items; doubts = doubts_in n.doubt; max_entries = n.max_entries; max_bytes = 0 };
     } };
 
     ghost invariant = { λ n. IsContDir K.tells K.holds K.faults (record {
@@ -48,7 +48,7 @@ impl<K: Keeper + Drop> Model for ContDir<K> {
       began = n.opening.value;
       loaded = place_of n.loaded;
       fresh = n.fresh.items;
-      journal = record { entries = n.entries.items; doubts = batch_in n.doubt; max_entries = n.max_entries; max_bytes = 0 };
+      journal = record { entries = n.entries.items; doubts = doubts_in n.doubt; max_entries = n.max_entries; max_bytes = 0 };
     }) n.doubt n.loaded };
 }
 
@@ -70,6 +70,14 @@ impl<K: Keeper + Drop> ContDir<K> {
             doubt: None,
             max_entries,
         }
+    }
+
+    /// What is held at each place is what the place may stand for. It does nothing: its clause tells it.
+    pub fn may_stand(&self)
+        ensures { K.tells self.now.began ≡ true → (place : Place)
+            → CanStand cont_rules (cont_history_of K.tells K.holds K.faults self.now) place (K.holds self.now.keeper place) }
+    {
+        let _ = &self.keeper;
     }
 
     /// The front: how many entries the journal has.
@@ -94,7 +102,7 @@ impl<K: Keeper + Drop> ContDir<K> {
         ensures same { result ≡ self.keeper }
         ensures told { K.tells result ≡ K.tells self.began }
         ensures stands { K.tells self.began ≡ true → (place : Place)
-            → Fits (about place self.journal.doubts) (K.holds result place) (cont_stands (cont_history_of K.tells K.holds K.faults self) place) }
+            → CanStand cont_rules (cont_history_of K.tells K.holds K.faults self) place (K.holds result place) }
     {
         self.keeper
     }

@@ -6,7 +6,7 @@
 //! the doubted place, and by the times of the container and the greatest number that it gave out it finds whether they were made. The values of the
 //! entries that were made are moved, not copied, to where [`ContDir::take_fresh`] takes them out; once they are taken, only contracts see them.
 //!
-//! Each step is one of the relations that `sw_container_steps` has for every door. `specs/ContDirs` says what contracts see of a lock,
+//! Each step is one by the rules of containers (`sw_container_steps`), in the words of `sw_step`. `specs/ContDirs` says what contracts see of a lock,
 //! `specs/Stepping` what a step is, and `specs/Calling` which calls of the keeper it makes and what each leaves where it is the one that failed.
 #![tactic(auto)]
 

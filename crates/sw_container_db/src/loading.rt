@@ -1,9 +1,10 @@
-ghost use Rattle.std.specs.Prelude.{◌≡◌, true, List, [], ◌++◌, Some, None, IsSome, IfSome, IfErr, OnOk, OnErr};
+ghost use Rattle.std.specs.Prelude.{◌≡◌, ◌≢◌, true, List, [], ◌++◌, Some, None, IsSome, IfSome, IfErr, OnOk, OnErr};
 ghost use Rattle.sw_container_db.specs.Calling.{ReadCalled, is_loaded, load_for, raised_by};
 ghost use Rattle.sw_container_db.specs.ContDirs.{cont_history_of, place_of};
 ghost use Rattle.sw_container_steps.specs.Entries.{is_same_place};
-ghost use Rattle.sw_container_steps.specs.Histories.{OnlySettlesCont, cont_stands, is_fault};
-ghost use Rattle.sw_container_steps.specs.declared.cont_answer.ContAnswer.TheVariants as answers;
+ghost use Rattle.sw_container_steps.specs.Rules.{cont_ending, cont_rules, look_by};
+ghost use Rattle.sw_step.specs.Rules.{CanStand, Fails};
+ghost use Rattle.sw_step.specs.Steps.{OnlySettles, Tells};
 ghost use Rattle.sw_container_steps.specs.declared.cont_entry.ContEntry.{ContEntry};
 ghost use Rattle.sw_hashpath.specs.declared.place.Place.{Place};
 ghost use Rattle.sw_history.specs.Halves.{GrowsOf};
@@ -33,11 +34,31 @@ impl<K: Keeper + Drop> ContDir<K> {
         ensures fresh { (added : List ContEntry) → self.new.journal.entries ≡ self.old.journal.entries ++ added → self.new.fresh ≡ self.old.fresh ++ added }
         ensures same { K.tells self.old.keeper ≡ true → (p : Place) → K.holds self.new.keeper p ≡ K.holds self.old.keeper p }
         ensures grows { GrowsOf (cont_history_of K.tells K.holds K.faults self.old) (cont_history_of K.tells K.holds K.faults self.new) }
-        ensures settles { OnlySettlesCont (cont_history_of K.tells K.holds K.faults self.old) (cont_history_of K.tells K.holds K.faults self.new) }
-        ensures stands { OnOk result (K.tells self.new.began ≡ true → (p : Place)
-            → cont_stands (cont_history_of K.tells K.holds K.faults self.new) p ≡ K.holds self.new.keeper p) }
-        ensures fault { IfErr result (λ answer. is_fault answer ≡ true) }
-        ensures cause { IfErr result (λ answer. answer ≡ answers.Failed → HasRisen (K.faults self.old.keeper) (K.faults self.new.keeper)) }
+        ensures settles { OnlySettles cont_rules (λ place. true) (cont_history_of K.tells K.holds K.faults self.old)
+            (cont_history_of K.tells K.holds K.faults self.new) }
+        ensures fits { K.tells self.new.began ≡ true → (p : Place)
+            → CanStand cont_rules (cont_history_of K.tells K.holds K.faults self.new) p (K.holds self.new.keeper p) }
+        ensures fault { IfErr result (λ answer. look_by (cont_ending answer) ≢ Tells) }
+        ensures cause { IfErr result (λ answer. cont_ending answer ≡ Fails → HasRisen (K.faults self.old.keeper) (K.faults self.new.keeper)) }
+        ensures called { ReadCalled K.tells K.holds K.faults K.calls self.old place.now result self.new }
+    {
+        let looked = self.look(alloc, place);
+        self.may_stand();
+        looked
+    }
+
+    /// The same, of the calls alone.
+    fn look(&mut self, alloc: Global, place: &Place) -> Result<(), ContAnswer>
+        ensures began { self.new.began ≡ self.old.began }
+        ensures told { K.tells self.new.keeper ≡ K.tells self.old.keeper }
+        ensures tied { K.tells self.old.keeper ≡ K.tells self.old.began }
+        ensures fresh { (added : List ContEntry) → self.new.journal.entries ≡ self.old.journal.entries ++ added → self.new.fresh ≡ self.old.fresh ++ added }
+        ensures same { K.tells self.old.keeper ≡ true → (p : Place) → K.holds self.new.keeper p ≡ K.holds self.old.keeper p }
+        ensures grows { GrowsOf (cont_history_of K.tells K.holds K.faults self.old) (cont_history_of K.tells K.holds K.faults self.new) }
+        ensures settles { OnlySettles cont_rules (λ place. true) (cont_history_of K.tells K.holds K.faults self.old)
+            (cont_history_of K.tells K.holds K.faults self.new) }
+        ensures fault { IfErr result (λ answer. look_by (cont_ending answer) ≢ Tells) }
+        ensures cause { IfErr result (λ answer. cont_ending answer ≡ Fails → HasRisen (K.faults self.old.keeper) (K.faults self.new.keeper)) }
         ensures called { ReadCalled K.tells K.holds K.faults K.calls self.old place.now result self.new }
     {
         match self.settle(alloc) {
@@ -59,8 +80,6 @@ impl<K: Keeper + Drop> ContDir<K> {
         ensures fresh { self.new.fresh ≡ self.old.fresh }
         ensures told { K.tells self.new.keeper ≡ K.tells self.old.keeper }
         ensures same { K.tells self.old.keeper ≡ true → (p : Place) → K.holds self.new.keeper p ≡ K.holds self.old.keeper p }
-        ensures stands { OnOk result (self.new.journal.doubts ≡ [] → K.tells self.new.began ≡ true → (p : Place)
-            → cont_stands (cont_history_of K.tells K.holds K.faults self.new) p ≡ K.holds self.new.keeper p) }
         ensures loaded { OnOk result (self.new.loaded ≡ Some place.now) }
         ensures unloaded { OnErr result (self.new.loaded ≡ None) }
         ensures needed { OnErr result (load_for self.old.loaded place.now ≡ 1) }

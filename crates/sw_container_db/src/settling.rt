@@ -1,7 +1,8 @@
 ghost use Rattle.std.specs.Prelude.{◌≡◌, ◌≢◌, true, false, List, [], ◌++◌, IfOk, OnOk, OnErr};
 ghost use Rattle.sw_container_db.specs.Calling.{call_for, loaded_after, raised_by};
 ghost use Rattle.sw_container_db.specs.ContDirs.{cont_history_of};
-ghost use Rattle.sw_container_steps.specs.Histories.{OnlySettlesCont};
+ghost use Rattle.sw_container_steps.specs.Rules.{cont_rules};
+ghost use Rattle.sw_step.specs.Steps.{OnlySettles};
 ghost use Rattle.sw_container_steps.specs.Laws.{sign_of};
 ghost use Rattle.sw_container_steps.specs.declared.cont_entry.ContEntry.{ContEntry};
 ghost use Rattle.sw_hashpath.specs.declared.place.Place.{Place};
@@ -23,7 +24,8 @@ impl<K: Keeper + Drop> ContDir<K> {
         ensures began { self.new.began ≡ self.old.began }
         ensures grows { GrowsOf (cont_history_of K.tells K.holds K.faults self.old) (cont_history_of K.tells K.holds K.faults self.new) }
         ensures fresh { (added : List ContEntry) → self.new.journal.entries ≡ self.old.journal.entries ++ added → self.new.fresh ≡ self.old.fresh ++ added }
-        ensures settles { OnlySettlesCont (cont_history_of K.tells K.holds K.faults self.old) (cont_history_of K.tells K.holds K.faults self.new) }
+        ensures settles { OnlySettles cont_rules (λ place. true) (cont_history_of K.tells K.holds K.faults self.old)
+            (cont_history_of K.tells K.holds K.faults self.new) }
         ensures same { K.tells self.old.keeper ≡ true → (p : Place) → K.holds self.new.keeper p ≡ K.holds self.old.keeper p }
         ensures told { K.tells self.new.keeper ≡ K.tells self.old.keeper }
         ensures tied { K.tells self.old.keeper ≡ K.tells self.old.began }

@@ -1,72 +1,32 @@
 -- Steps, reads and restarts at some of all locks, as the user of a door knows them.
 use Rattle.std.proofs.Common.{◌≡◌, ◌≢◌, ℕ, ◌+◌, ◌-◌, ◌<◌, ◌≤◌, Bool, true, false, ◌==◌, List, [], ◌++◌, length, refl, sym, ◌∙◌, ap}
 use Rattle.std.proofs.Common.{subst, arith, Option, Some, ◌⊎◌, inl, inr, Result, slice_set}
-use Rattle.std.specs.List.{slice_get}
+use Rattle.std.specs.List.{fold, slice_get}
 use Rattle.std.proofs.lemmas.Option.{slice_get_within}
 use borrow.Author.Tests.{eqb-true, eqb-false}
 use Rattle.sw_container_db.specs.ContDirs.{ContKept, cont_history_of}
-use Rattle.sw_container_steps.specs.Entries.{about}
-use Rattle.sw_container_steps.specs.Histories.{ContHistory, ContStepChanges, ContStepReads, OnlySettlesCont, cont_stands}
-use Rattle.sw_container_steps.specs.Journals.{ContAnswers, cont_left_by}
+use Rattle.sw_container_steps.specs.Entries.{entered}
+use Rattle.sw_container_steps.specs.Rules.{ChangesContainer, ContHistory, ReadsContainer, cont_rules}
 use Rattle.sw_container_steps.specs.declared.cont_answer.ContAnswer.{ContAnswer}
 use Rattle.sw_container_steps.specs.declared.cont_change.ContChange.{ContChange}
 use Rattle.sw_hashpath.specs.declared.place.Place.{Place}
 use Rattle.sw_history.proofs.Growing.{grows-refl, grows-trans}
 use Rattle.sw_history.specs.Halves.{GrowsOf, HalfMoves, HalfRestarts}
-use Rattle.sw_outside.specs.Faults.{HasRisen}
 use Rattle.sw_peer.specs.ContSights.{IsIn}
 use Rattle.sw_peer.specs.declared.cont_event.ContEvent.{ContEvent}
+use Rattle.sw_peer.specs.declared.cont_event.ContEvent.TheVariants.{Changed}
 use Rattle.sw_peer.specs.declared.line.Line.{Line}
 use Rattle.sw_peer.specs.declared.link.Link.{Link}
 use Rattle.sw_keeper.specs.declared.tables.Tables.{Tables}
+use Rattle.sw_step.specs.Rules.{CanStand}
+use Rattle.sw_step.specs.Steps.{added_by}
 use Rattle.sw_container_locks.proofs.Lists.{at-set_other, at-set_same}
-use Rattle.sw_container_locks.specs.Halves.{cont_held_of, cont_seen_of, half_of}
+use Rattle.sw_container_locks.specs.Halves.{MayStand, cont_held_of, cont_seen_of, half_of}
 use Rattle.sw_container_locks.specs.Laws.{ChangeMoves, ChangesAtLock, HasLocks, IsOfDevice, LiftingRestarts, ReadMoves, ReadsAtLock}
-use Rattle.sw_container_locks.specs.Making.{IsChangedAt, IsReadAt, taken}
+use Rattle.sw_container_locks.specs.Making.{IsChangedAt, IsReadAt, line_of, taken}
 use Rattle.sw_container_locks.specs.Slots.{AreSetDown, IsLock, Lifts, begun}
 use Rattle.sw_container_locks.specs.declared.cont_slot.ContSlot.{ContSlot}
 use Rattle.sw_container_locks.specs.declared.cont_slot.ContSlot.TheVariants as slots
-
--- ---- the same step, of equal histories, and of tables that are equal where the lock is told
-
-abbrev recast : (h i : ContHistory) (s u : Option Tables) (place : Place) (change : ContChange) (answer : ContAnswer) (g j : ContHistory) (t v : Option Tables)
-    → h ≡ i → (h.told ≡ true → s ≡ u) → g ≡ j → (h.told ≡ true → t ≡ v) → ContStepChanges true h s place change answer g t
-    → ContStepChanges true i u place change answer j v
-recast h i s u place change answer g j t v hi su gj tv step = record {
-  before = step.before;
-  read = step.read;
-  made = step.made;
-  follows = subst (λ (x : ContHistory). GrowsOf x step.before) hi step.follows;
-  settles = λ is. subst (λ (x : ContHistory). OnlySettlesCont x step.before) hi (step.settles is);
-  settled = step.settled;
-  answered = subst (λ (x : ContHistory). ContAnswers step.read step.before.journal place change answer step.made x.journal) gj step.answered;
-  known = step.known;
-  after = subst (λ (x : ContHistory). GrowsOf step.before x) gj step.after;
-  failed = λ is. subst (λ (x : ContHistory). HasRisen x.faults j.faults) hi (subst (λ (x : ContHistory). HasRisen h.faults x.faults) gj (step.failed is));
-  held = λ is told clean. step.held is told clean ∙ su (sym step.follows.told ∙ told);
-  leaves = λ is told. let was = sym step.follows.told ∙ told in
-      sym (tv was) ∙ (step.leaves is told ∙ ap (λ (x : Option Tables). cont_left_by x place change step.made) (su was));
-  added = step.added;
-  adds = λ is. subst (λ (x : ContHistory). j.journal.entries ≡ x.journal.entries ++ step.added) hi
-      (subst (λ (x : ContHistory). x.journal.entries ≡ h.journal.entries ++ step.added) gj (step.adds is));
-}
-
-abbrev recast-read : {A : Type 0} (h i : ContHistory) (place : Place) (reading : Option Tables → ℕ → Result A ContAnswer) (got : Result A ContAnswer)
-    (g j : ContHistory) (t v : Option Tables) → h ≡ i → g ≡ j → (g.told ≡ true → t ≡ v) → ContStepReads true h place reading got g t
-    → ContStepReads true i place reading got j v
-recast-read h i place reading got g j t v hi gj tv step = record {
-  read = step.read;
-  follows = subst (λ (x : ContHistory). GrowsOf x j) hi (subst (λ (x : ContHistory). GrowsOf h x) gj step.follows);
-  settles = λ is. subst (λ (x : ContHistory). OnlySettlesCont x j) hi (subst (λ (x : ContHistory). OnlySettlesCont h x) gj (step.settles is));
-  settled = λ is. subst (λ (x : ContHistory). about place x.journal.doubts ≡ []) gj (step.settled is);
-  shown = λ is. subst (λ (x : ContHistory). got ≡ reading step.read (length x.journal.entries)) gj (step.shown is);
-  known = λ told is. subst (λ (x : ContHistory). step.read ≡ cont_stands x place) gj (step.known (ap (λ (x : ContHistory). x.told) gj ∙ told) is);
-  failed = λ is. subst (λ (x : ContHistory). HasRisen x.faults j.faults) hi (subst (λ (x : ContHistory). HasRisen h.faults x.faults) gj (step.failed is));
-  held = λ is told clean. let was = ap (λ (x : ContHistory). x.told) gj ∙ told in step.held is was clean ∙ tv was;
-  added = step.added;
-  adds = λ is. subst (λ (x : ContHistory). j.journal.entries ≡ x.journal.entries ++ step.added) hi
-      (subst (λ (x : ContHistory). x.journal.entries ≡ h.journal.entries ++ step.added) gj (step.adds is));
-}
 
 module _ {K : Type 0} (tells : K → Bool) (holds : K → Place → Option Tables) (faults : K → ℕ) where
   -- ---- one lock
@@ -92,6 +52,14 @@ module _ {K : Type 0} (tells : K → Bool) (holds : K → Place → Option Table
       by : (b : Bool) → tells k.keeper ≡ b → held (Some (slots.Open n)) place ≡ held (Some (slots.Open k)) place
       by true is = sym (held-told n place (told ∙ is)) ∙ (same is ∙ held-told k place is)
       by false is = rw (told, is) refl
+
+  -- where a lock's own places may stand for what its keeper holds, they may for what is told of that
+  pub may-stand : (all : List (ContSlot K)) (l : ℕ) (k : ContKept K) → slice_get all l ≡ Some (slots.Open k) → IsLock tells k
+      → (tells k.began ≡ true → (place : Place) → CanStand cont_rules (history k) place (holds k.keeper place)) → MayStand tells holds faults all l
+  may-stand all l k there is can =
+      subst (λ (o : Option (ContSlot K)). (seen o).told ≡ true → (place : Place) → CanStand cont_rules (seen o) place (held o place)) (sym there)
+      (λ told place.
+      subst (λ (t : Option Tables). CanStand cont_rules (history k) place t) (held-told k place (is.told ∙ told)) (can told place))
 
   -- ---- all locks, one of which has made a step
 
@@ -139,6 +107,45 @@ module _ {K : Type 0} (tells : K → Bool) (holds : K → Place → Option Table
 
   -- ---- a step that may change a container
 
+  module _ (place : Place) (change : ContChange) (answer : ContAnswer) (k n : ContKept K) (is : IsLock tells k) (same : tells n.keeper ≡ tells k.keeper)
+      (step : ChangesContainer true (history k) (holds k.keeper) place change answer (history n) (holds n.keeper place)) where
+    told-then : step.before.told ≡ true → tells k.keeper ≡ true
+    told-then told = was-told k is (sym step.follows.told ∙ told)
+
+    -- what is told to be held is what the keeper holds
+    abbrev told-step : ChangesContainer true (history k) (λ p. held (Some (slots.Open k)) p) place change answer (history n) (held (Some (slots.Open n)) place)
+    told-step = record {
+      own = step.own;
+      before = step.before;
+      looked = step.looked;
+      read = step.read;
+      made = step.made;
+      follows = step.follows;
+      settles = step.settles;
+      settled = step.settled;
+      answered = step.answered;
+      orderly = step.orderly;
+      after = step.after;
+      failed = step.failed;
+      known = step.known;
+      kept = λ alone told other reached.
+          subst (λ (t : Option Tables). CanStand cont_rules step.before other t) (held-told k other (told-then told)) (step.kept alone told other reached);
+      held = λ alone told looked. step.held alone told looked ∙ held-told k place (told-then told);
+      leaves = λ alone told.
+          sym (held-told n place (same ∙ told-then told))
+          ∙ (step.leaves alone told ∙ ap (λ (t : Option Tables). fold entered t step.made) (held-told k place (told-then told)));
+    }
+
+    -- at locks of which this one stands there
+    abbrev ChangeStep : Option (ContSlot K) → Option (ContSlot K) → Type 0
+    ChangeStep o u = (x : ChangesContainer true (seen o) (λ p. held o p) place change answer (seen u) (held u place))
+        × (added_by cont_rules step ≡ added_by cont_rules x)
+
+    change-step : (o u : Option (ContSlot K)) → o ≡ Some (slots.Open k) → u ≡ Some (slots.Open n) → ChangeStep o u
+    change-step o u before after =
+        subst (λ (x : Option (ContSlot K)). ChangeStep x u) (sym before)
+        (subst (λ (x : Option (ContSlot K)). ChangeStep (Some (slots.Open k)) x) (sym after) (told-step, refl))
+
   module _ (calls : K → ℕ) (lock : ℕ → Place → ℕ) (link : Link) (device : ℕ) (place : Place) (change : ContChange) (old : List (ContSlot K))
       (answer : ContAnswer) (new : List (ContSlot K)) (line : Line) (own : IsOfDevice lock device place)
       (at : IsChangedAt tells holds faults calls (lock device place) link device place change old answer new line) where
@@ -154,26 +161,24 @@ module _ {K : Type 0} (tells : K → Bool) (holds : K → Place → Option Table
     change-rest : new ≡ after
     change-rest = at.rest ∙ ap (λ (x : ContKept K). slice_set old (lock device place) (slots.Open x)) at.made.after
 
-    change-now : slice_get after (lock device place) ≡ Some (slots.Open n)
-    change-now = now lock old (lock device place) k n at.there
-
     change-told : tells n.keeper ≡ tells k.keeper
     change-told = at.made.step.same.told
 
     change-after : ChangesAtLock tells holds faults lock link device place change old answer after line
-    change-after = record {
-      moves = moves lock old (lock device place) k n at.there device place refl
-          (grows-trans (history k) at.made.step.made.before (history n) at.made.step.made.follows at.made.step.made.after) change-told
-          (λ d p away here tell. at.made.step.others tell p (λ same. away (own d p here, same)));
-      step = recast (history k) (seen (slice_get old (lock device place))) (holds k.keeper place) (held (slice_get old (lock device place)) place) place
-          change answer (history n) (seen (slice_get after (lock device place))) (holds n.keeper place) (held (slice_get after (lock device place)) place)
-          (ap seen (sym at.there))
-          (λ is. held-told k place (was-told k at.is_lock is) ∙ ap (λ (o : Option (ContSlot K)). held o place) (sym at.there))
-          (ap seen (sym change-now))
-          (λ is. held-told n place (change-told ∙ was-told k at.is_lock is) ∙ ap (λ (o : Option (ContSlot K)). held o place) (sym change-now))
-          at.made.step.made;
-      line_is = at.made.line_is;
-    }
+    change-after =
+        let step = change-step place change answer k n at.is_lock change-told at.made.step.made (slice_get old (lock device place))
+        (slice_get after (lock device place)) at.there (now lock old (lock device place) k n at.there) in
+        record {
+          moves = moves lock old (lock device place) k n at.there device place refl
+              (grows-trans (history k) at.made.step.made.before (history n) at.made.step.made.follows at.made.step.made.after) change-told
+              (λ d p away here tell. at.made.step.others tell p (λ same. away (own d p here, same)));
+          step = record {
+            held = λ p. held (slice_get old (lock device place)) p;
+            is_held = λ alone p same. ap (λ (i : ℕ). held (slice_get old i) p) (sym same);
+            step = step.0;
+          };
+          line_is = at.made.line_is ∙ ap (line_of link device (Changed place change answer)) step.1;
+        }
 
     pub changes : ChangesAtLock tells holds faults lock link device place change old answer new line
     changes = subst (λ (all : List (ContSlot K)). ChangesAtLock tells holds faults lock link device place change old answer all line) (sym change-rest)
@@ -183,6 +188,35 @@ module _ {K : Type 0} (tells : K → Bool) (holds : K → Place → Option Table
   change-moves calls lock link device place change old answer new line own at = changes calls lock link device place change old answer new line own at
 
   -- ---- a read
+
+  module _ {A : Type 0} (place : Place) (reading : Option Tables → ℕ → Result A ContAnswer) (got : Result A ContAnswer) (k n : ContKept K)
+      (is : IsLock tells k) (same : tells n.keeper ≡ tells k.keeper)
+      (step : ReadsContainer true (history k) place reading got (history n) (holds n.keeper)) where
+    told-now : tells n.began ≡ true → tells n.keeper ≡ true
+    told-now told = same ∙ was-told k is (sym step.follows.told ∙ told)
+
+    abbrev told-read : ReadsContainer true (history k) place reading got (history n) (λ p. held (Some (slots.Open n)) p)
+    told-read = record {
+      read = step.read;
+      follows = step.follows;
+      settles = step.settles;
+      settled = step.settled;
+      shown = step.shown;
+      orderly = step.orderly;
+      failed = step.failed;
+      known = step.known;
+      kept = λ alone told other of_these.
+          subst (λ (t : Option Tables). CanStand cont_rules (history n) other t) (held-told n other (told-now told)) (step.kept alone told other of_these);
+      held = λ alone told looked other of_these. step.held alone told looked other of_these ∙ held-told n other (told-now told);
+    }
+
+    abbrev ReadStep : Option (ContSlot K) → Option (ContSlot K) → Type 0
+    ReadStep o u = (x : ReadsContainer true (seen o) place reading got (seen u) (λ p. held u p)) × (step.follows.entries.0 ≡ x.follows.entries.0)
+
+    read-step : (o u : Option (ContSlot K)) → o ≡ Some (slots.Open k) → u ≡ Some (slots.Open n) → ReadStep o u
+    read-step o u before after =
+        subst (λ (x : Option (ContSlot K)). ReadStep x u) (sym before)
+        (subst (λ (x : Option (ContSlot K)). ReadStep (Some (slots.Open k)) x) (sym after) (told-read, refl))
 
   module _ {A : Type 0} (calls : K → ℕ) (lock : ℕ → Place → ℕ) (link : Link) (device : ℕ) (place : Place) (reading : Option Tables → ℕ → Result A ContAnswer)
       (event : Result A ContAnswer → ContEvent) (old : List (ContSlot K)) (got : Result A ContAnswer) (new : List (ContSlot K)) (line : Line)
@@ -199,25 +233,24 @@ module _ {K : Type 0} (tells : K → Bool) (holds : K → Place → Option Table
     read-rest : new ≡ after_read
     read-rest = at.rest ∙ ap (λ (x : ContKept K). slice_set old (lock device place) (slots.Open x)) at.read.after
 
-    read-now : slice_get after_read (lock device place) ≡ Some (slots.Open n_read)
-    read-now = now lock old (lock device place) k_read n_read at.there
-
     read-told : tells n_read.keeper ≡ tells k_read.keeper
     read-told = at.read.step.same.told
 
     read-after : ReadsAtLock tells holds faults lock link device place reading event old got after_read line
-    read-after = record {
-      moves = moves lock old (lock device place) k_read n_read at.there device place refl at.read.step.read.follows read-told
-          (λ d p away here tell. at.read.step.all tell p);
-      holds_all = λ d p. held-at lock old (lock device place) k_read n_read at.there (lock d p) p read-told (λ here tell. at.read.step.all tell p);
-      step = recast-read (history k_read) (seen (slice_get old (lock device place))) place reading got
-          (history n_read) (seen (slice_get after_read (lock device place))) (holds n_read.keeper place) (held (slice_get after_read (lock device place)) place)
-          (ap seen (sym at.there)) (ap seen (sym read-now))
-          (λ is. held-told n_read place (read-told ∙ was-told k_read at.is_lock (sym at.read.step.read.follows.told ∙ is))
-          ∙ ap (λ (o : Option (ContSlot K)). held o place) (sym read-now))
-          at.read.step.read;
-      line_is = at.read.line_is;
-    }
+    read-after =
+        let step = read-step place reading got k_read n_read at.is_lock read-told at.read.step.read (slice_get old (lock device place))
+        (slice_get after_read (lock device place)) at.there (now lock old (lock device place) k_read n_read at.there) in
+        record {
+          moves = moves lock old (lock device place) k_read n_read at.there device place refl at.read.step.read.follows read-told
+              (λ d p away here tell. at.read.step.all tell p);
+          holds_all = λ d p. held-at lock old (lock device place) k_read n_read at.there (lock d p) p read-told (λ here tell. at.read.step.all tell p);
+          step = record {
+            held = λ p. held (slice_get after_read (lock device place)) p;
+            is_held = λ alone p same. ap (λ (i : ℕ). held (slice_get after_read i) p) (sym same);
+            step = step.0;
+          };
+          line_is = at.read.line_is ∙ ap (line_of link device (event got)) step.1;
+        }
 
     pub reads : ReadsAtLock tells holds faults lock link device place reading event old got new line
     reads = subst (λ (all : List (ContSlot K)). ReadsAtLock tells holds faults lock link device place reading event old got all line) (sym read-rest) read-after

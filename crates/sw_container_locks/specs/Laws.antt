@@ -1,6 +1,7 @@
 -- What the calls are, to the user of a door: steps, reads and restarts of a device, whatever the locks are numbered by. (This project's own.)
 use Rattle.std.specs.Prelude.{◌≡◌, ◌≢◌, ℕ, ◌<◌, ◌≤◌, ◌⊎◌, Bool, true, List, Option, Result}
-use Rattle.sw_container_steps.specs.Histories.{ContStepChanges, ContStepReads}
+use Rattle.sw_container_steps.specs.Halves.{ChangesAt, ReadsAt}
+use Rattle.sw_container_steps.specs.Rules.{cont_rules}
 use Rattle.sw_container_steps.specs.declared.cont_answer.ContAnswer.{ContAnswer}
 use Rattle.sw_container_steps.specs.declared.cont_change.ContChange.{ContChange}
 use Rattle.sw_hashpath.specs.declared.place.Place.{Place}
@@ -11,6 +12,7 @@ use Rattle.sw_peer.specs.declared.cont_event.ContEvent.TheVariants.{Changed}
 use Rattle.sw_peer.specs.declared.line.Line.{Line}
 use Rattle.sw_peer.specs.declared.link.Link.{Link}
 use Rattle.sw_keeper.specs.declared.tables.Tables.{Tables}
+use Rattle.sw_step.specs.Steps.{added_by}
 use Rattle.sw_container_locks.specs.Halves.{half_of}
 use Rattle.sw_container_locks.specs.Making.{IsChangedAt, IsReadAt, line_of}
 use Rattle.sw_container_locks.specs.Slots.{AreSetDown, Lifts}
@@ -30,18 +32,16 @@ module _ {K : Type 0} (tells : K → Bool) (holds : K → Place → Option Table
   pub record ChangesAtLock (link : Link) (device : ℕ) (place : Place) (change : ContChange) (old : List (ContSlot K)) (answer : ContAnswer)
       (new : List (ContSlot K)) (line : Line) : Type 0 where
     pub moves : HalfMoves lock true (IsIn device place) (half_of tells holds faults lock old) (half_of tells holds faults lock new)
-    pub step : ContStepChanges true ((half_of tells holds faults lock old).seen (lock device place)) ((half_of tells holds faults lock old).holds device place)
-        place change answer ((half_of tells holds faults lock new).seen (lock device place)) ((half_of tells holds faults lock new).holds device place)
-    pub line_is : line ≡ line_of link device (Changed place change answer) step.added
+    pub step : ChangesAt lock true device place change (half_of tells holds faults lock old) answer (half_of tells holds faults lock new)
+    pub line_is : line ≡ line_of link device (Changed place change answer) (added_by cont_rules step.step)
 
   -- a read of one: every device holds what it held
   pub record ReadsAtLock {A : Type 0} (link : Link) (device : ℕ) (place : Place) (reading : Option Tables → ℕ → Result A ContAnswer)
       (event : Result A ContAnswer → ContEvent) (old : List (ContSlot K)) (got : Result A ContAnswer) (new : List (ContSlot K)) (line : Line) : Type 0 where
     pub moves : HalfMoves lock true (IsIn device place) (half_of tells holds faults lock old) (half_of tells holds faults lock new)
     pub holds_all : (d : ℕ) (p : Place) → (half_of tells holds faults lock new).holds d p ≡ (half_of tells holds faults lock old).holds d p
-    pub step : ContStepReads true ((half_of tells holds faults lock old).seen (lock device place)) place reading got
-        ((half_of tells holds faults lock new).seen (lock device place)) ((half_of tells holds faults lock new).holds device place)
-    pub line_is : line ≡ line_of link device (event got) step.added
+    pub step : ReadsAt lock true device place reading (half_of tells holds faults lock old) got (half_of tells holds faults lock new)
+    pub line_is : line ≡ line_of link device (event got) step.step.follows.entries.0
 
 module _ {K : Type 0} (tells : K → Bool) (holds : K → Place → Option Tables) (faults calls : K → ℕ) where
   -- a step that may change a container, at the lock of its place, is one of its device

@@ -1,6 +1,6 @@
 -- How much the journal of a container lock holds. (This project's own.)
 use Rattle.std.specs.Prelude.{ℕ, []}
-use Rattle.sw_container_steps.specs.Journals.{ContJournal}
+use Rattle.sw_container_steps.specs.Rules.{ContJournal}
 
 abbrev pub journal_entries : ℕ
 journal_entries = 262144

@@ -4,6 +4,7 @@ use Rattle.std.specs.List.{slice_get}
 use Rattle.sw_container_db.specs.Calling.{Called, ReadCalled}
 use Rattle.sw_container_db.specs.ContDirs.{ContKept}
 use Rattle.sw_container_db.specs.Stepping.{IsReadStep, IsStep}
+use Rattle.sw_container_steps.specs.Rules.{cont_rules}
 use Rattle.sw_container_steps.specs.declared.cont_answer.ContAnswer.{ContAnswer}
 use Rattle.sw_container_steps.specs.declared.cont_change.ContChange.{ContChange}
 use Rattle.sw_container_steps.specs.declared.cont_entry.ContEntry.{ContEntry}
@@ -14,6 +15,7 @@ use Rattle.sw_peer.specs.declared.line.Event.TheVariants.{AtContainer}
 use Rattle.sw_peer.specs.declared.line.Line.{Line}
 use Rattle.sw_peer.specs.declared.link.Link.{Link}
 use Rattle.sw_keeper.specs.declared.tables.Tables.{Tables}
+use Rattle.sw_step.specs.Steps.{added_by}
 use Rattle.sw_container_locks.specs.Slots.{IsLock}
 use Rattle.sw_container_locks.specs.declared.cont_slot.ContSlot.{ContSlot}
 use Rattle.sw_container_locks.specs.declared.cont_slot.ContSlot.TheVariants as slots
@@ -34,7 +36,7 @@ module _ {K : Type 0} (tells : K → Bool) (holds : K → Place → Option Table
     pub step : IsStep tells holds faults k place change answer left
     pub called : Called tells holds faults calls k place change answer left
     pub after : n ≡ taken left
-    pub line_is : line ≡ line_of link device (Changed place change answer) step.made.added
+    pub line_is : line ≡ line_of link device (Changed place change answer) (added_by cont_rules step.made)
 
   -- a read, and how a line tells of it
   pub record IsReadIn {A : Type 0} (k : ContKept K) (link : Link) (device : ℕ) (place : Place) (reading : Option Tables → ℕ → Result A ContAnswer)
@@ -43,7 +45,7 @@ module _ {K : Type 0} (tells : K → Bool) (holds : K → Place → Option Table
     pub step : IsReadStep tells holds faults k place reading got left
     pub called : ReadCalled tells holds faults calls k place got left
     pub after : n ≡ taken left
-    pub line_is : line ≡ line_of link device (event got) step.read.added
+    pub line_is : line ≡ line_of link device (event got) step.read.follows.entries.0
 
   -- a step at this one of all locks; every other one is as it was
   pub record IsChangedAt (l : ℕ) (link : Link) (device : ℕ) (place : Place) (change : ContChange) (old : List (ContSlot K)) (answer : ContAnswer)

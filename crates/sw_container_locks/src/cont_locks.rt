@@ -1,4 +1,5 @@
 ghost use Rattle.std.specs.Prelude.{◌≡◌, ◌↔◌, ℕ, ◌+◌, ◌<◌, ◌≤◌, length, IsTrue, IfOk, IfErr, OnErr};
+ghost use Rattle.sw_container_locks.specs.Halves.{MayStand};
 ghost use Rattle.sw_container_locks.specs.Slots.{AreLocks, AreSetDown, IsOpen, Lifts, keepers_of, opened};
 
 use crate::cont_slot::ContSlot;
@@ -51,6 +52,17 @@ impl<K: Keeper + Drop> ContLocks<K> {
         ensures { IsTrue result ↔ IsOpen self.now lock }
     {
         lock < self.slots.len() && is_open_slot(&self.slots[lock])
+    }
+
+    /// What is held under this lock is, at each place, what the place may stand for. It does nothing: its clause tells it.
+    pub fn may_stand(&self, lock: usize)
+        requires is_open { IsOpen self.now lock }
+        ensures { MayStand K.tells K.holds K.faults self.now lock }
+    {
+        let ContSlot::Open(dir) = &self.slots[lock] else {
+            unreachable!()
+        };
+        dir.may_stand();
     }
 
     /// Ends all locks, and gives their keepers back, in the order of the locks; those that are out are not among them. It takes no memory.

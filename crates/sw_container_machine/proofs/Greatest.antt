@@ -158,7 +158,7 @@ pub keeps_the_greatest : RunKeepsTheGreatest
 keeps_the_greatest nodes m lines after tell run device place rows reached name =
     let left = merges nodes m lines after tell run device place in
     let same : left.0 ≡ rows = append_cancel_left (m.reached device place) left.0 rows (sym left.1 ∙ reached) in
-    let folded : rows_of (after.tables device place) ≡ fold merged (rows_of (m.tables device place)) rows =
-    left.2 ∙ ap (λ (x : List Row). fold merged (rows_of (m.tables device place)) x) same in
-    subst (λ (l : RowList). IsGreatest name (row_named name (m.tables device place)) rows (find_named l.list name)) (sym folded)
-    (fold-keeps name (rows_of (m.tables device place)) rows)
+    let folded : rows_of (after.half.holds device place) ≡ fold merged (rows_of (m.half.holds device place)) rows =
+    left.2 ∙ ap (λ (x : List Row). fold merged (rows_of (m.half.holds device place)) x) same in
+    subst (λ (l : RowList). IsGreatest name (row_named name (m.half.holds device place)) rows (find_named l.list name)) (sym folded)
+    (fold-keeps name (rows_of (m.half.holds device place)) rows)

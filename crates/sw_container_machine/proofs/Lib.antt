@@ -1,6 +1,7 @@
+pub mod Later
+pub mod Making
 pub mod Greatest
 pub mod Merging
-pub mod Recasts
 pub mod Sound
 pub mod Standing
 pub mod Telling

@@ -6,23 +6,22 @@ use Rattle.std.specs.Bool.{⊤}
 use Rattle.std.specs.Option.{option_map}
 use Rattle.sw_container_steps.specs.declared.cont_answer.ContAnswer.{ContAnswer}
 use Rattle.sw_container_steps.specs.declared.cont_change.ContChange.{ContChange}
-use Rattle.sw_container_steps.specs.declared.cont_entry.ContEntry.{ContEntry}
+use Rattle.sw_container_steps.specs.Halves.{ContHalf}
+use Rattle.sw_container_steps.specs.Rules.{cont_rules}
 use Rattle.sw_container_steps.specs.Reads.{info_of, listing_of}
 use Rattle.sw_container_steps.specs.declared.info.Info.{Info}
 use Rattle.sw_hashpath.specs.declared.place.Place.{Place}
-use Rattle.sw_history.specs.Halves.{Half}
 use Rattle.sw_listing.specs.declared.entry.Entry.{Entry}
 use Rattle.sw_listing.specs.declared.query.Query.{Query}
 use Rattle.sw_peer.specs.ContSights.{IsContMade, IsLooked, is_wanting_cont, is_wanting_look}
 use Rattle.sw_peer.specs.Sights.{IsSame, Nodes, Restarts, Sight, cont_lock}
-use Rattle.sw_peer.specs.declared.cont_event.ContEvent.{ContEvent}
 use Rattle.sw_peer.specs.declared.cont_event.ContEvent.TheVariants as cont_events
 use Rattle.sw_peer.specs.declared.line.Event.{Event}
 use Rattle.sw_peer.specs.declared.line.Event.TheVariants.{AtContainer, Changed, Listed, Read, ReadPart, Restarted}
 use Rattle.sw_peer.specs.declared.line.Line.{Line}
 use Rattle.sw_peer.specs.declared.link.Link.{Link}
 use Rattle.sw_peer.specs.declared.link.Link.TheVariants.{Local}
-use Rattle.sw_keeper.specs.declared.tables.Tables.{Tables}
+use Rattle.sw_step.specs.Steps.{added_by}
 use Rattle.sw_container_machine.proofs.Merging.{joins}
 use Rattle.sw_container_machine.proofs.Standing.{change_runs, read_runs, restart_runs}
 use Rattle.sw_container_machine.specs.Machine.{ContMachine, ContRuns, ContSteps}
@@ -35,10 +34,9 @@ cont-run-begins m s stands none = record { lines = []; kept = none; after = m; r
 -- the nodes and the containers are those that were there
 pub stands-still : (s t : Sight) (m : ContMachine) → t.nodes ≡ s.nodes → t.containers ≡ s.containers → StandsForContainers s m → StandsForContainers t m
 stands-still s t m nodes containers stands = record {
-  tables = λ d p. ap (λ (c : Half Place (Option Tables) ContEntry ContEntry). c.holds d p) containers ∙ stands.tables d p;
-  seen = λ l. ap (λ (c : Half Place (Option Tables) ContEntry ContEntry). c.seen l) containers ∙ stands.seen l;
+  half = containers ∙ stands.half;
   told = λ d p.
-      ap (λ (c : Half Place (Option Tables) ContEntry ContEntry). (c.seen (cont_lock t.nodes d p)).told) containers
+      ap (λ (c : ContHalf). (c.seen (cont_lock t.nodes d p)).told) containers
       ∙ (ap (λ (n : Nodes). (s.containers.seen (cont_lock n d p)).told) nodes ∙ stands.told d p);
 }
 
@@ -75,7 +73,7 @@ pub cont-run-made : (start : ContMachine) (link : Link) (device : ℕ) (place : 
 cont-run-made start link device place change s answer t alone made has = by made.trail
   where
     line : Line
-    line = record { device = device; link = link; event = AtContainer (cont_events.Changed place change answer) made.step.added; added = [] }
+    line = record { device = device; link = link; event = AtContainer (cont_events.Changed place change answer) (added_by cont_rules made.step.step); added = [] }
 
     by : (t.trail ≡ option_map (λ lines. lines ++ line ∷ []) s.trail) ⊎ ((is_wanting_cont answer ≡ true) × IsSame s t) → HasContRun start t
     by (inl kept) =
@@ -89,7 +87,7 @@ pub cont-run-informed : (start : ContMachine) (link : Link) (device : ℕ) (plac
 cont-run-informed start link device place s got t alone read has = by read.trail
   where
     line : Line
-    line = record { device = device; link = link; event = AtContainer (cont_events.Informed place got) read.step.added; added = [] }
+    line = record { device = device; link = link; event = AtContainer (cont_events.Informed place got) read.step.step.follows.entries.0; added = [] }
 
     by : (t.trail ≡ option_map (λ lines. lines ++ line ∷ []) s.trail) ⊎ ((is_wanting_look got ≡ true) × IsSame s t) → HasContRun start t
     by (inl kept) =
@@ -105,7 +103,7 @@ pub cont-run-listed : (start : ContMachine) (link : Link) (device : ℕ) (place 
 cont-run-listed start link device place query s got t alone read has = by read.trail
   where
     line : Line
-    line = record { device = device; link = link; event = AtContainer (cont_events.Listed place query got) read.step.added; added = [] }
+    line = record { device = device; link = link; event = AtContainer (cont_events.Listed place query got) read.step.step.follows.entries.0; added = [] }
 
     by : (t.trail ≡ option_map (λ lines. lines ++ line ∷ []) s.trail) ⊎ ((is_wanting_look got ≡ true) × IsSame s t) → HasContRun start t
     by (inl kept) =

@@ -1,115 +1,85 @@
 -- Why a door that is alone runs the machine.
-use Rattle.std.proofs.Common.{◌≡◌, ◌≢◌, ℕ, ◌≤◌, Bool, true, false, nat_eq, refl, sym, ◌∙◌, ap, subst}
-use Rattle.std.proofs.lemmas.Bool.{eq-eqb, eqb-true}
-use Rattle.sw_container_steps.specs.Histories.{ContHistory}
-use Rattle.sw_container_steps.specs.declared.cont_answer.ContAnswer.{ContAnswer}
-use Rattle.sw_container_steps.specs.declared.cont_change.ContChange.{ContChange}
+use Rattle.std.proofs.Common.{◌≡◌, ℕ, Bool, true, List, nat_eq, refl, sym, ◌∙◌, ap, subst, inl, inr}
+use Rattle.std.proofs.lemmas.Bool.{cases_Bool, eqb-false, eqb-true}
+use Rattle.sw_container_steps.specs.Halves.{ChangesAt, ContHalf, ReadsAt}
+use Rattle.sw_container_steps.specs.Rules.{ContHistory, cont_rules}
+use Rattle.sw_container_steps.specs.declared.cont_entry.ContEntry.{ContEntry}
 use Rattle.sw_hashpath.specs.declared.place.Place.{Place}
-use Rattle.sw_history.specs.Halves.{HalfRestarts}
-use Rattle.sw_peer.specs.ContSights.{IsContMade, IsIn}
+use Rattle.sw_history.specs.Halves.{HalfMoves, HalfRestarts}
+use Rattle.sw_peer.specs.ContSights.{IsIn}
 use Rattle.sw_peer.specs.Sights.{Nodes, Sight, cont_lock}
-use Rattle.sw_peer.specs.declared.link.Link.{Link}
-use Rattle.sw_container_machine.proofs.Recasts.{recast, recast-read}
-use Rattle.sw_container_machine.specs.Machine.{ContMachine, ContMakes, made_rows, rows_with}
+use Rattle.sw_step.specs.Steps.{added_by}
+use Rattle.sw_container_machine.specs.Machine.{ContMachine, ContMakes, ContReads, ContRestarts, made_rows, rows_with}
 use Rattle.sw_container_machine.specs.Standing.{ContChangeRuns, ContReadRuns, ContRestartRuns, StandsForContainers}
 
 -- what told goes on telling
-told-on : (s t : Sight) → t.nodes ≡ s.nodes → ((l : ℕ) → (t.containers.seen l).told ≡ (s.containers.seen l).told)
+told-on : (s t : Sight) → t.nodes ≡ s.nodes → ((d : ℕ) (p : Place) → (t.containers.seen (cont_lock s.nodes d p)).told ≡ true)
+    → (d : ℕ) (p : Place) → (t.containers.seen (cont_lock t.nodes d p)).told ≡ true
+told-on s t nodes told d p = subst (λ (n : Nodes). (t.containers.seen (cont_lock n d p)).told ≡ true) (sym nodes) (told d p)
+
+moved-tells : (s t : Sight) (alone : Bool) (at : ℕ → Place → Type 0) → t.nodes ≡ s.nodes → HalfMoves (cont_lock s.nodes) alone at s.containers t.containers
     → ((d : ℕ) (p : Place) → (s.containers.seen (cont_lock s.nodes d p)).told ≡ true)
     → (d : ℕ) (p : Place) → (t.containers.seen (cont_lock t.nodes d p)).told ≡ true
-told-on s t nodes same told d p = subst (λ (n : Nodes). (t.containers.seen (cont_lock n d p)).told ≡ true) (sym nodes) (same (cont_lock s.nodes d p) ∙ told d p)
+moved-tells s t alone at nodes moves told = told-on s t nodes (λ d p. (moves.grows (cont_lock s.nodes d p)).told ∙ told d p)
 
--- a place of a device is under the lock of that
-lock-in : (nodes : Nodes) (device : ℕ) (place : Place) (d : ℕ) (p : Place) → IsIn device place d p → cont_lock nodes d p ≡ cont_lock nodes device place
-lock-in nodes device place d p is = ap (λ (e : ℕ). cont_lock nodes e p) is.0 ∙ ap (λ (x : Place). cont_lock nodes device x) is.1
-
-module _ (link : Link) (device : ℕ) (place : Place) (change : ContChange) (s : Sight) (answer : ContAnswer) (t : Sight) (m : ContMachine)
-    (stands : StandsForContainers s m) (alone : t.alone ≡ true)
-    (made : IsContMade link device place change s answer t) where
-  abbrev after : ContMachine
-  after = record { reached = rows_with m.reached device place (made_rows change made.step.made); tables = t.containers.holds; seen = t.containers.seen }
-
-  abbrev l : ℕ
-  l = cont_lock s.nodes device place
-
-  makes : ContMakes s.nodes m device place change answer made.step.added after
-  makes = record {
-    step = recast t.alone (s.containers.seen l) (m.seen l) (s.containers.holds device place) (m.tables device place) place change answer
-        (t.containers.seen l) (t.containers.holds device place) alone (stands.seen l) (stands.tables device place) made.step;
-    added_is = refl;
-    reached = λ d p. refl;
-    others = λ d p away. made.moves.containers.others alone d p away ∙ stands.tables d p;
-    elsewhere = λ x away. made.moves.containers.elsewhere x (λ d p is same. away (same ∙ lock-in s.nodes device place d p is)) ∙ stands.seen x;
-  }
-
-  now : StandsForContainers t after
-  now = record { tables = λ d p. refl; seen = λ x. refl; told = told-on s t made.moves.nodes (λ x. (made.moves.containers.grows x).told) stands.told }
+-- the machine whose half is that of a door
+abbrev over : ContMachine → ContHalf → ContMachine
+over m half = record { reached = m.reached; half = half }
 
 pub change_runs : ContChangeRuns
-change_runs link device place change s answer t m stands alone made = (
-  after link device place change s answer t m stands alone made,
-  makes link device place change s answer t m stands alone made,
-  now link device place change s answer t m stands alone made,
-)
+change_runs link device place change s answer t m stands alone made =
+    subst (λ (k : ContHalf). Runs k (added_by cont_rules made.step.step)) stands.half
+    (subst (λ (a : Bool). Made a) (sym alone) (λ moves at. (
+      record { reached = rows_with m.reached device place (made_rows change answer at.step.made); half = t.containers },
+      record { moves = moves; at = at; added_is = refl; reached = λ d p. refl },
+      record { half = refl; told = moved-tells s t true (IsIn device place) made.moves.nodes moves stands.told },
+    )) made.moves.containers made.step)
+  where
+    lock : ℕ → Place → ℕ
+    lock = cont_lock s.nodes
+
+    Runs : ContHalf → List ContEntry → Type 0
+    Runs k added = (after : ContMachine) × ContMakes s.nodes (over m k) device place change answer added after × StandsForContainers t after
+
+    Made : Bool → Type 0
+    Made a =
+        HalfMoves lock a (IsIn device place) s.containers t.containers → (at : ChangesAt lock a device place change s.containers answer t.containers)
+        → Runs s.containers (added_by cont_rules at.step)
 
 pub read_runs : {A : Type 0} → ContReadRuns A
-read_runs {A} link device place reading event s got t m stands alone read = (
-  record { reached = m.reached; tables = t.containers.holds; seen = t.containers.seen },
-  record {
-    step = recast-read t.alone (s.containers.seen l) (m.seen l) place reading got (t.containers.seen l) (t.containers.holds device place)
-        (m.tables device place) alone (stands.seen l) (held device place) read.step;
-    added_is = refl;
-    reached = λ d p. refl;
-    tables = held;
-    elsewhere = λ x away. read.moves.containers.elsewhere x (λ d p is same. away (same ∙ lock-in s.nodes device place d p is)) ∙ stands.seen x;
-  },
-  record { tables = λ d p. refl; seen = λ x. refl; told = told-on s t read.moves.nodes (λ x. (read.moves.containers.grows x).told) stands.told },
-)
+read_runs {A} link device place reading event s got t m stands alone read =
+    subst (λ (k : ContHalf). Runs k read.step.step.follows.entries.0) stands.half
+    (subst (λ (a : Bool). Read a) (sym alone) (λ moves at. (
+      record { reached = m.reached; half = t.containers },
+      record { moves = moves; at = at; added_is = refl; reached = λ d p. refl; tables = read.holds_all alone },
+      record { half = refl; told = moved-tells s t true (IsIn device place) read.moves.nodes moves stands.told },
+    )) read.moves.containers read.step)
   where
-    l : ℕ
-    l = cont_lock s.nodes device place
+    lock : ℕ → Place → ℕ
+    lock = cont_lock s.nodes
 
-    held : (d : ℕ) (p : Place) → t.containers.holds d p ≡ m.tables d p
-    held d p = read.holds_all alone d p ∙ stands.tables d p
+    Runs : ContHalf → List ContEntry → Type 0
+    Runs k added = (after : ContMachine) × ContReads s.nodes (over m k) device place reading got added after × StandsForContainers t after
+
+    Read : Bool → Type 0
+    Read a =
+        HalfMoves lock a (IsIn device place) s.containers t.containers → (at : ReadsAt lock a device place reading s.containers got t.containers)
+        → Runs s.containers at.step.follows.entries.0
 
 pub restart_runs : ContRestartRuns
-restart_runs device s t m stands alone r = (
-  record { reached = m.reached; tables = t.containers.holds; seen = t.containers.seen },
-  record {
-    told = λ p is. half.told p (stands.told device p);
-    opening = λ p is. half.opening alone p (stands.told device p) ∙ stands.tables device p;
-    entries = half.entries;
-    doubts = half.doubts;
-    max_entries = λ p. half.max_entries p ∙ ap (λ (h : ContHistory). h.journal.max_entries) (stands.seen (cont_lock s.nodes device p));
-    max_bytes = λ p. half.max_bytes p ∙ ap (λ (h : ContHistory). h.journal.max_bytes) (stands.seen (cont_lock s.nodes device p));
-    faults = λ p.
-        subst (λ (h : ContHistory). h.faults ≤ (t.containers.seen (cont_lock s.nodes device p)).faults) (stands.seen (cont_lock s.nodes device p))
-        (half.faults p);
-    elsewhere = λ d p away. half.others d p away ∙ stands.seen (cont_lock s.nodes d p);
-    reached = λ d p. refl;
-    tables = λ d p is. held d p (nat_eq d device) refl ∙ stands.tables d p;
-  },
-  record {
-    tables = λ d p. refl;
-    seen = λ x. refl;
-    told = λ d p. subst (λ (n : Nodes). (t.containers.seen (cont_lock n d p)).told ≡ true) (sym r.nodes) (still d p (nat_eq d device) refl);
-  },
-)
+restart_runs device s t m stands alone r =
+    subst (λ (k : ContHalf). (after : ContMachine) × ContRestarts s.nodes (over m k) device after × StandsForContainers t after) stands.half (
+      record { reached = m.reached; half = t.containers },
+      record { half = half; reached = λ d p. refl },
+      record { half = refl; told = told-on s t r.nodes still },
+    )
   where
-    half : HalfRestarts (cont_lock s.nodes) t.alone device s.containers t.containers
-    half = r.containers
+    half : HalfRestarts (cont_lock s.nodes) true device s.containers t.containers
+    half = subst (λ (a : Bool). HalfRestarts (cont_lock s.nodes) a device s.containers t.containers) alone r.containers
 
-    apart : (d : ℕ) → nat_eq d device ≡ false → d ≢ device
-    apart d no_match equal = let yes_match : nat_eq d device ≡ true = eq-eqb d device equal in cc
-
-    held : (d : ℕ) (p : Place) (b : Bool) → nat_eq d device ≡ b → t.containers.holds d p ≡ s.containers.holds d p
-    held d p true is =
-        let at : d ≡ device = eqb-true d device is in
-        subst (λ (e : ℕ). t.containers.holds e p ≡ s.containers.holds e p) (sym at) (half.holds alone p (stands.told device p))
-    held d p false is = half.elsewhere alone d p (apart d is)
-
-    still : (d : ℕ) (p : Place) (b : Bool) → nat_eq d device ≡ b → (t.containers.seen (cont_lock s.nodes d p)).told ≡ true
-    still d p true is =
-        let at : d ≡ device = eqb-true d device is in
-        subst (λ (e : ℕ). (t.containers.seen (cont_lock s.nodes e p)).told ≡ true) (sym at) (half.told p (stands.told device p))
-    still d p false is = ap (λ (h : ContHistory). h.told) (half.others d p (apart d is)) ∙ stands.told d p
+    still : (d : ℕ) (p : Place) → (t.containers.seen (cont_lock s.nodes d p)).told ≡ true
+    still d p = elim (cases_Bool (nat_eq d device)) [
+      | inl is ↦
+          subst (λ (e : ℕ). (t.containers.seen (cont_lock s.nodes e p)).told ≡ true) (sym (eqb-true d device is)) (half.told p (stands.told device p))
+      | inr isnt ↦ ap (λ (h : ContHistory). h.told) (half.others d p (eqb-false d device isnt)) ∙ stands.told d p
+    ]

@@ -1,8 +1,7 @@
 -- What is promised of runs of the machine of containers. (This project's own.)
 use Rattle.std.specs.Prelude.{◌≡◌, ⊤, ℕ, Bool, true, false, ◌&&◌, List, [], ◌∷◌, ◌++◌, fold, nat_eq, if◌then◌else◌, Contains, Option, Some, ◌⊎◌}
 use Rattle.sw_container_steps.specs.Entries.{is_same_place, rows_of}
-use Rattle.sw_container_steps.specs.declared.cont_answer.ContAnswer.{ContAnswer}
-use Rattle.sw_container_steps.specs.declared.cont_answer.ContAnswer.TheVariants as answers
+use Rattle.sw_container_steps.specs.Rules.{cont_ending}
 use Rattle.sw_hashpath.specs.declared.place.Place.{Place}
 use Rattle.sw_peer.specs.Sights.{Nodes, cont_lock}
 use Rattle.sw_peer.specs.declared.cont_event.ContEvent.TheVariants as cont_events
@@ -12,11 +11,12 @@ use Rattle.sw_peer.specs.declared.line.Line.{Line}
 use Rattle.sw_rows.specs.Rows.{find_named, is_at_least, merged}
 use Rattle.sw_rows.specs.declared.row.Row.{Row}
 use Rattle.sw_keeper.specs.declared.tables.Tables.{Tables}
+use Rattle.sw_step.specs.Rules.{has_failed, has_made}
 use Rattle.sw_container_machine.specs.Machine.{ContMachine, ContRuns, rows_in}
 
 -- every lock tells what it holds
 abbrev pub AllTell : Nodes → ContMachine → Type 0
-AllTell nodes m = (device : ℕ) (place : Place) → (m.seen (cont_lock nodes device place)).told ≡ true
+AllTell nodes m = (device : ℕ) (place : Place) → (m.half.seen (cont_lock nodes device place)).told ≡ true
 
 -- After a run there have reached each container the rows that had, and then some more; and its rows are those that it had, with these merged one by one,
 -- in their order, and no others
@@ -24,7 +24,7 @@ abbrev pub RunMerges : Type 0
 RunMerges = (nodes : Nodes) (m : ContMachine) (lines : List Line) (after : ContMachine) → AllTell nodes m → ContRuns nodes m lines after
     → (device : ℕ) (place : Place)
     → (rows : List Row) × (after.reached device place ≡ m.reached device place ++ rows)
-    × (rows_of (after.tables device place) ≡ fold merged (rows_of (m.tables device place)) rows)
+    × (rows_of (after.half.holds device place) ≡ fold merged (rows_of (m.half.holds device place)) rows)
 
 -- ---- of each name stands the greatest row
 
@@ -46,35 +46,13 @@ pub record IsGreatest (name : List ℕ) (before : Option Row) (rows : List Row) 
 abbrev pub RunKeepsTheGreatest : Type 0
 RunKeepsTheGreatest = (nodes : Nodes) (m : ContMachine) (lines : List Line) (after : ContMachine) → AllTell nodes m → ContRuns nodes m lines after
     → (device : ℕ) (place : Place) (rows : List Row) → after.reached device place ≡ m.reached device place ++ rows
-    → (name : List ℕ) → IsGreatest name (row_named name (m.tables device place)) rows (row_named name (after.tables device place))
+    → (name : List ℕ) → IsGreatest name (row_named name (m.half.holds device place)) rows (row_named name (after.half.holds device place))
 
 -- ---- where no step failed, the lines tell which rows reached
 
-abbrev pub has_entered : ContAnswer → Bool
-has_entered (answers.New front) = true
-has_entered (answers.There front) = true
-has_entered (answers.Done front) = true
-has_entered answers.Absent = false
-has_entered (answers.Stale time) = false
-has_entered (answers.NotEmpty count) = false
-has_entered answers.JournalFull = false
-has_entered answers.Failed = false
-has_entered answers.NoMemory = false
-
-abbrev pub is_failed : ContAnswer → Bool
-is_failed answers.Failed = true
-is_failed (answers.New front) = false
-is_failed (answers.There front) = false
-is_failed (answers.Done front) = false
-is_failed answers.Absent = false
-is_failed (answers.Stale time) = false
-is_failed (answers.NotEmpty count) = false
-is_failed answers.JournalFull = false
-is_failed answers.NoMemory = false
-
 -- whether a changing step at a container failed
 abbrev pub has_cont_failed : Event → Bool
-has_cont_failed (AtContainer (cont_events.Changed place change answer) entries) = is_failed answer
+has_cont_failed (AtContainer (cont_events.Changed place change answer) entries) = has_failed (cont_ending answer)
 has_cont_failed (AtContainer (cont_events.Timed place got) entries) = false
 has_cont_failed (AtContainer (cont_events.Informed place got) entries) = false
 has_cont_failed (AtContainer (cont_events.Listed place query got) entries) = false
@@ -91,7 +69,7 @@ NoContFailed (line ∷ lines) = (has_cont_failed line.event ≡ false) × NoCont
 -- the rows that a line tells to have reached a container at a device
 abbrev pub rows_told : ℕ → Place → ℕ → Event → List Row
 rows_told device place d (AtContainer (cont_events.Changed p change answer) entries) =
-    if nat_eq d device && is_same_place p place then (if has_entered answer then rows_in change else []) else []
+    if nat_eq d device && is_same_place p place then (if has_made (cont_ending answer) then rows_in change else []) else []
 rows_told device place d (AtContainer (cont_events.Timed p got) entries) = []
 rows_told device place d (AtContainer (cont_events.Informed p got) entries) = []
 rows_told device place d (AtContainer (cont_events.Listed p query got) entries) = []
@@ -112,7 +90,7 @@ RunTellsRows = (nodes : Nodes) (m : ContMachine) (lines : List Line) (after : Co
 -- where no lock has counted a fault at the end, no changing step at a container failed
 abbrev pub ContRunSound : Type 0
 ContRunSound = (nodes : Nodes) (m : ContMachine) (lines : List Line) (after : ContMachine) → ContRuns nodes m lines after
-    → ((device : ℕ) (place : Place) → (after.seen (cont_lock nodes device place)).faults ≡ 0) → NoContFailed lines
+    → ((device : ℕ) (place : Place) → (after.half.seen (cont_lock nodes device place)).faults ≡ 0) → NoContFailed lines
 
 -- two runs, one after the other, are one
 abbrev pub ContRunsJoin : Type 0

@@ -2,15 +2,18 @@
 -- answers are those of OpenStack Swift's container server, as `sw_container_steps` has them.)
 --
 -- It goes beside the machine of objects over the same lines: what comes to an object leaves it as it is.
-use Rattle.std.specs.Prelude.{◌≡◌, ◌≢◌, ℕ, ◌≤◌, Bool, true, ◌&&◌, List, [], ◌∷◌, ◌++◌, nat_eq, if◌then◌else◌, Option, Result}
+use Rattle.std.specs.Prelude.{◌≡◌, ℕ, Bool, true, ◌&&◌, List, [], ◌∷◌, ◌++◌, nat_eq, if◌then◌else◌, Option, Result}
 use Rattle.sw_container_steps.specs.Entries.{is_same_place}
-use Rattle.sw_container_steps.specs.Histories.{ContHistory, ContStepChanges, ContStepReads}
+use Rattle.sw_container_steps.specs.Halves.{ChangesAt, ContHalf, ReadsAt}
 use Rattle.sw_container_steps.specs.Reads.{info_of, listing_of, times_of}
+use Rattle.sw_container_steps.specs.Rules.{cont_ending, cont_rules}
 use Rattle.sw_container_steps.specs.declared.cont_answer.ContAnswer.{ContAnswer}
 use Rattle.sw_container_steps.specs.declared.cont_change.ContChange.{ContChange}
 use Rattle.sw_container_steps.specs.declared.cont_change.ContChange.TheVariants.{Create, Remove, MergeRow, MergeRows}
 use Rattle.sw_container_steps.specs.declared.cont_entry.ContEntry.{ContEntry}
 use Rattle.sw_hashpath.specs.declared.place.Place.{Place}
+use Rattle.sw_history.specs.Halves.{HalfMoves, HalfRestarts}
+use Rattle.sw_peer.specs.ContSights.{IsIn}
 use Rattle.sw_peer.specs.Sights.{Nodes, Sight, cont_lock}
 use Rattle.sw_peer.specs.declared.cont_event.ContEvent.{ContEvent}
 use Rattle.sw_peer.specs.declared.cont_event.ContEvent.TheVariants as cont_events
@@ -19,15 +22,16 @@ use Rattle.sw_peer.specs.declared.line.Event.TheVariants.{AtContainer, Changed, 
 use Rattle.sw_peer.specs.declared.line.Line.{Line}
 use Rattle.sw_rows.specs.declared.row.Row.{Row}
 use Rattle.sw_keeper.specs.declared.tables.Tables.{Tables}
+use Rattle.sw_step.specs.Rules.{has_made}
+use Rattle.sw_step.specs.Steps.{added_by}
 
 pub record ContMachine : Type 0 where
   pub reached : ℕ → Place → List Row  -- the rows that reached a container at a device, in order. Of a step that failed: where it was made
-  pub tables : ℕ → Place → Option Tables  -- what stands for a container at a device
-  pub seen : ℕ → ContHistory  -- each lock: its journal, and what it began from
+  pub half : ContHalf  -- what stands for each container at each device; and each lock: its journal, and what it began from
 
 -- the machine in which nothing has happened but what stands at the nodes
 abbrev pub cont_machine_of : Sight → ContMachine
-cont_machine_of s = record { reached = λ device place. []; tables = s.containers.holds; seen = s.containers.seen }
+cont_machine_of s = record { reached = λ device place. []; half = s.containers }
 
 -- the rows that a step merges
 abbrev pub rows_in : ContChange → List Row
@@ -36,8 +40,14 @@ rows_in (Remove time) = []
 rows_in (MergeRow row) = row ∷ []
 rows_in (MergeRows rows) = rows
 
-abbrev pub made_rows : ContChange → Bool → List Row
-made_rows change made = if made then rows_in change else []
+-- whether a step was made: its answer says so, or something was made of it
+abbrev pub was_made : ContAnswer → List ContEntry → Bool
+was_made answer [] = has_made (cont_ending answer)
+was_made answer (e ∷ es) = true
+
+-- the rows that came by a step, of which these entries were made
+abbrev pub made_rows : ContChange → ContAnswer → List ContEntry → List Row
+made_rows change answer made = if was_made answer made then rows_in change else []
 
 -- what reached, with these rows of a container at a device
 abbrev pub rows_with : (ℕ → Place → List Row) → ℕ → Place → List Row → ℕ → Place → List Row
@@ -47,34 +57,24 @@ module _ (nodes : Nodes) where
   -- a step that may change a container
   pub record ContMakes (m : ContMachine) (device : ℕ) (place : Place) (change : ContChange) (answer : ContAnswer) (added : List ContEntry)
       (after : ContMachine) : Type 0 where
-    pub step : ContStepChanges true (m.seen (cont_lock nodes device place)) (m.tables device place) place change answer
-        (after.seen (cont_lock nodes device place)) (after.tables device place)
-    pub added_is : added ≡ step.added
-    pub reached : (d : ℕ) (p : Place) → after.reached d p ≡ rows_with m.reached device place (made_rows change step.made) d p
-    pub others : (d : ℕ) (p : Place) → ((d ≡ device) × (p ≡ place) → ⊥) → after.tables d p ≡ m.tables d p
-    pub elsewhere : (l : ℕ) → l ≢ cont_lock nodes device place → after.seen l ≡ m.seen l
+    pub moves : HalfMoves (cont_lock nodes) true (IsIn device place) m.half after.half
+    pub at : ChangesAt (cont_lock nodes) true device place change m.half answer after.half
+    pub added_is : added ≡ added_by cont_rules at.step
+    pub reached : (d : ℕ) (p : Place) → after.reached d p ≡ rows_with m.reached device place (made_rows change answer at.step.made) d p
 
   -- a read of one container
   pub record ContReads {A : Type 0} (m : ContMachine) (device : ℕ) (place : Place) (reading : Option Tables → ℕ → Result A ContAnswer)
       (got : Result A ContAnswer) (added : List ContEntry) (after : ContMachine) : Type 0 where
-    pub step : ContStepReads true (m.seen (cont_lock nodes device place)) place reading got (after.seen (cont_lock nodes device place)) (m.tables device place)
-    pub added_is : added ≡ step.added
+    pub moves : HalfMoves (cont_lock nodes) true (IsIn device place) m.half after.half
+    pub at : ReadsAt (cont_lock nodes) true device place reading m.half got after.half
+    pub added_is : added ≡ at.step.follows.entries.0
     pub reached : (d : ℕ) (p : Place) → after.reached d p ≡ m.reached d p
-    pub tables : (d : ℕ) (p : Place) → after.tables d p ≡ m.tables d p
-    pub elsewhere : (l : ℕ) → l ≢ cont_lock nodes device place → after.seen l ≡ m.seen l
+    pub tables : (d : ℕ) (p : Place) → after.half.holds d p ≡ m.half.holds d p
 
   -- each lock of a device begins anew with what stands there
   pub record ContRestarts (m : ContMachine) (device : ℕ) (after : ContMachine) : Type 0 where
-    pub told : (p : Place) → (m.seen (cont_lock nodes device p)).told ≡ true → (after.seen (cont_lock nodes device p)).told ≡ true
-    pub opening : (p : Place) → (m.seen (cont_lock nodes device p)).told ≡ true → (after.seen (cont_lock nodes device p)).opening p ≡ m.tables device p
-    pub entries : (p : Place) → (after.seen (cont_lock nodes device p)).journal.entries ≡ []
-    pub doubts : (p : Place) → (after.seen (cont_lock nodes device p)).journal.doubts ≡ []
-    pub max_entries : (p : Place) → (after.seen (cont_lock nodes device p)).journal.max_entries ≡ (m.seen (cont_lock nodes device p)).journal.max_entries
-    pub max_bytes : (p : Place) → (after.seen (cont_lock nodes device p)).journal.max_bytes ≡ (m.seen (cont_lock nodes device p)).journal.max_bytes
-    pub faults : (p : Place) → (m.seen (cont_lock nodes device p)).faults ≤ (after.seen (cont_lock nodes device p)).faults
-    pub elsewhere : (d : ℕ) (p : Place) → d ≢ device → after.seen (cont_lock nodes d p) ≡ m.seen (cont_lock nodes d p)
+    pub half : HalfRestarts (cont_lock nodes) true device m.half after.half
     pub reached : (d : ℕ) (p : Place) → after.reached d p ≡ m.reached d p
-    pub tables : (d : ℕ) (p : Place) → (m.seen (cont_lock nodes d p)).told ≡ true → after.tables d p ≡ m.tables d p
 
   -- what comes to a container of a device
   abbrev pub ContComes : ContMachine → ℕ → ContEvent → List ContEntry → ContMachine → Type 0

@@ -1,14 +1,16 @@
 -- What a request leaves: a step whose reply found no memory changed nothing, and no request touches an object.
-use Rattle.std.proofs.Common.{◌≡◌, ◌≢◌, ◌==◌, ℕ, Bool, true, false, ◌&&◌, bytes_eq, List, refl, sym, ap, ◌∙◌, subst, inl, inr, Option, Result, Ok, Err}
+use Rattle.std.proofs.Common.{◌≡◌, ◌≢◌, ◌==◌, ℕ, Bool, true, false, List, [], refl, sym, ap, ◌∙◌, subst, inl, inr, Option, Result, Ok, Err}
 use Rattle.std.proofs.Common.{true≢false}
+use Rattle.std.specs.List.{fold}
 use Rattle.std.proofs.lemmas.Bool.{eqb-false, eqb-true}
-use Rattle.std.proofs.lemmas.Slice.Eq.{bytes_eq-Decides}
-use Rattle.sw_container_steps.specs.Entries.{is_same_place}
-use Rattle.sw_container_steps.specs.Journals.{ContAnswers, ContJournal, cont_left_by}
+use Rattle.sw_container_steps.proofs.Placing.{place-same, place-self}
+use Rattle.sw_container_steps.specs.Entries.{entered, is_same_place}
 use Rattle.sw_container_steps.specs.Reads.{info_of, listing_of}
+use Rattle.sw_container_steps.specs.Rules.{ContJournal, cont_ending, cont_rules}
 use Rattle.sw_container_steps.specs.declared.cont_answer.ContAnswer.{ContAnswer}
 use Rattle.sw_container_steps.specs.declared.cont_answer.ContAnswer.TheVariants as answers
 use Rattle.sw_container_steps.specs.declared.cont_change.ContChange.{ContChange}
+use Rattle.sw_container_steps.specs.declared.cont_entry.ContEntry.{ContEntry}
 use Rattle.sw_container_steps.specs.declared.info.Info.{Info}
 use Rattle.sw_hashpath.specs.declared.place.Place.{Place}
 use Rattle.sw_listing.specs.declared.entry.Entry.{Entry}
@@ -23,6 +25,8 @@ use Rattle.sw_peer.specs.declared.cont_event.ContEvent.{ContEvent}
 use Rattle.sw_peer.specs.declared.cont_event.ContEvent.TheVariants.{Informed, Listed}
 use Rattle.sw_peer.specs.declared.link.Link.TheVariants.{Local}
 use Rattle.sw_keeper.specs.declared.tables.Tables.{Tables}
+use Rattle.sw_step.specs.Rules.{Ending, Refuses}
+use Rattle.sw_step.specs.Steps.{Answers, EndsSeen, EndsUnseen}
 use Rattle.sw_container_server.proofs.Looks.{came, look-moves}
 use Rattle.sw_container_server.specs.Laws.{LeavesHeld, LeavesObjects}
 use Rattle.sw_container_server.specs.Replies.{shows_time}
@@ -32,39 +36,28 @@ use Rattle.sw_container_server.specs.declared.asked.ContAsked.TheVariants as ask
 
 -- ---- places
 
-both : (p q : Bool) → (p && q) ≡ true → (p ≡ true) × (q ≡ true)
-both true q is = (refl, is)
-both false q is = cc
-
-place-same : (a b : Place) → is_same_place a b ≡ true → a ≡ b
-place-same a b is =
-    let one = both (bytes_eq a.hash b.hash) (bytes_eq a.account b.account && bytes_eq a.container b.container) is in
-    let two = both (bytes_eq a.account b.account) (bytes_eq a.container b.container) one.1 in
-    let hash : a.hash ≡ b.hash = (bytes_eq-Decides a.hash b.hash).0 one.0 in
-    let account : a.account ≡ b.account = (bytes_eq-Decides a.account b.account).0 two.0 in
-    let container : a.container ≡ b.container = (bytes_eq-Decides a.container b.container).0 two.1 in
-    λ i. record { account = account i; container = container i; hash = hash i }
-
-place-self : (a : Place) → is_same_place a a ≡ true
-place-self a = rw ((bytes_eq-Decides a.hash a.hash).1 refl, (bytes_eq-Decides a.account a.account).1 refl, (bytes_eq-Decides a.container a.container).1 refl)
-    refl
-
 place-other : (a b : Place) → is_same_place a b ≡ false → a ≢ b
 place-other a b is same = true≢false (sym (subst (λ (x : Place). is_same_place a x ≡ true) same (place-self a)) ∙ is)
 
 -- ---- a step that may change something
 
-unmade : (t : Option Tables) (j : ContJournal) (place : Place) (change : ContChange) (a : ContAnswer) (made : Bool) (after : ContJournal)
-    → shows_time a ≡ true → ContAnswers t j place change a made after → made ≡ false
-unmade t j place change (answers.New front) made after shows p = cc
-unmade t j place change (answers.There front) made after shows p = cc
-unmade t j place change (answers.Done front) made after shows p = cc
-unmade t j place change answers.Absent made after shows p = cc
-unmade t j place change (answers.Stale time) made after shows p = p.leaves.not_made
-unmade t j place change (answers.NotEmpty count) made after shows p = cc
-unmade t j place change answers.JournalFull made after shows p = cc
-unmade t j place change answers.Failed made after shows p = cc
-unmade t j place change answers.NoMemory made after shows p = cc
+-- what shows a time was refused by it
+refuses : (a : ContAnswer) → shows_time a ≡ true → cont_ending a ≡ Refuses
+refuses (answers.New front) shows = cc
+refuses (answers.There front) shows = cc
+refuses (answers.Done front) shows = cc
+refuses answers.Absent shows = cc
+refuses (answers.Stale time) shows = refl
+refuses (answers.NotEmpty count) shows = cc
+refuses answers.JournalFull shows = cc
+refuses answers.Failed shows = cc
+refuses answers.NoMemory shows = cc
+
+unmade : (read : Option Tables) (j : ContJournal) (place : Place) (change : ContChange) (a : ContAnswer) (looked : Bool) (made : List ContEntry)
+    (after : ContJournal) → cont_ending a ≡ Refuses → Answers cont_rules looked read j place change a made after → made ≡ []
+unmade read j place change a true made after is p =
+    (subst (λ (e : Ending). EndsSeen cont_rules e read j place change a made after) is p).leaves.not_made
+unmade read j place change a false made after is p = absurd (subst (λ (e : Ending). EndsUnseen cont_rules e j made after) is p)
 
 -- the devices hold what they held
 abbrev Keeps : Sight → Sight → Type 0
@@ -78,14 +71,17 @@ change-keeps device place change old a mid p shows alone d other told = by (d ==
     l : ℕ
     l = cont_lock old.nodes device place
 
-    not_made : p.step.made ≡ false
-    not_made = unmade p.step.read p.step.before.journal place change a p.step.made (mid.containers.seen l).journal shows p.step.answered
+    not_made : p.step.step.made ≡ []
+    not_made =
+        let step = p.step.step in
+        unmade step.read step.before.journal place change a step.looked step.made (mid.containers.seen l).journal (refuses a shows) step.answered
 
     here : (mid.containers.seen (cont_lock mid.nodes device place)).told ≡ true → mid.containers.holds device place ≡ old.containers.holds device place
     here is =
         let told_after : (mid.containers.seen l).told ≡ true = subst (λ n. (mid.containers.seen (cont_lock n device place)).told ≡ true) p.moves.nodes is in
-        let told_before : p.step.before.told ≡ true = sym p.step.after.told ∙ told_after in
-        p.step.leaves alone told_before ∙ ap (λ (b : Bool). cont_left_by (old.containers.holds device place) place change b) not_made
+        let told_before : p.step.step.before.told ≡ true = sym p.step.step.after.told ∙ told_after in
+        p.step.step.leaves alone told_before
+        ∙ (ap (λ (es : List ContEntry). fold entered (p.step.held place) es) not_made ∙ p.step.is_held alone place refl)
 
     by : (same_device same_place : Bool) → (d == device) ≡ same_device → is_same_place other place ≡ same_place
         → mid.containers.holds d other ≡ old.containers.holds d other

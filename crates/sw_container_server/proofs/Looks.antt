@@ -1,9 +1,9 @@
 -- A read of a container at the device itself: the nodes stay what they are, and no read is answered with a time.
 use Rattle.std.proofs.Common.{◌≡◌, ℕ, Bool, true, false, if◌then◌else◌, List, [], ◌∷◌, ◌++◌, Option, Some, None, refl, ap, sym, subst, ◌∙◌, Result, Ok, Err}
 use Rattle.std.proofs.Common.{true≢false}
-use Rattle.sw_container_steps.specs.Histories.{is_told}
 use Rattle.sw_container_steps.specs.Presence.{deletion_after, is_no_time}
 use Rattle.sw_container_steps.specs.Reads.{info_of, listing_of, where_present}
+use Rattle.sw_container_steps.specs.Rules.{cont_look}
 use Rattle.sw_container_steps.specs.declared.cont_answer.ContAnswer.{ContAnswer}
 use Rattle.sw_container_steps.specs.declared.cont_answer.ContAnswer.TheVariants as answers
 use Rattle.sw_container_steps.specs.declared.info.Info.{Info}
@@ -19,6 +19,7 @@ use Rattle.sw_peer.specs.declared.cont_event.ContEvent.{ContEvent}
 use Rattle.sw_peer.specs.declared.cont_event.ContEvent.TheVariants.{Informed, Listed}
 use Rattle.sw_peer.specs.declared.link.Link.TheVariants.{Local}
 use Rattle.sw_keeper.specs.declared.tables.Tables.{Tables}
+use Rattle.sw_step.specs.Steps.{Tells}
 use Rattle.sw_container_server.specs.Replies.{shows_time, takes_memory}
 use Rattle.sw_container_server.specs.Serving.{IsInformed, IsListed}
 
@@ -27,7 +28,7 @@ pub came : {A : Type 0} (step : Sight → A → Sight → Type 0) (s : Sight) (a
 came {A} step s answer t p = subst (λ (earlier : List A). Comes step s (earlier ++ answer ∷ []) t) (p.called.1 refl) p.called.2
 
 -- what shows a time is no fault, and tells something
-told-time : (A : Type 0) (answer : ContAnswer) → shows_time answer ≡ true → is_told {A = A} (Err answer) ≡ true
+told-time : (A : Type 0) (answer : ContAnswer) → shows_time answer ≡ true → cont_look {A = A} (Err answer) ≡ Tells
 told-time A (answers.New front) shows = cc
 told-time A (answers.There front) shows = cc
 told-time A (answers.Done front) shows = cc
@@ -58,7 +59,7 @@ module _ {A : Type 0} (device : ℕ) (place : Place) (reading : Option Tables �
       → (s : Sight) (answer : ContAnswer) (t : Sight) → IsStepped Step s (Err answer) t → shows_time answer ≡ true → ⊥
   no-time only s answer t p shows =
       let comes = came Step s (Err answer) t p in
-      let is : answer ≡ answers.Absent = only comes.1.step.read _ answer (comes.1.step.shown (told-time A answer shows)) in
+      let is : answer ≡ answers.Absent = only (comes.1.step.step.read place) _ answer (comes.1.step.step.shown (told-time A answer shows)) in
       true≢false (sym shows ∙ ap shows_time is)
 
 -- a reply to a HEAD that found no memory tells of a container

@@ -7,6 +7,7 @@ use Rattle.std.specs.Option.{option_map}
 use Rattle.std.proofs.lemmas.List.{append_cancel_left}
 use Rattle.std.proofs.lemmas.Option.{same_Some}
 use Rattle.sw_container_steps.specs.Reads.{info_of, listing_of}
+use Rattle.sw_container_steps.specs.Rules.{cont_rules}
 use Rattle.sw_container_steps.specs.declared.cont_answer.ContAnswer.{ContAnswer}
 use Rattle.sw_container_steps.specs.declared.cont_answer.ContAnswer.TheVariants as answers
 use Rattle.sw_container_steps.specs.declared.cont_change.ContChange.{ContChange}
@@ -23,6 +24,7 @@ use Rattle.sw_peer.specs.declared.cont_event.ContEvent.TheVariants.{Changed, Inf
 use Rattle.sw_peer.specs.declared.line.Event.TheVariants.{AtContainer}
 use Rattle.sw_peer.specs.declared.line.Line.{Line}
 use Rattle.sw_peer.specs.declared.link.Link.TheVariants.{Local}
+use Rattle.sw_step.specs.Steps.{added_by}
 use Rattle.sw_container_server.proofs.Looks.{came}
 use Rattle.sw_container_server.proofs.OneAsking.{asks_for_one}
 use Rattle.sw_container_server.proofs.OneReply.{has_one_reply}
@@ -115,7 +117,7 @@ module _ (device : ℕ) (place : Place) where
       → IsChanged device place change old answer new → Answered change lines answer new
   answered change lines old answer new is p =
       let comes = came (IsContMade Local device place change) old answer new p in
-      heard device (λ answer. Changed place change answer) answers.NoMemory lines answer comes.1.step.added (is_wanting_cont answer) old comes.0 new
+      heard device (λ answer. Changed place change answer) answers.NoMemory lines answer (added_by cont_rules comes.1.step.step) (is_wanting_cont answer) old comes.0 new
       (wanted answer) is
       comes.1.trail comes.2
 
@@ -123,14 +125,14 @@ module _ (device : ℕ) (place : Place) where
       → Told lines got new
   told lines old got new is p =
       let comes = came (IsLooked Local device place info_of (λ told. Informed place told)) old got new p in
-      heard device (λ told. Informed place told) (Err answers.NoMemory) lines got comes.1.step.added (is_wanting_look got) old comes.0 new (wanted-look got) is
+      heard device (λ told. Informed place told) (Err answers.NoMemory) lines got comes.1.step.step.follows.entries.0 (is_wanting_look got) old comes.0 new (wanted-look got) is
       comes.1.trail comes.2
 
   shown : (query : Query) (lines : List Line) (old : Sight) (got : Result (List Entry) ContAnswer) (new : Sight) → old.trail ≡ Some lines
       → IsListed device place query old got new → Shown query lines got new
   shown query lines old got new is p =
       let comes = came (IsLooked Local device place (listing_of query) (λ listed. Listed place query listed)) old got new p in
-      heard device (λ listed. Listed place query listed) (Err answers.NoMemory) lines got comes.1.step.added (is_wanting_look got) old comes.0 new
+      heard device (λ listed. Listed place query listed) (Err answers.NoMemory) lines got comes.1.step.step.follows.entries.0 (is_wanting_look got) old comes.0 new
       (wanted-look got) is comes.1.trail comes.2
 
   one-change : (change : ContChange) (x y : ContAnswer) → Changed place change x ≡ Changed place change y → x ≡ y

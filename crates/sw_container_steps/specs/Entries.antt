@@ -1,5 +1,6 @@
 -- Entries of the journal of a container lock, and what they leave. (This project's own.)
-use Rattle.std.specs.Prelude.{ℕ, Bool, true, false, ◌&&◌, if◌then◌else◌, List, [], ◌∷◌, count_by, Option, None, Some}
+use Rattle.std.specs.Prelude.{ℕ, Bool, true, false, ◌&&◌, if◌then◌else◌, List, count_by, Option, None, Some}
+use Rattle.std.specs.List.{filter, fold}
 use Rattle.std.specs.Str.{bytes_eq}
 use Rattle.sw_hashpath.specs.declared.place.Place.{Place}
 use Rattle.sw_keeper.specs.Changes.{begun}
@@ -30,8 +31,7 @@ entered (Some t) (Merged place row) = Some (record t { rows = merged t.rows row 
 
 -- what entries leave, one after the other
 abbrev pub all_entered : Option Tables → List ContEntry → Option Tables
-all_entered t [] = t
-all_entered t (entry ∷ entries) = all_entered (entered t entry) entries
+all_entered t entries = fold entered t entries
 
 -- ---- entries of one place
 
@@ -46,8 +46,7 @@ is_same_place a b = bytes_eq a.hash b.hash && (bytes_eq a.account b.account && b
 
 -- the entries of a place, in order
 abbrev pub about : Place → List ContEntry → List ContEntry
-about place [] = []
-about place (entry ∷ entries) = if is_same_place (place_in entry) place then entry ∷ about place entries else about place entries
+about place entries = filter (λ entry. is_same_place (place_in entry) place) entries
 
 -- ---- how many rows entries put in
 

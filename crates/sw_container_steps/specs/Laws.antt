@@ -4,11 +4,16 @@ use Rattle.sw_hashpath.specs.declared.place.Place.{Place}
 use Rattle.sw_rows.specs.Rows.{merged}
 use Rattle.sw_rows.specs.declared.row.Row.{Row}
 use Rattle.sw_keeper.specs.declared.tables.Tables.{Tables}
+use Rattle.sw_step.specs.Rules.{AreRules}
 use Rattle.sw_container_steps.specs.Entries.{about, all_entered, rows_of}
 use Rattle.sw_container_steps.specs.Presence.{is_present}
+use Rattle.sw_container_steps.specs.Rules.{cont_rules}
 use Rattle.sw_container_steps.specs.Steps.{cont_refusal, entries_for}
 use Rattle.sw_container_steps.specs.declared.cont_change.ContChange.{ContChange}
 use Rattle.sw_container_steps.specs.declared.cont_change.ContChange.TheVariants.{Create, Remove, MergeRow, MergeRows}
+
+abbrev pub ContainersAreRules : Type 0
+ContainersAreRules = AreRules cont_rules
 
 -- what a step that isn't refused leaves
 abbrev pub left : Option Tables → Place → ContChange → Option Tables

@@ -1,9 +1,9 @@
 pub mod Batches
 pub mod Deciding
 pub mod Entries
-pub mod Histories
-pub mod Journals
+pub mod Halves
 pub mod Laws
 pub mod Presence
 pub mod Reads
+pub mod Rules
 pub mod Steps

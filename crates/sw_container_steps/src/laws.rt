@@ -1,6 +1,12 @@
 //! Laws of steps at containers. Each function does nothing: its clause is the law.
 
-ghost use Rattle.sw_container_steps.specs.Laws.{CreatedIsThere, EntriesAreOfThePlace, EntriesAreSeen, RemovedIsAbsent, RowIsMerged, RowsAreMerged, StepsHold};
+ghost use Rattle.sw_container_steps.specs.Laws.{ContainersAreRules, CreatedIsThere, EntriesAreOfThePlace, EntriesAreSeen};
+ghost use Rattle.sw_container_steps.specs.Laws.{RemovedIsAbsent, RowIsMerged, RowsAreMerged, StepsHold};
+
+/// The rules of containers are rules.
+pub fn containers_are_rules()
+    ensures { ContainersAreRules }
+{}
 
 /// A container whose creation isn't refused is there, and has the rows that it had.
 pub fn created_is_there()

@@ -4,8 +4,8 @@
 //! refuses it, or exactly the entries ([`ContEntry`]) that it adds. [`batch_of`] makes those entries one batch of changes that
 //! a keeper takes. [`info_of`], [`times_of`] and [`list`] are what is read of tables.
 //!
-//! The definitions tell what one lock does as well: its journal of entries and doubts, and one step from one history to the
-//! next. No call of a keeper is made here; the next layer up makes them.
+//! `specs/Rules` has the rules by which the steps at one lock go, in the words of `sw_step`, and what a step that changes or reads a container is by
+//! them; [`laws`] has that they are rules. No call of a keeper is made here; the next layer up makes them.
 #![tactic(auto)]
 
 mod batching;

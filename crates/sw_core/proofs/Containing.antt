@@ -10,7 +10,7 @@ use Rattle.std.specs.List.{slice_get}
 use Rattle.sw_container_db.specs.ContDirs.{ContKept}
 use Rattle.sw_container_locks.proofs.Anew.{restart-moves}
 use Rattle.sw_container_locks.proofs.Placed.{change-moves, read-moves}
-use Rattle.sw_container_locks.specs.Halves.{cont_held_of, cont_seen_of}
+use Rattle.sw_container_locks.specs.Halves.{MayStand, cont_held_of, cont_seen_of}
 use Rattle.sw_container_locks.specs.Laws.{HasLocks, IsOfDevice}
 use Rattle.sw_container_locks.specs.Making.{IsChangedAt, IsReadAt}
 use Rattle.sw_container_locks.specs.Restarting.{AreRestarted}
@@ -28,7 +28,7 @@ use Rattle.sw_hashpath.specs.declared.place.Place.{Place}
 use Rattle.sw_history.specs.Halves.{HalfRestarts}
 use Rattle.sw_keeper.specs.MemState.{MemState}
 use Rattle.sw_peer.proofs.Calls.{calls-once, faithful-once}
-use Rattle.sw_peer.proofs.ContCalls.{cont-made-step, cont-wanting, look-step, look-wanting}
+use Rattle.sw_peer.proofs.ContCalls.{MayHold, cont-made-step, cont-wanting, look-step, look-wanting}
 use Rattle.sw_peer.specs.ContSights.{ContMoves, IsContMade, IsIn, IsLooked}
 use Rattle.sw_peer.specs.Sights.{Calls, Sight}
 use Rattle.sw_peer.specs.declared.cont_event.ContEvent.{ContEvent}
@@ -169,13 +169,26 @@ module _ {V : Type 0} (tells : V → Bool) (files : V → Folders) (faults : V �
   abbrev see : AllNodes V → Sight
   see x = sight_of tells files faults x
 
+  -- what is held under the lock of a place is what it may stand for
+  abbrev held : ℕ → Place → Place → Option Tables
+  held device place p = cont_held_of mem_tells mem_holds mem_faults (slice_get w.containers (place_lock w.lock_bits w.power device place)) p
+
+  may-hold : (device : ℕ) (place : Place) → MayStand mem_tells mem_holds mem_faults w.containers (place_lock w.lock_bits w.power device place)
+      → MayHold device place (see w)
+  may-hold device place may = record {
+    held = held device place;
+    is_held = λ alone p same. ap (λ (l : ℕ). cont_held_of mem_tells mem_holds mem_faults (slice_get w.containers l) p) (sym same);
+    can = λ alone told p. may told p;
+  }
+
   -- a step that may change a container
   module _ (link : Link) (device : ℕ) (place : Place) (change : ContChange) where
     pub wants-change : (lines : List Line) → lines ≡ w.lines
+        → MayStand mem_tells mem_holds mem_faults w.containers (place_lock w.lock_bits w.power device place)
         → Calls (IsContMade link device place change) (see w) link (Ok answers.NoMemory) (see (record w { lines = lines }))
-    wants-change lines same = rw same (calls-once (ContMoves (IsIn device place)) (IsContMade link device place change)
+    wants-change lines same may = rw same (calls-once (ContMoves (IsIn device place)) (IsContMade link device place change)
         (cont-made-step link device place change)
-        (see w) (see w) link answers.NoMemory (faithful-once link) (cont-wanting link device place change (see w)))
+        (see w) (see w) link answers.NoMemory (faithful-once link) (cont-wanting link device place change (see w) (may-hold device place may)))
 
     pub world-change : (answer : ContAnswer) (locks : List (ContSlot MemState)) (line : Line) (lines : List Line)
         → IsChangedAt mem_tells mem_holds mem_faults mem_calls (place_lock w.lock_bits w.power device place) link device place change w.containers answer locks
@@ -198,10 +211,11 @@ module _ {V : Type 0} (tells : V → Bool) (files : V → Folders) (faults : V �
   module _ {A : Type 0} (link : Link) (device : ℕ) (place : Place) (reading : Option Tables → ℕ → Result A ContAnswer) (event : Result A ContAnswer → ContEvent)
     where
       pub wants-look : (lines : List Line) → lines ≡ w.lines
+          → MayStand mem_tells mem_holds mem_faults w.containers (place_lock w.lock_bits w.power device place)
           → Calls (IsLooked link device place reading event) (see w) link (Ok (Err answers.NoMemory)) (see (record w { lines = lines }))
-      wants-look lines same = rw same (calls-once (ContMoves (IsIn device place)) (IsLooked link device place reading event)
+      wants-look lines same may = rw same (calls-once (ContMoves (IsIn device place)) (IsLooked link device place reading event)
           (look-step link device place reading event)
-          (see w) (see w) link (Err answers.NoMemory) (faithful-once link) (look-wanting link device place reading event (see w)))
+          (see w) (see w) link (Err answers.NoMemory) (faithful-once link) (look-wanting link device place reading event (see w) (may-hold device place may)))
 
       pub world-look : (got : Result A ContAnswer) (locks : List (ContSlot MemState)) (line : Line) (lines : List Line)
           → IsReadAt mem_tells mem_holds mem_faults mem_calls (place_lock w.lock_bits w.power device place) link device place reading event w.containers got

@@ -14,7 +14,7 @@ use Rattle.sw_container_locks.specs.Halves.{half_of}
 use Rattle.sw_container_locks.specs.Slots.{IsOpen, begun, opened as opened_locks}
 use Rattle.sw_container_locks.specs.declared.cont_slot.ContSlot.{ContSlot}
 use Rattle.sw_container_locks.specs.declared.cont_slot.ContSlot.TheVariants as cont_slots
-use Rattle.sw_container_steps.specs.declared.cont_entry.ContEntry.{ContEntry}
+use Rattle.sw_container_steps.specs.Halves.{ContHalf}
 use Rattle.sw_hashpath.specs.BadNames.{bad_name}
 use Rattle.sw_hashpath.specs.HashParts.{partition_of}
 use Rattle.sw_hashpath.specs.Paths.{hash_of}
@@ -142,7 +142,7 @@ abbrev pub place_lock : ℕ → ℕ → ℕ → Place → ℕ
 place_lock lock_bits power device place = lock_of lock_bits power device place.hash
 
 -- what is known of these locks
-abbrev pub containers_at : ℕ → ℕ → List (ContSlot MemState) → Half Place (Option Tables) ContEntry ContEntry
+abbrev pub containers_at : ℕ → ℕ → List (ContSlot MemState) → ContHalf
 containers_at lock_bits power locks = half_of mem_tells mem_holds mem_faults (place_lock lock_bits power) locks
 
 -- the locks beside those of these volumes, under which no container was ever created

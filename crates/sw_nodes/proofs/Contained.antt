@@ -12,6 +12,7 @@ use Rattle.sw_container_server.specs.Targets.{is_for_containers}
 use Rattle.sw_container_server.specs.declared.asked.ContAsked.{ContAsked}
 use Rattle.sw_container_server.specs.declared.asked.ContAsked.TheVariants as asks
 use Rattle.sw_container_steps.specs.Reads.{info_of, listing_of}
+use Rattle.sw_container_steps.specs.Rules.{cont_rules}
 use Rattle.sw_container_steps.specs.declared.cont_answer.ContAnswer.{ContAnswer}
 use Rattle.sw_container_steps.specs.declared.cont_change.ContChange.{ContChange}
 use Rattle.sw_container_steps.specs.declared.cont_entry.ContEntry.{ContEntry}
@@ -44,6 +45,7 @@ use Rattle.sw_replica_server.specs.Targets.{is_replication_of}
 use Rattle.sw_ring.specs.declared.ring.Ring.{Ring}
 use Rattle.sw_state.specs.declared.state.State.{State}
 use Rattle.sw_volume.specs.Tree.{Folders}
+use Rattle.sw_step.specs.Steps.{added_by}
 use Rattle.sw_nodes.proofs.Controlling.{on_true}
 use Rattle.sw_nodes.proofs.Restarting.{none-called, one-line as one-restart, some_is}
 use Rattle.sw_nodes.proofs.Serving.{goes_on, on_false}
@@ -130,8 +132,8 @@ made-keeps : (device : ℕ) (place : Place) (change : ContChange) (s : Sight) (a
 made-keeps device place change s answer t made = record {
   nodes = made.moves.nodes;
   alone = made.moves.alone;
-  restarts = restarts-kept _ Local device (cont_events.Changed place change answer) made.step.added (is_wanting_cont answer) s t made.moves made.trail;
-  runs = λ start r. run-kept-on _ Local device (cont_events.Changed place change answer) made.step.added (is_wanting_cont answer) s t made.moves made.trail
+  restarts = restarts-kept _ Local device (cont_events.Changed place change answer) (added_by cont_rules made.step.step) (is_wanting_cont answer) s t made.moves made.trail;
+  runs = λ start r. run-kept-on _ Local device (cont_events.Changed place change answer) (added_by cont_rules made.step.step) (is_wanting_cont answer) s t made.moves made.trail
       start r;
   cont_runs = λ start alone r. cont-run-made start Local device place change s answer t alone made r;
 }
@@ -141,8 +143,8 @@ informed-keeps : (device : ℕ) (place : Place) (s : Sight) (told : Result Info 
 informed-keeps device place s told t read = record {
   nodes = read.moves.nodes;
   alone = read.moves.alone;
-  restarts = restarts-kept _ Local device (cont_events.Informed place told) read.step.added (is_wanting_look told) s t read.moves read.trail;
-  runs = λ start r. run-kept-on _ Local device (cont_events.Informed place told) read.step.added (is_wanting_look told) s t read.moves read.trail start r;
+  restarts = restarts-kept _ Local device (cont_events.Informed place told) read.step.step.follows.entries.0 (is_wanting_look told) s t read.moves read.trail;
+  runs = λ start r. run-kept-on _ Local device (cont_events.Informed place told) read.step.step.follows.entries.0 (is_wanting_look told) s t read.moves read.trail start r;
   cont_runs = λ start alone r. cont-run-informed start Local device place s told t alone read r;
 }
 
@@ -151,8 +153,8 @@ listed-keeps : (device : ℕ) (place : Place) (query : Query) (s : Sight) (liste
 listed-keeps device place query s listed t read = record {
   nodes = read.moves.nodes;
   alone = read.moves.alone;
-  restarts = restarts-kept _ Local device (cont_events.Listed place query listed) read.step.added (is_wanting_look listed) s t read.moves read.trail;
-  runs = λ start r. run-kept-on _ Local device (cont_events.Listed place query listed) read.step.added (is_wanting_look listed) s t read.moves read.trail start
+  restarts = restarts-kept _ Local device (cont_events.Listed place query listed) read.step.step.follows.entries.0 (is_wanting_look listed) s t read.moves read.trail;
+  runs = λ start r. run-kept-on _ Local device (cont_events.Listed place query listed) read.step.step.follows.entries.0 (is_wanting_look listed) s t read.moves read.trail start
       r;
   cont_runs = λ start alone r. cont-run-listed start Local device place query s listed t alone read r;
 }

@@ -7,7 +7,7 @@ use Rattle.sw_hashpath.specs.declared.name.Name.{Name}
 use Rattle.sw_hashpath.specs.declared.place.Place.{Place}
 use Rattle.sw_history.proofs.Growing.{grows-refl}
 use Rattle.sw_peer.proofs.Calls.{calls-once, faithful-once, made-step, moves-refl, read-step}
-use Rattle.sw_peer.proofs.ContCalls.{cont-made-step, cont-wanting, look-step, look-wanting}
+use Rattle.sw_peer.proofs.ContCalls.{cont-made-step, cont-wanting, look-step, look-wanting, none-alone}
 use Rattle.sw_peer.specs.ContSights.{ContMoves, IsContMade, IsIn, IsLooked}
 use Rattle.sw_peer.specs.Histories.{History}
 use Rattle.sw_peer.specs.Journals.{Answers}
@@ -97,11 +97,11 @@ pub wanted-change : (link : Link) (device : ℕ) (place : Place) (change : ContC
     → Calls (IsContMade link device place change) silent link (Ok cont_answers.NoMemory) silent
 wanted-change link device place change =
     calls-once (ContMoves (IsIn device place)) (IsContMade link device place change) (cont-made-step link device place change) silent silent link
-    cont_answers.NoMemory (faithful-once link) (cont-wanting link device place change silent)
+    cont_answers.NoMemory (faithful-once link) (cont-wanting link device place change silent (none-alone device place silent refl))
 
 pub wanted-look : {A : Type 0} (link : Link) (device : ℕ) (place : Place) (reading : Option Tables → ℕ → Result A ContAnswer)
     (event : Result A ContAnswer → ContEvent)
     → Calls (IsLooked link device place reading event) silent link (Ok (Err cont_answers.NoMemory)) silent
 wanted-look {A} link device place reading event =
     calls-once (ContMoves (IsIn device place)) (IsLooked link device place reading event) (look-step link device place reading event) silent silent link
-    (Err cont_answers.NoMemory) (faithful-once link) (look-wanting link device place reading event silent)
+    (Err cont_answers.NoMemory) (faithful-once link) (look-wanting link device place reading event silent (none-alone device place silent refl))

@@ -9,7 +9,6 @@ use Rattle.sw_hashpath.specs.declared.name.Name.{Name}
 use Rattle.sw_outside.specs.Faults.{HasRisen}
 use Rattle.sw_peer.specs.Carriage.{Carriage, Carries, Delivery, faithful}
 use Rattle.sw_history.proofs.Growing.{grows-refl, half-refl, half-trans, half-wider}
-use Rattle.sw_history.specs.Halves.{GrowsOf, Half, HalfMoves, HistoryOf}
 use Rattle.sw_peer.specs.Histories.{History}
 use Rattle.sw_peer.specs.Journals.{Hash, Journal, Settles}
 use Rattle.sw_peer.specs.Parts.{AreHashes, AreLines, IsFile, is_wanting_part}

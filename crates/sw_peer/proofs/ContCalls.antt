@@ -1,10 +1,7 @@
 -- Calls at the containers, one after another: what every one of their steps has. A step at the containers leaves the objects as they are, and the other
 -- way round.
-use Rattle.std.proofs.Common.{◌≡◌, ℕ, ◌≤◌, Bool, true, false, List, [], ◌++◌, refl, sym, ◌∙◌, ap, subst, arith, inl, inr, Option, Result, Ok, Err}
-use Rattle.std.proofs.lemmas.List.{append-nil}
-use Rattle.sw_container_steps.specs.Entries.{about}
-use Rattle.sw_container_steps.specs.Histories.{ContHistory}
-use Rattle.sw_container_steps.specs.Journals.{ContJournal, ContSettles}
+use Rattle.std.proofs.Common.{◌≡◌, ℕ, ◌≤◌, true, false, [], refl, sym, ◌∙◌, ap, subst, arith, inr, Option, None, Result, Err, true≢false}
+use Rattle.sw_container_steps.specs.Rules.{ContHistory, cont_rules}
 use Rattle.sw_container_steps.specs.declared.cont_answer.ContAnswer.{ContAnswer}
 use Rattle.sw_container_steps.specs.declared.cont_answer.ContAnswer.TheVariants as answers
 use Rattle.sw_container_steps.specs.declared.cont_change.ContChange.{ContChange}
@@ -19,6 +16,8 @@ use Rattle.sw_peer.specs.declared.cont_event.ContEvent.{ContEvent}
 use Rattle.sw_peer.specs.declared.cont_event.ContEvent.TheVariants.{Changed}
 use Rattle.sw_peer.specs.declared.line.Event.TheVariants.{AtContainer}
 use Rattle.sw_peer.specs.declared.link.Link.{Link}
+use Rattle.sw_step.specs.Rules.{CanStand}
+use Rattle.sw_step.specs.Steps.{added_by}
 
 -- ---- frames
 
@@ -65,7 +64,7 @@ cont-made-step link device place change = record {
   recounts = λ s t x f f' k k' c c' later step. record {
     moves = cont-moves-counted (IsIn device place) s t f f' k k' c c' later step.moves;
     step = step.step;
-    trail = trails-counted s t (record { device = device; link = link; event = AtContainer (Changed place change x) step.step.added; added = [] })
+    trail = trails-counted s t (record { device = device; link = link; event = AtContainer (Changed place change x) (added_by cont_rules step.step.step); added = [] })
         (is_wanting_cont x) f f' k k' c c' later step.trail;
   };
 }
@@ -80,40 +79,52 @@ look-step {A} link device place reading event = record {
     moves = cont-moves-counted (IsIn device place) s t f f' k k' c c' later step.moves;
     holds_all = step.holds_all;
     step = step.step;
-    trail = trails-counted s t (record { device = device; link = link; event = AtContainer (event x) step.step.added; added = [] })
+    trail = trails-counted s t (record { device = device; link = link; event = AtContainer (event x) step.step.step.follows.entries.0; added = [] })
         (is_wanting_look x) f f' k k' c c' later step.trail;
   };
 }
 
--- ---- a step that wanted memory at once is one that came and changed nothing
+-- ---- a step that wanted memory at once is one that came and changed nothing, where what the lock holds is what it may stand for
 
-settles-no-doubt : (j : ContJournal) → ContSettles j [] j
-settles-no-doubt j = record {
-  entered = sym (append-nil j.entries);
-  count = omega arith;
-  each = λ place. inl (refl, refl);
-  max_entries = refl;
-  max_bytes = refl;
-}
+-- where the door is alone, what is held under the lock of this place is what it may stand for
+pub record MayHold (device : ℕ) (place : Place) (s : Sight) : Type 0 where
+  pub held : Place → Option Tables
+  pub is_held : s.alone ≡ true → (p : Place) → cont_lock s.nodes device p ≡ cont_lock s.nodes device place → held p ≡ s.containers.holds device p
+  pub can : s.alone ≡ true → (s.containers.seen (cont_lock s.nodes device place)).told ≡ true → (p : Place)
+      → CanStand cont_rules (s.containers.seen (cont_lock s.nodes device place)) p (held p)
 
-pub cont-wanting : (link : Link) (device : ℕ) (place : Place) (change : ContChange) (s : Sight) → IsContMade link device place change s answers.NoMemory s
-cont-wanting link device place change s = record {
+-- of a door that shares its nodes nothing is to be known
+pub none-alone : (device : ℕ) (place : Place) (s : Sight) → s.alone ≡ false → MayHold device place s
+none-alone device place s shared = record { held = λ p. None; is_held = λ alone. absurd (clash alone); can = λ alone. absurd (clash alone) }
+  where
+    clash : s.alone ≡ true → ⊥
+    clash alone = true≢false (sym alone ∙ shared)
+
+pub cont-wanting : (link : Link) (device : ℕ) (place : Place) (change : ContChange) (s : Sight) → MayHold device place s
+    → IsContMade link device place change s answers.NoMemory s
+cont-wanting link device place change s may = record {
   moves = cont-moves-refl (IsIn device place) s;
   step = record {
-    before = h;
-    read = s.containers.holds device place;
-    made = false;
-    follows = grows-refl h;
-    settles = λ alone. ([], settles-no-doubt h.journal);
-    settled = λ is. absurd (never is);
-    answered = record { not_made = refl; same = refl };
-    known = λ told is. absurd (never is);
-    after = grows-refl h;
-    failed = λ is. absurd (other is);
-    held = λ alone told is. absurd (never is);
-    leaves = λ alone told. refl;
-    added = [];
-    adds = λ alone. sym (append-nil h.journal.entries);
+    held = may.held;
+    is_held = may.is_held;
+    step = record {
+      own = refl;
+      before = h;
+      looked = false;
+      read = may.held place;
+      made = [];
+      follows = grows-refl h;
+      settles = λ alone. (0, refl);
+      settled = λ is. absurd (never is);
+      answered = record { not_made = refl; same = refl };
+      orderly = λ is. cc;
+      after = grows-refl h;
+      failed = λ is. cc;
+      known = λ told is. absurd (never is);
+      kept = λ alone told other is. may.can alone told other;
+      held = λ alone told is. absurd (never is);
+      leaves = λ alone told. sym (may.is_held alone place refl);
+    };
   };
   trail = inr (refl, same-refl s);
 }
@@ -123,40 +134,32 @@ cont-wanting link device place change s = record {
 
     never : false ≡ true → ⊥
     never is = cc
-
-    other : answers.NoMemory ≡ answers.Failed → ⊥
-    other is = cc
-
-abbrev IsRefused : {A : Type 0} → Result A ContAnswer → ContAnswer → Type 0
-IsRefused got answer = got ≡ Err answer
-
-no-failure : {A : Type 0} → IsRefused {A = A} (Err answers.NoMemory) answers.Failed → ⊥
-no-failure {A} is = cc
 
 -- so is a read
 pub look-wanting : {A : Type 0} (link : Link) (device : ℕ) (place : Place) (reading : Option Tables → ℕ → Result A ContAnswer)
-    (event : Result A ContAnswer → ContEvent) (s : Sight)
+    (event : Result A ContAnswer → ContEvent) (s : Sight) → MayHold device place s
     → IsLooked link device place reading event s (Err answers.NoMemory) s
-look-wanting {A} link device place reading event s = record {
+look-wanting {A} link device place reading event s may = record {
   moves = cont-moves-refl (IsIn device place) s;
   holds_all = λ alone d p. refl;
   step = record {
-    read = s.containers.holds device place;
-    follows = grows-refl h;
-    settles = λ alone. ([], settles-no-doubt h.journal);
-    settled = λ is. absurd (never is);
-    shown = λ is. absurd (never is);
-    known = λ told is. absurd (never is);
-    failed = λ is. absurd (no-failure {A = A} is);
-    held = λ alone told is. absurd (never is);
-    added = [];
-    adds = λ alone. sym (append-nil h.journal.entries);
+    held = may.held;
+    is_held = may.is_held;
+    step = record {
+      read = may.held;
+      follows = grows-refl h;
+      settles = λ alone. (0, refl);
+      settled = λ is. cc;
+      shown = λ is. cc;
+      orderly = λ is. cc;
+      failed = λ is. cc;
+      known = λ told is. cc;
+      kept = λ alone told other is. may.can alone told other;
+      held = λ alone told is. cc;
+    };
   };
   trail = inr (refl, same-refl s);
 }
   where
     h : ContHistory
     h = s.containers.seen (cont_lock s.nodes device place)
-
-    never : false ≡ true → ⊥
-    never is = cc

@@ -1,8 +1,8 @@
 -- What a call at the containers makes of what the user of a door knows. (This project's own.)
 use Rattle.std.specs.Prelude.{◌≡◌, ℕ, ◌≤◌, Bool, true, false, [], Option, Result, Ok, Err}
-use Rattle.sw_container_steps.specs.Histories.{ContStepChanges, ContStepReads}
+use Rattle.sw_container_steps.specs.Halves.{ChangesAt, ReadsAt}
+use Rattle.sw_container_steps.specs.Rules.{cont_ending, cont_rules}
 use Rattle.sw_container_steps.specs.declared.cont_answer.ContAnswer.{ContAnswer}
-use Rattle.sw_container_steps.specs.declared.cont_answer.ContAnswer.TheVariants as answers
 use Rattle.sw_container_steps.specs.declared.cont_change.ContChange.{ContChange}
 use Rattle.sw_hashpath.specs.declared.place.Place.{Place}
 use Rattle.sw_history.specs.Halves.{HalfMoves}
@@ -12,6 +12,8 @@ use Rattle.sw_peer.specs.declared.cont_event.ContEvent.{ContEvent}
 use Rattle.sw_peer.specs.declared.cont_event.ContEvent.TheVariants.{Changed}
 use Rattle.sw_peer.specs.declared.line.Event.TheVariants.{AtContainer}
 use Rattle.sw_peer.specs.declared.link.Link.{Link}
+use Rattle.sw_step.specs.Rules.{has_wanted}
+use Rattle.sw_step.specs.Steps.{added_by}
 
 -- steps at these places of these devices: no object is touched
 pub record ContMoves (at : ℕ → Place → Type 0) (old new : Sight) : Type 0 where
@@ -30,24 +32,15 @@ abbrev pub HoldsTables : Sight → Sight → Type 0
 HoldsTables old new = new.alone ≡ true → (d : ℕ) (place : Place) → new.containers.holds d place ≡ old.containers.holds d place
 
 abbrev pub is_wanting_cont : ContAnswer → Bool
-is_wanting_cont (answers.New front) = false
-is_wanting_cont (answers.There front) = false
-is_wanting_cont (answers.Done front) = false
-is_wanting_cont answers.Absent = false
-is_wanting_cont (answers.Stale time) = false
-is_wanting_cont (answers.NotEmpty count) = false
-is_wanting_cont answers.JournalFull = false
-is_wanting_cont answers.Failed = false
-is_wanting_cont answers.NoMemory = true
+is_wanting_cont answer = has_wanted (cont_ending answer)
 
 -- ---- one step, as it comes to a device and is answered there
 
 -- a step that may change something
 pub record IsContMade (link : Link) (device : ℕ) (place : Place) (change : ContChange) (old : Sight) (answer : ContAnswer) (new : Sight) : Type 0 where
   pub moves : ContMoves (IsIn device place) old new
-  pub step : ContStepChanges new.alone (old.containers.seen (cont_lock old.nodes device place)) (old.containers.holds device place) place change answer
-      (new.containers.seen (cont_lock old.nodes device place)) (new.containers.holds device place)
-  pub trail : Trails old (record { device = device; link = link; event = AtContainer (Changed place change answer) step.added; added = [] })
+  pub step : ChangesAt (cont_lock old.nodes) new.alone device place change old.containers answer new.containers
+  pub trail : Trails old (record { device = device; link = link; event = AtContainer (Changed place change answer) (added_by cont_rules step.step); added = [] })
       (is_wanting_cont answer) new
 
 module _ {A : Type 0} where
@@ -60,6 +53,6 @@ module _ {A : Type 0} where
       (old : Sight) (got : Result A ContAnswer) (new : Sight) : Type 0 where
     pub moves : ContMoves (IsIn device place) old new
     pub holds_all : HoldsTables old new
-    pub step : ContStepReads new.alone (old.containers.seen (cont_lock old.nodes device place)) place reading got
-        (new.containers.seen (cont_lock old.nodes device place)) (new.containers.holds device place)
-    pub trail : Trails old (record { device = device; link = link; event = AtContainer (event got) step.added; added = [] }) (is_wanting_look got) new
+    pub step : ReadsAt (cont_lock old.nodes) new.alone device place reading old.containers got new.containers
+    pub trail : Trails old (record { device = device; link = link; event = AtContainer (event got) step.step.follows.entries.0; added = [] })
+        (is_wanting_look got) new

@@ -6,7 +6,7 @@ use Rattle.std.specs.Prelude.{◌≡◌, ◌≢◌, ⊤, ℕ, ◌≤◌, Bool, t
 use Rattle.std.specs.Option.{option_map}
 use Rattle.std.specs.declared.alloc.Global.{Global}
 use Rattle.std.specs.declared.vec.Vec.{Vec}
-use Rattle.sw_container_steps.specs.declared.cont_entry.ContEntry.{ContEntry}
+use Rattle.sw_container_steps.specs.Halves.{ContHalf}
 use Rattle.sw_diskfile.specs.declared.file_name.FileName.{FileName}
 use Rattle.sw_hashpath.specs.HashParts.{IsDigest, partition_of, suffix_of}
 use Rattle.sw_hashpath.specs.declared.name.Name.{Name}
@@ -14,7 +14,6 @@ use Rattle.sw_hashpath.specs.declared.place.Place.{Place}
 use Rattle.sw_hashpath.specs.declared.secrets.Secrets.{Secrets}
 use Rattle.sw_outside.specs.Counts.{raised}
 use Rattle.sw_outside.specs.Faults.{HasRisen}
-use Rattle.sw_keeper.specs.declared.tables.Tables.{Tables}
 use Rattle.sw_state.specs.declared.state.State.{State}
 use Rattle.sw_suffix.specs.declared.dir_line.DirLine.{DirLine}
 use Rattle.sw_suffix.specs.declared.told.SuffixHash.{SuffixHash}
@@ -54,7 +53,7 @@ pub record Nodes : Type 0 where
 pub record Sight : Type 0 where
   pub nodes : Nodes
   pub objects : Half Hash State ObjEntry ObjEntry
-  pub containers : Half Place (Option Tables) ContEntry ContEntry
+  pub containers : ContHalf
   pub alone : Bool  -- whether nobody else changes the nodes
   pub faults : ℕ  -- how many messages or answers were lost
   pub asks : ℕ  -- how many messages asked for hashes or files

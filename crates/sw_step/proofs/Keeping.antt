@@ -16,7 +16,7 @@ abbrev stop_shape : {E : Type 0} → StepJournal E → List E → List E → Boo
 stop_shape j es here b = record j { entries = j.entries ++ es; doubts = j.doubts ++ (if b then here ∷ [] else []) }
 
 module _ {K V E C A : Type 0} (r : RulesOf K V E C A) (are : AreRules r) where
-  about-own : (key : K) (es : List E) → AllAt r key es → about r key es ≡ es
+  pub about-own : (key : K) (es : List E) → AllAt r key es → about r key es ≡ es
   about-own key [] all = refl
   about-own key (e ∷ es) all =
       let here : r.is_key (r.key_of e) key ≡ true = subst (λ (k : K). r.is_key k key ≡ true) (sym all.0) (are.itself key) in
@@ -28,13 +28,13 @@ module _ {K V E C A : Type 0} (r : RulesOf K V E C A) (are : AreRules r) where
     | inr isnt ↦ isnt
   ]
 
-  about-other : (key other : K) (es : List E) → other ≢ key → AllAt r key es → about r other es ≡ []
+  pub about-other : (key other : K) (es : List E) → other ≢ key → AllAt r key es → about r other es ≡ []
   about-other key other [] away all = refl
   about-other key other (e ∷ es) away all =
       let here : r.is_key (r.key_of e) other ≡ false = isnt-key (r.key_of e) other (λ same. away (sym same ∙ all.0)) in
       rw here (about-other key other es away all.1)
 
-  isnt-about : (key other : K) (d : List E) → other ≢ key → AllAt r key d → is_about r other d ≡ false
+  pub isnt-about : (key other : K) (d : List E) → other ≢ key → AllAt r key d → is_about r other d ≡ false
   isnt-about key other [] away all = refl
   isnt-about key other (e ∷ es) away all =
       let here : r.is_key (r.key_of e) other ≡ false = isnt-key (r.key_of e) other (λ same. away (sym same ∙ all.0)) in

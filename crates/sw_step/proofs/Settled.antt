@@ -1,11 +1,11 @@
 -- What settling enters.
-use Rattle.std.proofs.Common.{◌≡◌, zero, suc, List, [], ◌∷◌, ◌++◌, refl, sym, ◌∙◌, ap, subst, inl, inr, ◌⊎◌, append_assoc}
+use Rattle.std.proofs.Common.{◌≡◌, ℕ, zero, suc, Bool, List, [], ◌∷◌, ◌++◌, refl, sym, ◌∙◌, ap, subst, inl, inr, ◌⊎◌, append_assoc}
 use Rattle.std.specs.List.{fold}
 use Rattle.std.proofs.lemmas.List.{append-nil}
-use Rattle.sw_step.specs.Journals.{StepJournal, flat}
+use Rattle.sw_step.specs.Journals.{StepHistory, StepJournal, flat}
 use Rattle.sw_step.specs.Laws.{AllAmong, EntersDoubtsAlone, IsAmong, NoDoubtsTell, NothingToSettle}
-use Rattle.sw_step.specs.Rules.{AreChosen, RulesOf, stands}
-use Rattle.sw_step.specs.Steps.{SettlesOne}
+use Rattle.sw_step.specs.Rules.{AreChosen, CanStand, RulesOf, stands}
+use Rattle.sw_step.specs.Steps.{Settles, SettlesOne, StepChanges, added_by}
 
 among-middle : {X : Type 0} (front : List X) (x : X) (behind : List X) → IsAmong (front ++ x ∷ behind) x
 among-middle [] x behind = inl refl
@@ -62,3 +62,26 @@ module _ {K V E C A : Type 0} (r : RulesOf K V E C A) where
   tell h key v can none =
       let is : can.0 ≡ [] = subst (λ (ds : List (List E)). AreChosen r ds can.0) none can.1 in
       can.2 ∙ ap (λ (es : List E). fold r.applied (stands r h key) es) is
+
+  chosen-nothing : (ds : List (List E)) → AreChosen r ds []
+  chosen-nothing [] = refl
+  chosen-nothing (d ∷ ds) = ([], chosen-nothing ds, inl refl)
+
+  -- a key may always stand for what its entries tell
+  pub can-tell : (h : StepHistory K V E) (key : K) → CanStand r h key (stands r h key)
+  can-tell h key = ([], chosen-nothing _, refl)
+
+  -- some doubts were settled, and then others
+  pub settles-both : (at : K → Bool) (n m : ℕ) (j mid after : StepJournal E) → Settles r at n j mid → Settles r at m mid after
+      → (k : ℕ) × Settles r at k j after
+  settles-both at zero m j mid after same more = (m, subst (λ (x : StepJournal E). Settles r at m x after) same more)
+  settles-both at (suc n) m j mid after one more =
+      let rest = settles-both at n m one.0 mid after one.2 more in
+      (suc rest.0, (one.0, one.1, rest.1))
+
+  -- the entries of a step came in two parts: those of what it settled, and its own
+  pub added-is : {alone : Bool} {h : StepHistory K V E} {s : K → V} {key : K} {change : C} {answer : A} {g : StepHistory K V E} {t : V}
+      (step : StepChanges r alone h s key change answer g t) → g.journal.entries ≡ h.journal.entries ++ added_by r step
+  added-is {h = h} step = step.after.entries.1
+      ∙ (ap (λ (es : List E). es ++ step.after.entries.0) step.follows.entries.1
+      ∙ append_assoc h.journal.entries step.follows.entries.0 step.after.entries.0)

@@ -6,8 +6,8 @@
 //! entered, and what is left in doubt. [`laws`] has what follows of any rules: a step keeps what the journal tells of its own key and of all others, also
 //! where it failed, and a lock in order can end a step in each way.
 //!
-//! Histories themselves are those of `sw_history`. The next layer up is `sw_object_steps`, which has the rules of objects; their locks (`sw_objdir`) promise
-//! their steps in these words. Steps at containers are still said in words of their own (`sw_container_steps`).
+//! Histories themselves are those of `sw_history`. The next layers up have the rules: `sw_container_steps` those of containers, in which container locks
+//! and the doors to containers promise their steps, and `sw_object_steps` those of objects, in which the locks of objects (`sw_objdir`) do.
 #![tactic(auto)]
 
 pub mod laws;

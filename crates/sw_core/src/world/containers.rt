@@ -48,10 +48,11 @@ impl<V: Volume + Drop> ContainerDoor for World<V> {
         place: &Place,
         change: &ContChange,
     ) -> Result<ContAnswer, Lost> {
+        let lock = self.lock(device, &place.hash);
         if self.lines.reserve(1).is_err() {
+            self.containers.may_stand(lock);
             return Ok(ContAnswer::NoMemory);
         }
-        let lock = self.lock(device, &place.hash);
         let (answer, line) = self
             .containers
             .change(alloc, lock, link, device, place, change);
@@ -66,10 +67,11 @@ impl<V: Volume + Drop> ContainerDoor for World<V> {
         device: u8,
         place: &Place,
     ) -> Result<Result<Option<(Timestamp, Option<Timestamp>)>, ContAnswer>, Lost> {
+        let lock = self.lock(device, &place.hash);
         if self.lines.reserve(1).is_err() {
+            self.containers.may_stand(lock);
             return Ok(Err(ContAnswer::NoMemory));
         }
-        let lock = self.lock(device, &place.hash);
         let (got, line) = self.containers.times(alloc, lock, link, device, place);
         self.lines.push_reserved(line);
         Ok(got)
@@ -82,10 +84,11 @@ impl<V: Volume + Drop> ContainerDoor for World<V> {
         device: u8,
         place: &Place,
     ) -> Result<Result<Info, ContAnswer>, Lost> {
+        let lock = self.lock(device, &place.hash);
         if self.lines.reserve(1).is_err() {
+            self.containers.may_stand(lock);
             return Ok(Err(ContAnswer::NoMemory));
         }
-        let lock = self.lock(device, &place.hash);
         let (got, line) = self.containers.info(alloc, lock, link, device, place);
         self.lines.push_reserved(line);
         Ok(got)
@@ -99,10 +102,11 @@ impl<V: Volume + Drop> ContainerDoor for World<V> {
         place: &Place,
         query: &Query,
     ) -> Result<Result<Entries, ContAnswer>, Lost> {
+        let lock = self.lock(device, &place.hash);
         if self.lines.reserve(1).is_err() {
+            self.containers.may_stand(lock);
             return Ok(Err(ContAnswer::NoMemory));
         }
-        let lock = self.lock(device, &place.hash);
         let (got, line) = self
             .containers
             .list(alloc, lock, link, device, place, query);

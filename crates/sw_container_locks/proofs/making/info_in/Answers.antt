@@ -6,8 +6,9 @@ pub returns : goal.returns
 returns g c =
     let left = c.info-got.new.self in
     let step = c.info-got.ensures.read in
-    let entered : left.fresh ≡ step.read.added =
-    entered-alone c.args.dir.now.fresh step.read.added left.fresh c.requires.fresh (step.same.fresh step.read.added (step.read.adds refl)) in
+    let added = step.read.follows.entries.0 in
+    let entered : left.fresh ≡ added =
+    entered-alone c.args.dir.now.fresh added left.fresh c.requires.fresh (step.same.fresh added step.read.follows.entries.1) in
     record {
       left = left;
       step = step;

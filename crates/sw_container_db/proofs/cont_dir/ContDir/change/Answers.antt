@@ -1,9 +1,13 @@
-use Rattle.std.proofs.Common.{refl, sym, ◌∙◌}
+use Rattle.std.proofs.Common.{◌++◌, Option, sym, ◌∙◌, subst}
+use Rattle.sw_keeper.specs.declared.tables.Tables.{Tables}
+use Rattle.sw_step.proofs.Settled.{added-is}
+use Rattle.sw_step.specs.Rules.{CanStand}
+use Rattle.sw_container_steps.specs.Rules.{cont_rules}
 use Rattle.sw_container_db.specs.Calling.{load_at}
 use Rattle.sw_container_db.specs.ContDirs.{cont_history_of}
 use Rattle.sw_container_db.proofs.Calls.{called-after, called-fault}
 use Rattle.sw_container_db.proofs.Fresh.{fresh-both}
-use Rattle.sw_container_db.proofs.Kept.{cont-after-settling, cont-unready}
+use Rattle.sw_container_db.proofs.Ends.{after-settling, unready}
 use Rattle.sw_container_db.proofs.cont_dir.ContDir.change.Goals as goal
 
 pub returns-in-Ok-clause-made : goal.returns-in-Ok-clause-made
@@ -13,16 +17,15 @@ returns-in-Ok-clause-made g c =
         began = c.make.ensures.began ∙ c.ready.ensures.began;
         told = c.make.ensures.told ∙ c.ready.ensures.told;
         fresh = fresh-both c.args.self.now.journal.entries c.args.self.now.fresh c.ready.new.self.journal.entries c.ready.new.self.fresh
-            c.make.new.self.journal.entries c.make.new.self.fresh
-            c.ready.ensures.settles.0 c.make.ensures.made.added c.ready.ensures.settles.1.entered (c.make.ensures.made.adds refl) c.ready.ensures.fresh
-            c.make.ensures.fresh;
+            c.make.new.self.journal.entries c.make.new.self.fresh c.ready.ensures.grows.entries.0
+            (c.make.ensures.made.follows.entries.0 ++ c.make.ensures.made.after.entries.0) c.ready.ensures.grows.entries.1
+            (added-is cont_rules c.make.ensures.made) c.ready.ensures.fresh c.make.ensures.fresh;
       };
       others = λ told p away. c.make.ensures.others (c.ready.ensures.told ∙ told) p away ∙ c.ready.ensures.same told p;
-      made = cont-after-settling (cont_history_of v.tells v.holds v.faults c.args.self.now) (cont_history_of v.tells v.holds v.faults c.ready.new.self)
+      made = after-settling (cont_history_of v.tells v.holds v.faults c.args.self.now) (cont_history_of v.tells v.holds v.faults c.ready.new.self)
           (cont_history_of v.tells v.holds v.faults c.make.new.self)
-          (v.holds c.args.self.now.keeper place) (v.holds c.ready.new.self.keeper place) (v.holds c.make.new.self.keeper place) place c.args.change.now
-          c.make.result
-          c.ready.ensures.grows c.ready.ensures.settles (λ told. c.ready.ensures.same (c.ready.ensures.tied ∙ told) place) c.make.ensures.made;
+          (v.holds c.args.self.now.keeper) (v.holds c.ready.new.self.keeper) (v.holds c.make.new.self.keeper place) place c.args.change.now c.make.result
+          c.ready.ensures.grows c.ready.ensures.settles (λ told. c.ready.ensures.same (c.ready.ensures.tied ∙ told)) c.make.ensures.made;
     }
 
 pub returns-in-Err-clause-made : goal.returns-in-Err-clause-made
@@ -30,9 +33,12 @@ returns-in-Err-clause-made g c =
     let v = g.K.Keeper in let place = c.args.place.now in record {
       same = record { began = c.ready.ensures.began; told = c.ready.ensures.told; fresh = c.ready.ensures.fresh };
       others = λ told p away. c.ready.ensures.same told p;
-      made = cont-unready (cont_history_of v.tells v.holds v.faults c.args.self.now) (cont_history_of v.tells v.holds v.faults c.ready.new.self)
-          (v.holds c.args.self.now.keeper place) (v.holds c.ready.new.self.keeper place) place c.args.change.now c.in-Err.answer
-          c.ready.ensures.grows c.ready.ensures.settles (λ told. c.ready.ensures.same (c.ready.ensures.tied ∙ (sym c.ready.ensures.grows.told ∙ told)) place)
+      made = unready (cont_history_of v.tells v.holds v.faults c.args.self.now) (cont_history_of v.tells v.holds v.faults c.ready.new.self)
+          (v.holds c.args.self.now.keeper) (v.holds c.ready.new.self.keeper place) place c.args.change.now c.in-Err.answer
+          c.ready.ensures.grows c.ready.ensures.settles
+          (λ told p. subst (λ (t : Option Tables). CanStand cont_rules (cont_history_of v.tells v.holds v.faults c.ready.new.self) p t)
+          (c.ready.ensures.same (c.ready.ensures.tied ∙ (sym c.ready.ensures.grows.told ∙ told)) p) (c.ready.ensures.fits told p))
+          (λ told. c.ready.ensures.same (c.ready.ensures.tied ∙ (sym c.ready.ensures.grows.told ∙ told)) place)
           c.in-Err.ensures.fault c.in-Err.ensures.cause;
     }
 

@@ -1,9 +1,11 @@
-use Rattle.std.proofs.Common.{◌≡◌, length, Some, sym, ◌∙◌, ap}
+use Rattle.std.proofs.lemmas.Result.{err_from_is_err_and}
+use Rattle.std.proofs.Common.{◌≡◌, length, Some, ◌∙◌, ap}
 use Rattle.sw_container_steps.specs.Reads.{info_of}
+use Rattle.sw_container_steps.specs.Rules.{cont_look}
 use Rattle.sw_container_db.specs.Calling.{load_at}
 use Rattle.sw_container_db.proofs.Calls.{informed}
-use Rattle.sw_container_db.proofs.Kept.{info-never}
-use Rattle.sw_container_db.proofs.ReadSteps.{read-step}
+use Rattle.sw_container_db.proofs.Ends.{info-tells}
+use Rattle.sw_container_db.proofs.ReadSteps.{read-none, read-step}
 use Rattle.sw_container_db.proofs.cont_dir.ContDir.info.Goals as goal
 
 pub returns-clause-read : goal.returns-clause-read
@@ -12,12 +14,21 @@ returns-clause-read g c =
     let is : c.info_of.result ≡ info_of c.tables.result.now (length c.ready.new.self.journal.entries) =
     c.info_of.ensures ∙ ap (info_of c.tables.result.now) c.front.ensures in
     read-step v.tells v.holds v.faults c.args.self.now c.ready.new.self place c.ready.ensures.began c.ready.ensures.told c.ready.ensures.fresh
-    c.ready.ensures.same c.ready.ensures.grows c.ready.ensures.settles c.tables.result.now info_of c.info_of.result
-    c.ready.ensures.tied c.in_ok-ready.ensures.called.settled c.in_ok-ready.ensures.called.loaded c.in_ok-ready.ensures.stands c.tables.ensures is
-    (λ failed. info-never c.tables.result.now (length c.ready.new.self.journal.entries) (sym is ∙ failed))
+    c.ready.ensures.same c.ready.ensures.grows c.ready.ensures.settles c.ready.ensures.fits c.tables.result.now info_of c.info_of.result
+    c.ready.ensures.tied c.in_ok-ready.ensures.called.settled c.in_ok-ready.ensures.called.loaded c.tables.ensures is
+    (ap cont_look is ∙ info-tells c.tables.result.now (length c.ready.new.self.journal.entries))
 
 pub returns-clause-called : goal.returns-clause-called
 returns-clause-called g c =
     let v = g.K.Keeper in let place = c.args.place.now in
     informed v.tells v.holds v.faults v.calls c.args.self.now c.ready.new.self (load_at c.args.self.now place) (Some place) c.tables.result.now c.front.result
     c.info_of.result c.info_of.ensures c.in_ok-ready.ensures.called
+
+pub returns-in_err-ready-clause-read : goal.returns-in_err-ready-clause-read
+returns-in_err-ready-clause-read g c =
+    let v = g.K.Keeper in
+    let exit = err_from_is_err_and c.from_residual.result c.from_residual.ensures.1 in
+    rw (exit.1, exit.2) (read-none v.tells v.holds v.faults c.args.self.now c.ready.new.self c.args.place.now c.ready.ensures.began c.ready.ensures.told
+    c.ready.ensures.fresh c.ready.ensures.same c.ready.ensures.grows c.ready.ensures.settles c.ready.ensures.fits
+    info_of c.in_err-ready.field-0.0 c.in_err-ready.ensures.fault
+    c.in_err-ready.ensures.cause)

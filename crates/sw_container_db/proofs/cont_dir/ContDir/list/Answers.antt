@@ -1,9 +1,12 @@
-use Rattle.std.proofs.Common.{length, Some, sym, ◌∙◌}
+use Rattle.sw_container_steps.specs.declared.cont_answer.ContAnswer.TheVariants as conts
+use Rattle.std.proofs.lemmas.Result.{err_from_is_err_and}
+use Rattle.std.proofs.Common.{length, Some, ◌∙◌, ap}
 use Rattle.sw_container_steps.specs.Reads.{listing_of}
+use Rattle.sw_container_steps.specs.Rules.{cont_look}
 use Rattle.sw_container_db.specs.Calling.{load_at}
 use Rattle.sw_container_db.proofs.Calls.{listed}
-use Rattle.sw_container_db.proofs.Kept.{listing-never}
-use Rattle.sw_container_db.proofs.ReadSteps.{read-step}
+use Rattle.sw_container_db.proofs.Ends.{listing-tells}
+use Rattle.sw_container_db.proofs.ReadSteps.{read-none, read-step}
 use Rattle.sw_container_db.proofs.cont_dir.ContDir.list.Goals as goal
 
 pub returns-in-Ok-clause-read : goal.returns-in-Ok-clause-read
@@ -11,12 +14,28 @@ returns-in-Ok-clause-read g c =
     let v = g.K.Keeper in let place = c.args.place.now in let query = c.args.query.now in
     let front = length c.ready.new.self.journal.entries in
     read-step v.tells v.holds v.faults c.args.self.now c.ready.new.self place c.ready.ensures.began c.ready.ensures.told c.ready.ensures.fresh
-    c.ready.ensures.same c.ready.ensures.grows c.ready.ensures.settles c.tables.result.now (listing_of query) c.in-Ok.answer
-    c.ready.ensures.tied c.in_ok-ready.ensures.called.settled c.in_ok-ready.ensures.called.loaded c.in_ok-ready.ensures.stands c.tables.ensures
-    (c.in-Ok.ensures front) (λ is. listing-never query c.tables.result.now front (sym (c.in-Ok.ensures front) ∙ is))
+    c.ready.ensures.same c.ready.ensures.grows c.ready.ensures.settles c.ready.ensures.fits c.tables.result.now (listing_of query) c.in-Ok.answer
+    c.ready.ensures.tied c.in_ok-ready.ensures.called.settled c.in_ok-ready.ensures.called.loaded c.tables.ensures
+    (c.in-Ok.ensures front) (ap cont_look (c.in-Ok.ensures front) ∙ listing-tells query c.tables.result.now front)
 
 pub returns-in-Ok-clause-called : goal.returns-in-Ok-clause-called
 returns-in-Ok-clause-called g c =
     let v = g.K.Keeper in let place = c.args.place.now in let front = length c.ready.new.self.journal.entries in
     listed v.tells v.holds v.faults v.calls c.args.self.now c.ready.new.self (load_at c.args.self.now place) (Some place) c.args.query.now c.tables.result.now
     front c.in-Ok.answer (c.in-Ok.ensures front) c.in_ok-ready.ensures.called
+
+pub returns-in_err-ready-clause-read : goal.returns-in_err-ready-clause-read
+returns-in_err-ready-clause-read g c =
+    let v = g.K.Keeper in
+    let exit = err_from_is_err_and c.from_residual.result c.from_residual.ensures.1 in
+    rw (exit.1, exit.2) (read-none v.tells v.holds v.faults c.args.self.now c.ready.new.self c.args.place.now c.ready.ensures.began c.ready.ensures.told
+    c.ready.ensures.fresh c.ready.ensures.same c.ready.ensures.grows c.ready.ensures.settles c.ready.ensures.fits
+    (listing_of c.args.query.now) c.in_err-ready.field-0.0 c.in_err-ready.ensures.fault
+    c.in_err-ready.ensures.cause)
+
+pub returns-in-Err-clause-read : goal.returns-in-Err-clause-read
+returns-in-Err-clause-read g c =
+    let v = g.K.Keeper in
+    read-none v.tells v.holds v.faults c.args.self.now c.ready.new.self c.args.place.now c.ready.ensures.began c.ready.ensures.told
+    c.ready.ensures.fresh c.ready.ensures.same c.ready.ensures.grows c.ready.ensures.settles c.ready.ensures.fits
+    (listing_of c.args.query.now) conts.NoMemory (λ tells. cc) (λ fails. cc)

@@ -23,7 +23,7 @@ returns-then-is_err-clause-read g c =
       containers = i.containers;
     } in
     rw (sym c.self.view_is) (wants-look v.tells v.holds v.faults w c.args.link c.args.device c.args.place.now times_of (λ got. Timed c.args.place.now got)
-    c.reserve.new.self.items c.reserve.ensures.items)
+    c.reserve.new.self.items c.reserve.ensures.items (rw c.lock-lock.ensures.lock at c.may_stand.ensures))
 
 pub push_reserved-requires : goal.push_reserved-requires
 push_reserved-requires g c = reserved c.reserve.result _ _ (sym c.is_err.ensures.value ∙ c.if-is_err.false) c.reserve.ensures.ok

@@ -1,12 +1,9 @@
 use Rattle.std.proofs.Common.{◌≡◌, [], Option, Some, ◌∙◌, ap, inl}
 use Rattle.sw_hashpath.specs.declared.place.Place.{Place}
-use Rattle.sw_container_steps.specs.Journals.{ContJournal}
+use Rattle.sw_container_steps.specs.Rules.{ContJournal}
 use Rattle.sw_container_db.specs.Calling.{load_at, load_for, raised_by}
-use Rattle.sw_container_db.proofs.Calls.{settled-wants}
-use Rattle.sw_container_db.proofs.cont_dir.ContDir.ready.Goals as goal
-
-pub returns-in-Ok-load-clause-stands : goal.returns-in-Ok-load-clause-stands
-returns-in-Ok-load-clause-stands g c = c.in-Ok-load.ensures.stands (ap (λ (j : ContJournal). j.doubts) c.load.ensures.journal ∙ c.in-Ok.ensures.none)
+use Rattle.sw_container_db.proofs.Calls.{settled-wants, settling-wants}
+use Rattle.sw_container_db.proofs.cont_dir.ContDir.look.Goals as goal
 
 pub returns-in-Err-NoMemory-load-clause-called : goal.returns-in-Err-NoMemory-load-clause-called
 returns-in-Err-NoMemory-load-clause-called g c =
@@ -18,3 +15,10 @@ returns-in-Err-NoMemory-load-clause-called g c =
     c.settle.ensures.told c.settle.ensures.same c.load.new.self (load_at k place) (Some place)
     left called (rw c.in-Err-NoMemory-load.field-0-is at c.in-Err-NoMemory-load.ensures.cause.memory) c.load.ensures.same
     (inl c.in-Err-NoMemory-load.ensures.unloaded)
+
+pub returns-in-Err-NoMemory-clause-called : goal.returns-in-Err-NoMemory-clause-called
+returns-in-Err-NoMemory-clause-called g c =
+    let v = g.K.Keeper in let k = c.args.self.now in let place = c.args.place.now in
+    settling-wants v.tells v.holds v.faults v.calls k c.settle.new.self (load_at k place) (Some place) c.in-Err-NoMemory.ensures.in_doubt
+    c.settle.ensures.calls (rw c.in-Err-NoMemory.field-0-is at c.in-Err-NoMemory.ensures.cause.memory) c.in-Err-NoMemory.ensures.unsettled
+    c.settle.ensures.same c.settle.ensures.loaded
