@@ -22,14 +22,35 @@ returns-then-is_err-clause-read g c =
       lifted = i.lifted;
       containers = i.containers;
     } in
+    let lock = rw (sym c.self.view_is) at c.lock-lock.ensures.lock in
     rw (sym c.self.view_is) (wants-look v.tells v.holds v.faults w c.args.link c.args.device c.args.place.now times_of (λ got. Timed c.args.place.now got)
-    c.reserve.new.self.items c.reserve.ensures.items (rw c.lock-lock.ensures.lock at c.may_stand.ensures))
+    c.reserve.new.self.items c.reserve.ensures.items (rw lock at c.may_stand.ensures))
 
 pub push_reserved-requires : goal.push_reserved-requires
 push_reserved-requires g c = reserved c.reserve.result _ _ (sym c.is_err.ensures.value ∙ c.if-is_err.false) c.reserve.ensures.ok
 
-pub invariant_of-self-3 : goal.invariant_of-self-3
-invariant_of-self-3 g c =
+pub invariant_of-self : goal.invariant_of-self
+invariant_of-self g c =
+    let i = c.self.inside in
+    let w : AllNodes _ = record {
+      devices = i.devices;
+      lock_bits = i.lock_bits;
+      power = i.power;
+      secrets = i.secrets;
+      slots = i.slots.items;
+      lines = i.lines.items;
+      asks = i.asks;
+      lifted = i.lifted;
+      containers = i.containers;
+    } in
+    let whole : i.lifted ≡ None = none-out i.lifted c.args.device i.devices (rw (sym c.self.view_is) at c.requires.device) in (
+      contained w c.self.invariant.0 c.reserve.new.self.items i.containers,
+      roomy i.slots.items i.slots.items i.room i.lines c.reserve.new.self i.spare i.lifted whole refl c.self.invariant.1,
+      c.self.invariant.2,
+    )
+
+pub invariant_of-self-2 : goal.invariant_of-self-2
+invariant_of-self-2 g c =
     let i = c.self.inside in
     let w : AllNodes _ = record {
       devices = i.devices;
@@ -63,8 +84,9 @@ returns-clause-read g c =
       lifted = i.lifted;
       containers = i.containers;
     } in
+    let lock = rw (sym c.self.view_is) at c.lock-lock.ensures.lock in
     let items : c.push_reserved.new.self.items ≡ w.lines ++ c.times-got.result.1 ∷ [] = c.push_reserved.ensures.items ∙ rw c.reserve.ensures.items refl in
     rw (sym c.self.view_is)
     (world-look v.tells v.holds v.faults w c.args.link c.args.device c.args.place.now times_of (λ got. Timed c.args.place.now got) c.times-got.result.0
     c.times-got.new.self c.times-got.result.1 c.push_reserved.new.self.items
-    (rw c.lock-lock.ensures.lock at c.times-got.ensures) items)
+    (rw lock at c.times-got.ensures) items)
