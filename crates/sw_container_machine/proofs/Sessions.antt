@@ -73,7 +73,12 @@ pub cont-run-made : (start : ContMachine) (link : Link) (device : ℕ) (place : 
 cont-run-made start link device place change s answer t alone made has = by made.trail
   where
     line : Line
-    line = record { device = device; link = link; event = AtContainer (cont_events.Changed place change answer) (added_by cont_rules made.step.step); added = [] }
+    line = record {
+      device = device;
+      link = link;
+      event = AtContainer (cont_events.Changed place change answer) (added_by cont_rules made.step.step);
+      added = [];
+    }
 
     by : (t.trail ≡ option_map (λ lines. lines ++ line ∷ []) s.trail) ⊎ ((is_wanting_cont answer ≡ true) × IsSame s t) → HasContRun start t
     by (inl kept) =

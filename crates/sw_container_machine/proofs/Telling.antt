@@ -1,5 +1,6 @@
 -- Where no step failed, the lines tell which rows reached.
-use Rattle.std.proofs.Common.{◌≡◌, ℕ, Bool, true, false, ◌&&◌, nat_eq, List, [], ◌∷◌, ◌++◌, refl, sym, ◌∙◌, ap, append_assoc, if◌then◌else◌, Option, ◌⊎◌, inl, inr, true≢false}
+use Rattle.std.proofs.Common.{◌≡◌, ℕ, Bool, true, false, ◌&&◌, nat_eq, List, [], ◌∷◌, ◌++◌, refl, sym, ◌∙◌, ap, append_assoc}
+use Rattle.std.proofs.Common.{if◌then◌else◌, Option, ◌⊎◌, inl, inr, true≢false}
 use Rattle.std.proofs.lemmas.List.{append-nil}
 use Rattle.sw_container_steps.specs.Entries.{is_same_place}
 use Rattle.sw_container_steps.specs.Rules.{cont_ending}
@@ -44,7 +45,8 @@ module _ (nodes : Nodes) where
       let told : List Row = if has_made (cont_ending answer) then rows_in change else [] in
       let made : made_rows change answer at.made ≡ told =
       rows-made at.read place change answer at.looked at.made
-      (what-was-made at.read at.before.journal place change answer at.made (after.half.seen (cont_lock nodes device place)).journal at.looked at.answered) fine in
+      (what-was-made at.read at.before.journal place change answer at.made (after.half.seen (cont_lock nodes device place)).journal at.looked at.answered)
+      fine in
       step.reached d p ∙ with-rows (nat_eq device d && is_same_place place p) (m.reached d p) (made_rows change answer at.made) told made
   step-tells m device (AtContainer (cont_events.Timed place got) entries) after step fine d p = step.reached d p ∙ sym (append-nil (m.reached d p))
   step-tells m device (AtContainer (cont_events.Informed place got) entries) after step fine d p = step.reached d p ∙ sym (append-nil (m.reached d p))

@@ -117,7 +117,8 @@ module _ (device : ℕ) (place : Place) where
       → IsChanged device place change old answer new → Answered change lines answer new
   answered change lines old answer new is p =
       let comes = came (IsContMade Local device place change) old answer new p in
-      heard device (λ answer. Changed place change answer) answers.NoMemory lines answer (added_by cont_rules comes.1.step.step) (is_wanting_cont answer) old comes.0 new
+      heard device (λ answer. Changed place change answer) answers.NoMemory lines answer (added_by cont_rules comes.1.step.step) (is_wanting_cont answer)
+      old comes.0 new
       (wanted answer) is
       comes.1.trail comes.2
 
@@ -125,14 +126,16 @@ module _ (device : ℕ) (place : Place) where
       → Told lines got new
   told lines old got new is p =
       let comes = came (IsLooked Local device place info_of (λ told. Informed place told)) old got new p in
-      heard device (λ told. Informed place told) (Err answers.NoMemory) lines got comes.1.step.step.follows.entries.0 (is_wanting_look got) old comes.0 new (wanted-look got) is
+      heard device (λ told. Informed place told) (Err answers.NoMemory) lines got comes.1.step.step.follows.entries.0 (is_wanting_look got)
+      old comes.0 new (wanted-look got) is
       comes.1.trail comes.2
 
   shown : (query : Query) (lines : List Line) (old : Sight) (got : Result (List Entry) ContAnswer) (new : Sight) → old.trail ≡ Some lines
       → IsListed device place query old got new → Shown query lines got new
   shown query lines old got new is p =
       let comes = came (IsLooked Local device place (listing_of query) (λ listed. Listed place query listed)) old got new p in
-      heard device (λ listed. Listed place query listed) (Err answers.NoMemory) lines got comes.1.step.step.follows.entries.0 (is_wanting_look got) old comes.0 new
+      heard device (λ listed. Listed place query listed) (Err answers.NoMemory) lines got comes.1.step.step.follows.entries.0 (is_wanting_look got)
+      old comes.0 new
       (wanted-look got) is comes.1.trail comes.2
 
   one-change : (change : ContChange) (x y : ContAnswer) → Changed place change x ≡ Changed place change y → x ≡ y

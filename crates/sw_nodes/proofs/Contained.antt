@@ -132,8 +132,10 @@ made-keeps : (device : ℕ) (place : Place) (change : ContChange) (s : Sight) (a
 made-keeps device place change s answer t made = record {
   nodes = made.moves.nodes;
   alone = made.moves.alone;
-  restarts = restarts-kept _ Local device (cont_events.Changed place change answer) (added_by cont_rules made.step.step) (is_wanting_cont answer) s t made.moves made.trail;
-  runs = λ start r. run-kept-on _ Local device (cont_events.Changed place change answer) (added_by cont_rules made.step.step) (is_wanting_cont answer) s t made.moves made.trail
+  restarts = restarts-kept _ Local device (cont_events.Changed place change answer) (added_by cont_rules made.step.step) (is_wanting_cont answer)
+      s t made.moves made.trail;
+  runs = λ start r. run-kept-on _ Local device (cont_events.Changed place change answer) (added_by cont_rules made.step.step) (is_wanting_cont answer)
+      s t made.moves made.trail
       start r;
   cont_runs = λ start alone r. cont-run-made start Local device place change s answer t alone made r;
 }
@@ -144,7 +146,8 @@ informed-keeps device place s told t read = record {
   nodes = read.moves.nodes;
   alone = read.moves.alone;
   restarts = restarts-kept _ Local device (cont_events.Informed place told) read.step.step.follows.entries.0 (is_wanting_look told) s t read.moves read.trail;
-  runs = λ start r. run-kept-on _ Local device (cont_events.Informed place told) read.step.step.follows.entries.0 (is_wanting_look told) s t read.moves read.trail start r;
+  runs = λ start r. run-kept-on _ Local device (cont_events.Informed place told) read.step.step.follows.entries.0 (is_wanting_look told)
+      s t read.moves read.trail start r;
   cont_runs = λ start alone r. cont-run-informed start Local device place s told t alone read r;
 }
 
@@ -153,8 +156,10 @@ listed-keeps : (device : ℕ) (place : Place) (query : Query) (s : Sight) (liste
 listed-keeps device place query s listed t read = record {
   nodes = read.moves.nodes;
   alone = read.moves.alone;
-  restarts = restarts-kept _ Local device (cont_events.Listed place query listed) read.step.step.follows.entries.0 (is_wanting_look listed) s t read.moves read.trail;
-  runs = λ start r. run-kept-on _ Local device (cont_events.Listed place query listed) read.step.step.follows.entries.0 (is_wanting_look listed) s t read.moves read.trail start
+  restarts = restarts-kept _ Local device (cont_events.Listed place query listed) read.step.step.follows.entries.0 (is_wanting_look listed)
+      s t read.moves read.trail;
+  runs = λ start r. run-kept-on _ Local device (cont_events.Listed place query listed) read.step.step.follows.entries.0 (is_wanting_look listed)
+      s t read.moves read.trail start
       r;
   cont_runs = λ start alone r. cont-run-listed start Local device place query s listed t alone read r;
 }

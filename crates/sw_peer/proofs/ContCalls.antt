@@ -64,7 +64,8 @@ cont-made-step link device place change = record {
   recounts = λ s t x f f' k k' c c' later step. record {
     moves = cont-moves-counted (IsIn device place) s t f f' k k' c c' later step.moves;
     step = step.step;
-    trail = trails-counted s t (record { device = device; link = link; event = AtContainer (Changed place change x) (added_by cont_rules step.step.step); added = [] })
+    trail = trails-counted s t
+        (record { device = device; link = link; event = AtContainer (Changed place change x) (added_by cont_rules step.step.step); added = [] })
         (is_wanting_cont x) f f' k k' c c' later step.trail;
   };
 }

@@ -40,7 +40,8 @@ is_wanting_cont answer = has_wanted (cont_ending answer)
 pub record IsContMade (link : Link) (device : ℕ) (place : Place) (change : ContChange) (old : Sight) (answer : ContAnswer) (new : Sight) : Type 0 where
   pub moves : ContMoves (IsIn device place) old new
   pub step : ChangesAt (cont_lock old.nodes) new.alone device place change old.containers answer new.containers
-  pub trail : Trails old (record { device = device; link = link; event = AtContainer (Changed place change answer) (added_by cont_rules step.step); added = [] })
+  pub trail : Trails old
+      (record { device = device; link = link; event = AtContainer (Changed place change answer) (added_by cont_rules step.step); added = [] })
       (is_wanting_cont answer) new
 
 module _ {A : Type 0} where
