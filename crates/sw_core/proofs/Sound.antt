@@ -23,8 +23,8 @@ none-risen before now none (inr full) = omega (arith, none, full)
 module _ {V : Type 0} (tells : V → Bool) (files : V → Folders) (faults : V → ℕ) where
   pub no-change-fails : NoChangeFails tells files faults
   no-change-fails link device place change w after made =
-      none-risen _ _ (none-counted (slice_get after.containers (place_lock w.lock_bits w.power device place))) (made.step.failed refl)
+      none-risen _ _ (none-counted (slice_get after.containers (place_lock w.lock_bits w.power device place))) (made.step.step.failed refl)
 
   pub no-look-fails : {A : Type 0} → NoLookFails tells files faults A
   no-look-fails link device place reading event w after looked =
-      none-risen _ _ (none-counted (slice_get after.containers (place_lock w.lock_bits w.power device place))) (looked.step.failed refl)
+      none-risen _ _ (none-counted (slice_get after.containers (place_lock w.lock_bits w.power device place))) (looked.step.step.failed refl)
