@@ -10,7 +10,7 @@ use Rattle.sw_object_machine.specs.Machine.{Machine, machine_of}
 use Rattle.sw_core.specs.Worlds.{AllNodes, IsWorld, opened, sight_of}
 use Rattle.sw_core.specs.declared.slot.Slot.TheVariants as slots
 use Rattle.sw_objdir.specs.Directories.{Kept}
-use Rattle.sw_peer.specs.Journals.{Hash}
+use Rattle.sw_object_steps.specs.Journals.{Hash}
 use Rattle.sw_peer.specs.Sights.{Nodes as SightNodes, Sight}
 use Rattle.sw_quiet.specs.Quiet.{quiet_sight_of}
 use Rattle.sw_ring.specs.declared.ring.Ring.{Ring}

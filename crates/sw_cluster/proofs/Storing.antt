@@ -9,7 +9,7 @@ use Rattle.sw_hashpath.specs.HashParts.{partition_of}
 use Rattle.sw_hashdir.specs.Places.{holds}
 use Rattle.sw_objdir.proofs.Looking.{held-told}
 use Rattle.sw_objdir.specs.Directories.{Kept}
-use Rattle.sw_peer.specs.Journals.{Hash}
+use Rattle.sw_object_steps.specs.Journals.{Hash}
 use Rattle.sw_peer.specs.Sights.{Nodes as SightNodes}
 use Rattle.sw_ring.specs.declared.ring.Ring.{Ring}
 use Rattle.sw_state.proofs.StateLaws.{state_of-writes_of}

@@ -9,7 +9,7 @@ use Rattle.sw_session.specs.declared.session.SessionFault.{SessionFault}
 use Rattle.sw_session.specs.declared.session.SessionFault.TheVariants as faults
 use Rattle.sw_container_machine.specs.Machine.{ContMachine, ContRuns, cont_machine_of}
 use Rattle.sw_hashpath.specs.declared.place.Place.{Place}
-use Rattle.sw_peer.specs.Journals.{Hash}
+use Rattle.sw_object_steps.specs.Journals.{Hash}
 use Rattle.sw_ring.specs.declared.ring.Ring.{Ring}
 use Rattle.sw_object_machine.specs.Machine.{Machine, RunLine, came_in, machine_of, state}
 use Rattle.sw_object_machine.specs.Machine as machines

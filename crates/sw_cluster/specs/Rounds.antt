@@ -10,7 +10,7 @@ use Rattle.sw_outside.specs.Counts.{raised}
 use Rattle.sw_outside.specs.Doors.{Accepted, Finished}
 use Rattle.sw_outside.specs.Readings.{TicksEach}
 use Rattle.sw_outside.specs.Taken.{AppendsPart}
-use Rattle.sw_peer.specs.Journals.{Hash}
+use Rattle.sw_object_steps.specs.Journals.{Hash}
 use Rattle.sw_peer.specs.Sights.{Sight}
 use Rattle.sw_quiet.specs.Quiet.{SetsDownQuietly, quiet_sight_of}
 use Rattle.sw_ring.specs.declared.ring.Ring.{Ring}

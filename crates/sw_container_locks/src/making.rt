@@ -11,7 +11,8 @@ use sw_container_steps::{ContAnswer, ContChange, Info};
 use sw_hashpath::Place;
 use sw_keeper::Keeper;
 use sw_listing::{Entries, Query};
-use sw_peer::{Added, ContEvent, Event, KeptLine, Line, Link, Seen};
+use sw_object_steps::Added;
+use sw_peer::{ContEvent, Event, KeptLine, Line, Link, Seen};
 use sw_timestamp::Timestamp;
 
 /// The put time and the delete time of a container.

@@ -4,10 +4,10 @@ use Rattle.std.proofs.Common.{get_or, take}
 use Rattle.std.proofs.lemmas.Grind.{flat_map-append}
 use Rattle.std.proofs.lemmas.List.{map_more, take_more}
 use Rattle.std.specs.List.{flat_map}
-use Rattle.sw_peer.specs.Briefs.{brief_of}
+use Rattle.sw_object_steps.specs.Briefs.{brief_of}
 use Rattle.sw_container_steps.specs.declared.cont_entry.ContEntry.{ContEntry}
 use Rattle.sw_peer.specs.Lines.{entered_in, settled_in}
-use Rattle.sw_peer.specs.declared.entry.Brief.{Brief}
+use Rattle.sw_object_steps.specs.declared.entry.Brief.{Brief}
 use Rattle.sw_peer.specs.declared.line.Line.{Line}
 use Rattle.sw_control.specs.Growth.{Adds}
 use Rattle.sw_control.specs.TrailText.{entry_told, line_told, numbered, own_told, settled_told}

@@ -6,12 +6,12 @@ use Rattle.sw_container_steps.specs.declared.cont_entry.ContEntry.TheVariants.{C
 use Rattle.sw_hashpath.specs.declared.name.Name.{Name}
 use Rattle.sw_hashpath.specs.declared.place.Place.{Place}
 use Rattle.sw_metafile.specs.Escapes.{escape}
-use Rattle.sw_peer.specs.Briefs.{brief_of}
+use Rattle.sw_object_steps.specs.Briefs.{brief_of}
 use Rattle.sw_peer.specs.Lines.{entered_in, settled_in}
-use Rattle.sw_peer.specs.Steps.{is_entered, step_kind, time_in}
-use Rattle.sw_peer.specs.declared.change.StepKind.{StepKind}
-use Rattle.sw_peer.specs.declared.change.StepKind.TheVariants as step_kinds
-use Rattle.sw_peer.specs.declared.entry.Brief.{Brief}
+use Rattle.sw_object_steps.specs.Steps.{is_entered, step_kind, time_in}
+use Rattle.sw_object_steps.specs.declared.change.StepKind.{StepKind}
+use Rattle.sw_object_steps.specs.declared.change.StepKind.TheVariants as step_kinds
+use Rattle.sw_object_steps.specs.declared.entry.Brief.{Brief}
 use Rattle.sw_peer.specs.declared.line.Event.{Event}
 use Rattle.sw_peer.specs.declared.line.Event.TheVariants as events
 use Rattle.sw_peer.specs.declared.line.Line.{Line}

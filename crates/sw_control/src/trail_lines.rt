@@ -1,5 +1,5 @@
 ghost use Rattle.std.specs.Prelude.{◌≡◌, ◌≤◌, ◌∷◌, ◌++◌, [], codes, length, map, IfOk, OnOk, slice_index_or};
-ghost use Rattle.sw_peer.specs.Steps.{is_entered as is_entered_by};
+ghost use Rattle.sw_object_steps.specs.Steps.{is_entered as is_entered_by};
 ghost use Rattle.sw_control.specs.Growth.{Adds};
 ghost use Rattle.sw_control.specs.TrailText.{entry_told, line_told, own_told, path_of, settled_told, step_word, told, trail_text as trail_text_of, write_told};
 ghost use Rattle.sw_control.specs.TrailText.{write_word};
@@ -10,7 +10,8 @@ use sw_container_steps::ContEntry;
 use sw_hashpath::{Name, Place};
 use sw_metafile::push_escaped;
 use sw_outside::{Bytes, BytesList, NoMemory};
-use sw_peer::{Answer, Brief, Event, KeptLine, StepKind};
+use sw_object_steps::{Answer, Brief, StepKind};
+use sw_peer::{Event, KeptLine};
 use sw_timestamp::{Tag, Timestamp};
 
 /// The text of a trail, for these devices: a text line for each doubt that was settled as made, each write that was entered, each entry of a

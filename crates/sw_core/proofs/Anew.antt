@@ -9,8 +9,8 @@ use Rattle.sw_hashdir.specs.Places.{holds}
 use Rattle.sw_hashpath.specs.HashParts.{partition_of}
 use Rattle.sw_objdir.proofs.Looking.{held-told}
 use Rattle.sw_objdir.specs.Directories.{Kept, held, history_of, is_told, started}
-use Rattle.sw_peer.specs.Histories.{History}
-use Rattle.sw_peer.specs.Journals.{Hash}
+use Rattle.sw_object_steps.specs.Flat.{History}
+use Rattle.sw_object_steps.specs.Journals.{Hash}
 use Rattle.sw_peer.specs.Sights.{Restarts}
 use Rattle.sw_volume.specs.Tree.{Folders}
 use Rattle.sw_core.proofs.Placed.{stripe-below}

@@ -16,8 +16,8 @@ use Rattle.sw_container_locks.specs.declared.cont_slot.ContSlot.{ContSlot}
 use Rattle.sw_keeper.specs.MemState.{MemState}
 use Rattle.sw_objdir.specs.Directories.{Kept, history_of, started}
 use Rattle.sw_outside.specs.Faults.{HasRisen}
-use Rattle.sw_peer.specs.Histories.{History}
-use Rattle.sw_peer.specs.Journals.{Hash}
+use Rattle.sw_object_steps.specs.Flat.{History}
+use Rattle.sw_object_steps.specs.Journals.{Hash}
 use Rattle.sw_peer.specs.Sights.{IsListed}
 use Rattle.sw_peer.specs.declared.line.Event.TheVariants.{Listed}
 use Rattle.sw_peer.specs.declared.line.Line.{Line}

@@ -10,20 +10,20 @@ use Rattle.sw_journal.specs.Settling.{SettlesFirst}
 use Rattle.sw_objdir.specs.Calling.{Called, Listed, ReadCalled}
 use Rattle.sw_objdir.specs.Stepping.{AddsBriefs}
 use Rattle.sw_objdir.specs.Directories.{Kept}
-use Rattle.sw_peer.proofs.Hashes.{hash-self}
-use Rattle.sw_peer.specs.Briefs.{brief_of}
-use Rattle.sw_peer.specs.Journals.{Hash, Journal, written}
-use Rattle.sw_peer.specs.Outlines.{is_new_to}
-use Rattle.sw_peer.specs.Steps.{write_of}
-use Rattle.sw_peer.specs.declared.answer.Answer.{Answer}
-use Rattle.sw_peer.specs.declared.answer.Answer.TheVariants as answers
-use Rattle.sw_peer.specs.declared.change.Change.{Change}
-use Rattle.sw_peer.specs.declared.entry.Brief.{Brief}
-use Rattle.sw_peer.specs.declared.entry.ObjEntry.{ObjEntry}
-use Rattle.sw_peer.specs.declared.entry.ObjEntry.TheVariants.{Wrote}
-use Rattle.sw_peer.specs.declared.got.Got.{Got}
-use Rattle.sw_peer.specs.declared.got.Got.TheVariants as gots
-use Rattle.sw_peer.specs.declared.outline.Outline.{Outline}
+use Rattle.sw_object_steps.proofs.Hashes.{hash-self}
+use Rattle.sw_object_steps.specs.Briefs.{brief_of}
+use Rattle.sw_object_steps.specs.Journals.{Hash, Journal, written}
+use Rattle.sw_object_steps.specs.Outlines.{is_new_to}
+use Rattle.sw_object_steps.specs.Steps.{write_of}
+use Rattle.sw_object_steps.specs.declared.answer.Answer.{Answer}
+use Rattle.sw_object_steps.specs.declared.answer.Answer.TheVariants as answers
+use Rattle.sw_object_steps.specs.declared.change.Change.{Change}
+use Rattle.sw_object_steps.specs.declared.entry.Brief.{Brief}
+use Rattle.sw_object_steps.specs.declared.entry.ObjEntry.{ObjEntry}
+use Rattle.sw_object_steps.specs.declared.entry.ObjEntry.TheVariants.{Wrote}
+use Rattle.sw_object_steps.specs.declared.got.Got.{Got}
+use Rattle.sw_object_steps.specs.declared.got.Got.TheVariants as gots
+use Rattle.sw_object_steps.specs.declared.outline.Outline.{Outline}
 use Rattle.sw_state.specs.Writes.{tag_of}
 use Rattle.sw_volume.specs.Tree.{Folders}
 use Rattle.sw_core.specs.Lines.{briefs_in, settled_briefs}

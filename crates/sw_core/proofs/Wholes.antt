@@ -16,7 +16,7 @@ use Rattle.sw_hashpath.specs.declared.secrets.Secrets.{Secrets}
 use Rattle.sw_container_locks.specs.declared.cont_slot.ContSlot.{ContSlot}
 use Rattle.sw_keeper.specs.MemState.{MemState}
 use Rattle.sw_objdir.specs.Directories.{Kept}
-use Rattle.sw_peer.proofs.Hashes.{hash-same}
+use Rattle.sw_object_steps.proofs.Hashes.{hash-same}
 use Rattle.sw_peer.specs.declared.line.Line.{Line}
 use Rattle.sw_core.proofs.Placed.{slice_get-set_other, slice_get-set_same}
 use Rattle.sw_core.specs.Worlds.{AllNodes, HasLimits, HasRoom, IsSlot, IsWorld, is_out, shown}

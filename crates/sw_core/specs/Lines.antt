@@ -4,10 +4,10 @@ use Rattle.std.specs.Option.{option_map, option_to_list}
 use Rattle.sw_core.specs.declared.slot.Slot.{Slot}
 use Rattle.sw_core.specs.declared.slot.Slot.TheVariants as slots
 use Rattle.sw_journal.specs.Entries.{first_in}
-use Rattle.sw_peer.specs.Briefs.{brief_of}
-use Rattle.sw_peer.specs.Journals.{Hash}
-use Rattle.sw_peer.specs.declared.entry.Brief.{Brief}
-use Rattle.sw_peer.specs.declared.entry.ObjEntry.{ObjEntry}
+use Rattle.sw_object_steps.specs.Briefs.{brief_of}
+use Rattle.sw_object_steps.specs.Journals.{Hash}
+use Rattle.sw_object_steps.specs.declared.entry.Brief.{Brief}
+use Rattle.sw_object_steps.specs.declared.entry.ObjEntry.{ObjEntry}
 
 abbrev pub briefs_in : Option ObjEntry → List Brief
 briefs_in entry = option_to_list (option_map brief_of entry)

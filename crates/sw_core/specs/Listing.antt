@@ -7,7 +7,7 @@ use Rattle.sw_core.specs.declared.slot.Slot.TheVariants as slots
 use Rattle.sw_hashdir.specs.Walks.{IsPathBelow}
 use Rattle.sw_objdir.specs.Directories.{Kept, held}
 use Rattle.sw_objdir.specs.Stepping.{OnlyLooks}
-use Rattle.sw_peer.specs.Journals.{Hash}
+use Rattle.sw_object_steps.specs.Journals.{Hash}
 use Rattle.sw_volume.specs.Tree.{Folders, contents}
 use Rattle.sw_volume.specs.Volume.{ListsAll}
 use Rattle.sw_volume.specs.declared.errors.VolumeError.{VolumeError}

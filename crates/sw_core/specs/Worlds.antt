@@ -27,8 +27,8 @@ use Rattle.sw_keeper.specs.MemState.{MemState}
 use Rattle.sw_keeper.specs.Places.{at}
 use Rattle.sw_objdir.specs.Directories.{Kept, held, history_of, is_told, started}
 use Rattle.sw_peer.specs.Carriage.{faithful}
-use Rattle.sw_peer.specs.Histories.{History}
-use Rattle.sw_peer.specs.Journals.{Hash}
+use Rattle.sw_object_steps.specs.Flat.{History}
+use Rattle.sw_object_steps.specs.Journals.{Hash}
 use Rattle.sw_peer.specs.Sights.{Nodes, Sight}
 use Rattle.sw_peer.specs.declared.line.Event.TheVariants.{Restarted}
 use Rattle.sw_peer.specs.declared.line.Line.{Line}

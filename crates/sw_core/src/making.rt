@@ -6,7 +6,7 @@ ghost use Rattle.sw_peer.specs.Lines.{own_by};
 ghost use Rattle.sw_core.specs.Making.{IsChangedIn, IsGotIn, IsPartIn};
 ghost use Rattle.sw_hashdir.specs.Steps.{IsHashed, is_hashed};
 ghost use Rattle.sw_hashpath.specs.HashParts.{suffix_of};
-ghost use Rattle.sw_peer.specs.Parts.{AreHashes, AreLines, IsFile, IsOfPart};
+ghost use Rattle.sw_object_steps.specs.Parts.{AreHashes, AreLines, IsFile, IsOfPart};
 ghost use Rattle.sw_peer.specs.declared.part_read.PartRead.TheVariants.{Files, Hashes, Write};
 ghost use Rattle.sw_journal.specs.Entries.{first_in};
 
@@ -16,10 +16,8 @@ use sw_diskfile::FileName;
 use sw_hashpath::Name;
 use sw_objdir::ObjDir;
 use sw_outside::NoMemory;
-use sw_peer::{
-    Answer, Brief, Change, ChangeSeen, DirFault, Event, Got, KeptLine, Line, Link, PartRead, Seen,
-    Stored,
-};
+use sw_object_steps::{Answer, Brief, Change, ChangeSeen, DirFault, Got, Stored};
+use sw_peer::{Event, KeptLine, Line, Link, PartRead, Seen};
 use sw_suffix::{DirLine, SuffixHash};
 use sw_volume::Volume;
 

@@ -12,8 +12,8 @@ use Rattle.hex.specs.declared.error.FromHexError.{FromHexError}
 use Rattle.std.proofs.lemmas.Nat.{from_be_bytes-to_be_bytes_2}
 use Rattle.hex.proofs.HexLemmas.{decode_sized-encode_lower}
 use Rattle.sw_hashpath.specs.HashParts.{IsDigest, suffix_of}
-use Rattle.sw_peer.specs.Journals.{Hash}
-use Rattle.sw_peer.specs.Parts.{IsOfPart}
+use Rattle.sw_object_steps.specs.Journals.{Hash}
+use Rattle.sw_object_steps.specs.Parts.{IsOfPart}
 use Rattle.sw_hashdir.specs.Partitions.{IsHashName, IsSuffixName, suffix_digits, suffix_dir_text}
 use Rattle.sw_hashdir.specs.Places.{dir_text}
 use Rattle.sw_hashdir.specs.Walks.{IsSegment}

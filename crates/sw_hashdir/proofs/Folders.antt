@@ -13,8 +13,8 @@ use Rattle.std.specs.declared.cmp.Ordering.TheVariants.{Equal, Greater, Less}
 use Rattle.hex.specs.Hex.{encode_lower}
 use Rattle.sw_hashpath.specs.HashParts.{suffix_of}
 use Rattle.sw_volume.specs.Volume.{Contents, IsFolderIn}
-use Rattle.sw_peer.specs.Journals.{Hash}
-use Rattle.sw_peer.specs.Parts.{IsOfPart}
+use Rattle.sw_object_steps.specs.Journals.{Hash}
+use Rattle.sw_object_steps.specs.Parts.{IsOfPart}
 use Rattle.sw_hashdir.specs.Partitions.{HasFolder, part_dir_text, suffix_digits, suffix_dir_text}
 use Rattle.sw_hashdir.specs.Places.{dir_text}
 use Rattle.sw_hashdir.proofs.Digits.{dir-below, hex-segment, suffix-segment}

@@ -13,7 +13,7 @@ use Rattle.std.specs.declared.cmp.Ordering.TheVariants.{Less}
 use Rattle.md5.specs.Md5.{md5}
 use Rattle.sw_suffix.specs.SuffixTexts.{suffix_text}
 use Rattle.sw_hashpath.specs.declared.secrets.Secrets.{Secrets}
-use Rattle.sw_peer.specs.Parts.{AreHashes, md5_in, suffix_md5}
+use Rattle.sw_object_steps.specs.Parts.{AreHashes, md5_in, suffix_md5}
 use Rattle.sw_suffix.specs.SuffixLines.{IsLine}
 use Rattle.sw_suffix.specs.declared.dir_line.DirLine.{DirLine}
 use Rattle.sw_suffix.specs.declared.told.SuffixHash.{SuffixHash}

@@ -21,7 +21,7 @@ use Rattle.sw_diskfile.specs.FileNames.{name_text}
 use Rattle.sw_diskfile.specs.StateFiles.{picked_of}
 use Rattle.sw_hashpath.specs.HashParts.{IsDigest, partition_of, suffix_of}
 use Rattle.sw_hashpath.specs.declared.secrets.Secrets.{Secrets}
-use Rattle.sw_peer.specs.Parts.{AreLines, nothing_picked, picked_in}
+use Rattle.sw_object_steps.specs.Parts.{AreLines, nothing_picked, picked_in}
 use Rattle.sw_suffix.specs.SuffixLines.{IsLine}
 use Rattle.sw_volume.specs.Tree.{Folders, contents}
 use Rattle.sw_volume.specs.Volume.{Contents, IsFolderIn, IsSame, ListsAll}
@@ -35,7 +35,7 @@ use Rattle.sw_diskfile.specs.FileNames.{named}
 use Rattle.sw_diskfile.specs.Picking.{IsGreatestOf, IsPicked, is_base, is_later_meta, is_meta}
 use Rattle.sw_diskfile.specs.declared.file_name.FileName.{FileName}
 use Rattle.sw_diskfile.specs.declared.picking.Picked.{Picked}
-use Rattle.sw_peer.specs.Journals.{Hash}
+use Rattle.sw_object_steps.specs.Journals.{Hash}
 use Rattle.sw_suffix.specs.SuffixLines.{HasKinds}
 use Rattle.sw_suffix.specs.SuffixTexts.{files}
 use Rattle.sw_suffix.specs.declared.dir_line.DirLine.{DirLine}

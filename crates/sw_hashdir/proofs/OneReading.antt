@@ -15,7 +15,7 @@ use Rattle.sw_metafile.specs.declared.file_body.FileBody.{FileBody}
 use Rattle.sw_state.specs.declared.write.Write.{Write}
 use Rattle.sw_timestamp.specs.declared.tag.Tag.{Tag}
 use Rattle.sw_timestamp.specs.declared.tag.Tag.TheVariants.{Put, Del, Meta}
-use Rattle.sw_peer.specs.Journals.{Hash}
+use Rattle.sw_object_steps.specs.Journals.{Hash}
 use Rattle.sw_hashdir.specs.Laws.{OneReading, ReadAsItStands}
 use Rattle.sw_hashdir.specs.Places.{write_with}
 use Rattle.sw_hashdir.specs.Readings.{IsDamage, IsFileOf, hash_said}

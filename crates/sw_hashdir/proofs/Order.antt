@@ -22,7 +22,7 @@ use Rattle.sw_metafile.specs.Reading.{digest_of}
 use Rattle.sw_state.specs.declared.write.Write.{Write}
 use Rattle.sw_timestamp.specs.declared.timestamp.TheConstants.{GREATEST}
 use Rattle.sw_volume.specs.Tree.{Files, Folders, at, contents}
-use Rattle.sw_peer.specs.Journals.{Hash}
+use Rattle.sw_object_steps.specs.Journals.{Hash}
 use Rattle.sw_hashdir.specs.Places.{AllInOrder, dir_text, file_names, hash_in, in_order, is_dir_right, is_place, is_read_as, is_right, is_right_at, is_that}
 use Rattle.sw_hashdir.specs.Places.{placed_at, write_in}
 use Rattle.sw_hashdir.proofs.Standing.{place_is}

@@ -33,20 +33,20 @@ use Rattle.sw_timestamp.specs.declared.tag.Tag.TheVariants as tags
 use Rattle.sw_timestamp.specs.declared.timestamp.TheConstants.{GREATEST}
 use Rattle.sw_volume.specs.Tree.{Folders, contents}
 use Rattle.sw_volume.specs.Volume.{Contents, IsSame, MaySet, Sets}
-use Rattle.sw_peer.specs.Journals.{Hash}
+use Rattle.sw_object_steps.specs.Journals.{Hash}
 use Rattle.sw_hashdir.specs.Places.{AllInOrder, dir_text, holds, is_place, write_in, write_with}
 use Rattle.sw_diskfile.specs.StateFiles.{picked_of}
 use Rattle.sw_cleanup.proofs.Directory.{picks_state}
 use Rattle.sw_diskfile.specs.Picking.{IsPicked}
 use Rattle.sw_diskfile.specs.declared.picking.Picked.{Picked}
-use Rattle.sw_peer.specs.Outlines.{mark_of, outline_of}
+use Rattle.sw_object_steps.specs.Outlines.{mark_of, outline_of}
 use Rattle.std.specs.Option.{option_map}
 use Rattle.sw_state.specs.Metas.{Meta}
 use Rattle.sw_state.specs.declared.base.Base.{Base}
 use Rattle.sw_state.specs.Bases.{base_tag, base_time}
 use Rattle.sw_state.specs.declared.base.Base.TheVariants as bases
 use Rattle.sw_hashdir.specs.Steps.{IsOutlineIn}
-use Rattle.sw_peer.specs.Outlines.{file_mark, picked_outline}
+use Rattle.sw_object_steps.specs.Outlines.{file_mark, picked_outline}
 use Rattle.sw_hashdir.specs.Steps.{Joins, JoinsAll, Keeps, MayJoin, Writes}
 use Rattle.sw_hashpath.specs.BadNames.{bad_name}
 use Rattle.sw_hashdir.proofs.Standing.{all_still, holds_is, holds_stands, others_stand}

@@ -34,12 +34,12 @@ use Rattle.sw_state.proofs.StateOf.{is_state}
 use Rattle.sw_timestamp.specs.declared.tag.Tag.TheVariants as tags
 use Rattle.sw_volume.specs.Tree.{Folders, contents}
 use Rattle.sw_volume.specs.Volume.{Contents}
-use Rattle.sw_peer.specs.Journals.{Hash}
+use Rattle.sw_object_steps.specs.Journals.{Hash}
 use Rattle.sw_outside.specs.Counts.{raised}
-use Rattle.sw_peer.specs.Outlines.{standing_expiry}
-use Rattle.sw_peer.specs.Steps.{got_beside, got_of}
-use Rattle.sw_peer.specs.declared.got.Got.{Got}
-use Rattle.sw_peer.specs.declared.got.Got.TheVariants as gots
+use Rattle.sw_object_steps.specs.Outlines.{standing_expiry}
+use Rattle.sw_object_steps.specs.Steps.{got_beside, got_of}
+use Rattle.sw_object_steps.specs.declared.got.Got.{Got}
+use Rattle.sw_object_steps.specs.declared.got.Got.TheVariants as gots
 use Rattle.sw_hashdir.specs.Places.{holds, write_in, write_with}
 use Rattle.sw_hashdir.specs.Readings.{CallsFor, CallsWith, IsDamage, IsDamaged, IsDamagedAt, IsExpiryIn, IsFileOf, IsFound, IsFoundAt, IsGotIn}
 use Rattle.sw_hashdir.specs.Readings.{IsDamagedOf, IsOutOfOrder, IsPickedIn, IsSecondRead, IsShown, IsShownBeside, IsShownWith, IsWholeAt, OnShown}

@@ -21,7 +21,7 @@ use Rattle.sw_state.proofs.StateOf.{behind, front_or_behind, in_front}
 use Rattle.sw_timestamp.specs.declared.timestamp.TheConstants.{GREATEST}
 use Rattle.sw_volume.specs.Tree.{Files, Folders, at, contents}
 use Rattle.sw_volume.specs.Volume.{Contents}
-use Rattle.sw_peer.specs.Journals.{Hash}
+use Rattle.sw_object_steps.specs.Journals.{Hash}
 use Rattle.sw_hashdir.specs.Places.{AllInOrder, dir_text, file_names, hash_in, holds, is_place, is_that, own_write, read_from, state_in, write_in}
 
 -- ---- the writes of some names

@@ -13,9 +13,9 @@ use Rattle.sw_diskfile.specs.declared.file_name.FileName.{FileName}
 use Rattle.sw_hashpath.specs.Paths.{hash_of}
 use Rattle.sw_hashpath.specs.declared.name.Name.{Name}
 use Rattle.sw_hashpath.specs.declared.secrets.Secrets.{Secrets}
-use Rattle.sw_peer.specs.Journals.{Hash}
-use Rattle.sw_peer.specs.Parts.{Counts, IsFile}
-use Rattle.sw_peer.specs.declared.part_read.Stored.{Stored}
+use Rattle.sw_object_steps.specs.Journals.{Hash}
+use Rattle.sw_object_steps.specs.Parts.{Counts, IsFile}
+use Rattle.sw_object_steps.specs.declared.stored.Stored.{Stored}
 use Rattle.sw_state.proofs.StateOf.{is_state}
 use Rattle.sw_state.specs.Bases.{base_at}
 use Rattle.sw_state.specs.Metas.{Meta, meta_at}

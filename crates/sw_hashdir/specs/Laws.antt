@@ -5,7 +5,7 @@ use Rattle.sw_diskfile.specs.declared.file_name.FileName.{FileName}
 use Rattle.sw_hashpath.specs.declared.decode_error.BadFile.{BadFile}
 use Rattle.sw_hashpath.specs.declared.secrets.Secrets.{Secrets}
 use Rattle.sw_state.specs.declared.write.Write.{Write}
-use Rattle.sw_peer.specs.Journals.{Hash}
+use Rattle.sw_object_steps.specs.Journals.{Hash}
 use Rattle.sw_hashdir.specs.Places.{write_in}
 use Rattle.sw_hashdir.specs.Readings.{IsDamage, IsFileOf}
 

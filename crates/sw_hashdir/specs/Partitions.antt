@@ -7,8 +7,8 @@ use Rattle.sw_diskfile.specs.Picking.{IsPicked}
 use Rattle.sw_diskfile.specs.declared.file_name.FileName.{FileName}
 use Rattle.sw_diskfile.specs.declared.picking.Picked.{Picked}
 use Rattle.sw_hashpath.specs.HashParts.{partition_of, suffix_of}
-use Rattle.sw_peer.specs.Journals.{Hash}
-use Rattle.sw_peer.specs.Parts.{IsOfPart, picked_in, suffix_md5}
+use Rattle.sw_object_steps.specs.Journals.{Hash}
+use Rattle.sw_object_steps.specs.Parts.{IsOfPart, picked_in, suffix_md5}
 use Rattle.sw_suffix.specs.SuffixLines.{AreSuffixLines, HasKinds}
 use Rattle.sw_suffix.specs.SuffixTexts.{files}
 use Rattle.sw_suffix.specs.declared.dir_line.DirLine.{DirLine}

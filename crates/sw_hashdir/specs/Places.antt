@@ -20,7 +20,7 @@ use Rattle.sw_metafile.specs.Reading.{digest_of}
 use Rattle.sw_metafile.specs.declared.file_body.FileBody.{FileBody}
 use Rattle.sw_cleanup.specs.Directories.{IsInOrder}
 use Rattle.sw_diskfile.specs.StateFiles.{name_of}
-use Rattle.sw_peer.specs.Journals.{Hash}
+use Rattle.sw_object_steps.specs.Journals.{Hash}
 
 -- ---- directories
 

@@ -26,11 +26,11 @@ use Rattle.sw_state.specs.declared.write.Write.{Write}
 use Rattle.sw_volume.specs.Tree.{Folders, contents}
 use Rattle.sw_volume.specs.declared.errors.VolumeError.{VolumeError}
 use Rattle.sw_volume.specs.declared.errors.VolumeError.TheVariants as volumes
-use Rattle.sw_peer.specs.Journals.{Hash}
-use Rattle.sw_peer.specs.Outlines.{standing_expiry}
-use Rattle.sw_peer.specs.Steps.{got_beside, got_of}
-use Rattle.sw_peer.specs.declared.got.Got.{Got}
-use Rattle.sw_peer.specs.declared.got.Got.TheVariants as gots
+use Rattle.sw_object_steps.specs.Journals.{Hash}
+use Rattle.sw_object_steps.specs.Outlines.{standing_expiry}
+use Rattle.sw_object_steps.specs.Steps.{got_beside, got_of}
+use Rattle.sw_object_steps.specs.declared.got.Got.{Got}
+use Rattle.sw_object_steps.specs.declared.got.Got.TheVariants as gots
 use Rattle.sw_hashdir.specs.Places.{AllInOrder, dir_text, holds, is_place}
 use Rattle.sw_hashdir.specs.declared.reading.ReadFault.{ReadFault}
 use Rattle.sw_hashdir.specs.declared.showing.Object.{Object}

@@ -3,8 +3,8 @@ use Rattle.std.specs.Prelude.{◌≡◌, ◌≢◌, ℕ, Bool, true, ◌&&◌, i
 use Rattle.std.specs.Str.{bytes_eq}
 use Rattle.sw_diskfile.specs.FileNames.{name_text}
 use Rattle.sw_metafile.specs.Texts.{file_text}
-use Rattle.sw_peer.specs.Outlines.{outline_of}
-use Rattle.sw_peer.specs.declared.outline.Outline.{Outline}
+use Rattle.sw_object_steps.specs.Outlines.{outline_of}
+use Rattle.sw_object_steps.specs.declared.outline.Outline.{Outline}
 use Rattle.sw_cleanup.specs.Cleaning.{Unlinks, obsolete_of}
 use Rattle.sw_cleanup.specs.Directories.{AreNamesIn}
 use Rattle.sw_diskfile.specs.StateFiles.{name_of}
@@ -18,7 +18,7 @@ use Rattle.sw_state.specs.Writes.{tag_of}
 use Rattle.sw_state.specs.declared.write.Write.{Write}
 use Rattle.sw_volume.specs.Tree.{Folders, contents}
 use Rattle.sw_volume.specs.Volume.{Sets}
-use Rattle.sw_peer.specs.Journals.{Hash}
+use Rattle.sw_object_steps.specs.Journals.{Hash}
 use Rattle.sw_hashdir.specs.Places.{AllInOrder, dir_text, holds, is_place}
 
 -- each hash stands for what it stood for

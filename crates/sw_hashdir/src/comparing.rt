@@ -3,7 +3,7 @@ ghost use Rattle.sw_hashdir.specs.Partitions.{AddsHash, AddsLine, AreListedLines
 ghost use Rattle.sw_hashdir.specs.Places.{dir_text, holds, in_order};
 ghost use Rattle.sw_hashpath.specs.declared.secrets.Secrets.{Secrets};
 ghost use Rattle.sw_outside.specs.Counts.{raised};
-ghost use Rattle.sw_peer.specs.Parts.{AreHashes, AreLines};
+ghost use Rattle.sw_object_steps.specs.Parts.{AreHashes, AreLines};
 ghost use Rattle.sw_volume.specs.Tree.{contents};
 ghost use Rattle.sw_volume.specs.Volume.{HasCause, IsSame, raised_by};
 

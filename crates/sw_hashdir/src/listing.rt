@@ -6,12 +6,12 @@ ghost use Rattle.sw_outside.specs.Counts.{raised};
 ghost use Rattle.sw_volume.specs.Tree.{contents};
 ghost use Rattle.sw_volume.specs.Volume.{HasCause, IsSame};
 ghost use Rattle.sw_hashdir.specs.Steps.{IsOutlineIn};
-ghost use Rattle.sw_peer.specs.Outlines.{picked_outline};
+ghost use Rattle.sw_object_steps.specs.Outlines.{picked_outline};
 
 use std::alloc::Global;
 use sw_cleanup::names_of_writes;
 use sw_diskfile::{FileName, Picked, pick};
-use sw_peer::Outline;
+use sw_object_steps::Outline;
 use sw_volume::{Volume, VolumeError};
 
 /// What a listing tells of a hash: the files of writes in byte order of their names, those that make the object, and its outline.

@@ -16,7 +16,7 @@ use sw_diskfile::{FileName, NAME_ROOM, Picked, write_name};
 use sw_hashpath::{Name, Secrets, hash_path};
 use sw_metafile::{BadFile, DecodeError, FileBody, decode};
 use sw_outside::Bytes;
-use sw_peer::Stored;
+use sw_object_steps::Stored;
 use sw_state::Write;
 use sw_timestamp::Tag;
 use sw_volume::{Volume, VolumeError};

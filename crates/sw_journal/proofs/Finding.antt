@@ -3,13 +3,13 @@ use Rattle.std.proofs.Common.{◌≡◌, ℕ, ◌+◌, ◌<◌, zero, suc, Bool,
 use Rattle.std.proofs.Common.{subst, arith, if◌then◌else◌}
 use Rattle.std.specs.Str.{bytes_eq}
 use Rattle.sw_state.specs.declared.write.Write.{Write}
-use Rattle.sw_peer.specs.Journals.{Hash, written}
-use Rattle.sw_peer.specs.declared.entry.ObjEntry.{ObjEntry}
-use Rattle.sw_peer.specs.declared.entry.ObjEntry.TheVariants.{Wrote}
+use Rattle.sw_object_steps.specs.Journals.{Hash, written}
+use Rattle.sw_object_steps.specs.declared.entry.ObjEntry.{ObjEntry}
+use Rattle.sw_object_steps.specs.declared.entry.ObjEntry.TheVariants.{Wrote}
 use Rattle.sw_hashpath.specs.declared.name.Name.{Name}
-use Rattle.sw_peer.specs.Journals.{Journal}
-use Rattle.sw_peer.specs.Outlines.{is_new_to}
-use Rattle.sw_peer.specs.declared.outline.Outline.{Outline}
+use Rattle.sw_object_steps.specs.Journals.{Journal}
+use Rattle.sw_object_steps.specs.Outlines.{is_new_to}
+use Rattle.sw_object_steps.specs.declared.outline.Outline.{Outline}
 use Rattle.sw_state.specs.Writes.{tag_of}
 use Rattle.sw_journal.specs.Entries.{IsFirstOf, entry_hash, is_new_entry}
 use Rattle.sw_journal.specs.Settling.{SettlesOne, settled_by}

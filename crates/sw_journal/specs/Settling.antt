@@ -1,11 +1,11 @@
 -- How a doubt is settled by a listing of its directory. (This project's own.)
 use Rattle.std.specs.Prelude.{◌≡◌, List, [], ◌∷◌, ◌++◌, ◌⊎◌, if◌then◌else◌}
 use Rattle.sw_hashpath.specs.declared.name.Name.{Name}
-use Rattle.sw_peer.specs.Journals.{Hash, Journal, written}
-use Rattle.sw_peer.specs.Outlines.{is_new_to}
-use Rattle.sw_peer.specs.declared.entry.ObjEntry.{ObjEntry}
-use Rattle.sw_peer.specs.declared.entry.ObjEntry.TheVariants.{Wrote}
-use Rattle.sw_peer.specs.declared.outline.Outline.{Outline}
+use Rattle.sw_object_steps.specs.Journals.{Hash, Journal, written}
+use Rattle.sw_object_steps.specs.Outlines.{is_new_to}
+use Rattle.sw_object_steps.specs.declared.entry.ObjEntry.{ObjEntry}
+use Rattle.sw_object_steps.specs.declared.entry.ObjEntry.TheVariants.{Wrote}
+use Rattle.sw_object_steps.specs.declared.outline.Outline.{Outline}
 use Rattle.sw_state.specs.Writes.{tag_of}
 use Rattle.sw_state.specs.declared.write.Write.{Write}
 

@@ -2,17 +2,18 @@ ghost use Rattle.std.specs.Prelude.{◌≡◌, ◌<◌, ◌≤◌, ◌+◌, ◌^
 ghost use Rattle.std.specs.Option.{option_copied};
 ghost use Rattle.sw_journal.specs.Entries.{begun, entry_size, first_in, with_last_entered, with_new_doubt, without_last_doubt};
 ghost use Rattle.sw_journal.specs.Settling.{SettlesFirst};
-ghost use Rattle.sw_peer.specs.Journals.{bodies};
+ghost use Rattle.sw_object_steps.specs.Journals.{bodies};
 ghost use Rattle.sw_hashpath.specs.declared.name.Name.{Name};
-ghost use Rattle.sw_peer.specs.declared.entry.ObjEntry.{ObjEntry};
-ghost use Rattle.sw_peer.specs.declared.entry.ObjEntry.TheVariants.{Wrote};
+ghost use Rattle.sw_object_steps.specs.declared.entry.ObjEntry.{ObjEntry};
+ghost use Rattle.sw_object_steps.specs.declared.entry.ObjEntry.TheVariants.{Wrote};
 ghost use Rattle.sw_state.specs.declared.write.Write.{Write};
 
 use crate::entries::{first_of, is_new, is_of, seen_in, size_in, size_of};
 use std::alloc::Global;
 use std::marker::Model;
 use sw_outside::NoMemory;
-use sw_peer::{Added, ObjEntry, Outline, Seen};
+use sw_object_steps::{Added, ObjEntry, Outline};
+use sw_history::Seen;
 use sw_state::Write;
 
 /// What was done since a lock began: an entry for each write that was made, and a doubt for each that may have been.
@@ -32,7 +33,7 @@ pub struct Journal {
 
 impl Model for Journal {
     ghost use Rattle.sw_journal.specs.Entries.{IsCounted};
-    ghost use Rattle.sw_peer.specs.Journals.{Journal};
+    ghost use Rattle.sw_object_steps.specs.Journals.{Journal};
 
     ghost Value = { Journal };
 

@@ -1,7 +1,7 @@
 ghost use Rattle.std.specs.Prelude.{◌≡◌, ◌<◌, ◌≤◌, ◌^◌, true, ◌⊎◌};
 ghost use Rattle.sw_outside.specs.Faults.{HasRisen};
 ghost use Rattle.sw_outside.specs.Counts.{raised};
-ghost use Rattle.sw_peer.specs.Parts.{IsOfPart};
+ghost use Rattle.sw_object_steps.specs.Parts.{IsOfPart};
 ghost use Rattle.sw_peer.specs.Sights.{Calls, IsFilesRead, IsHashesRead, IsMade, IsRead, IsWriteRead, asked};
 ghost use Rattle.sw_lossy.specs.Losses.{Happens, IsUncopied, around, asked_inside, fate_of, faults_after, is_loss, messages_after};
 
@@ -12,9 +12,8 @@ use std::alloc::Global;
 use sw_diskfile::FileName;
 use sw_hashpath::Name;
 use sw_outside::NoMemory;
-use sw_peer::{
-    Answer, Change, DirFault, Door, FaithfulDoor, Got, Link, Lost, ObjectDoor, ReplicaDoor, Stored,
-};
+use sw_object_steps::{Answer, Change, DirFault, Got, Stored};
+use sw_peer::{Door, FaithfulDoor, Link, Lost, ObjectDoor, ReplicaDoor};
 use sw_suffix::{DirLine, SuffixHash};
 
 /// A door around another, which loses and repeats messages. A step that is said at the device itself goes through.

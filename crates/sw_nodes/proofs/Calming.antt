@@ -9,13 +9,13 @@ use Rattle.sw_hashpath.specs.declared.name.Name.{Name}
 use Rattle.sw_outside.specs.declared.errors.NoMemory.{NoMemory}
 use Rattle.sw_pass.specs.Outcomes.{asking, nothing_yet}
 use Rattle.sw_pass.specs.declared.outcome.Outcome.{Outcome}
-use Rattle.sw_peer.specs.Journals.{Hash}
-use Rattle.sw_peer.specs.Parts.{picked_in}
+use Rattle.sw_object_steps.specs.Journals.{Hash}
+use Rattle.sw_object_steps.specs.Parts.{picked_in}
 use Rattle.sw_peer.specs.Sights.{Calls, Comes, IsFilesRead, IsHashesRead, IsMade, IsPartRead, IsRead, IsWriteRead, Nodes, Sight, Trails}
-use Rattle.sw_peer.specs.declared.answer.Answer.{Answer}
-use Rattle.sw_peer.specs.declared.change.Change.{Change}
-use Rattle.sw_peer.specs.declared.dir_fault.DirFault.{DirFault}
-use Rattle.sw_peer.specs.declared.got.Got.{Got}
+use Rattle.sw_object_steps.specs.declared.answer.Answer.{Answer}
+use Rattle.sw_object_steps.specs.declared.change.Change.{Change}
+use Rattle.sw_object_steps.specs.declared.dir_fault.DirFault.{DirFault}
+use Rattle.sw_object_steps.specs.declared.got.Got.{Got}
 use Rattle.sw_peer.specs.declared.line.Event.{Event}
 use Rattle.sw_peer.specs.declared.line.Event.TheVariants.{AtContainer, Changed, Listed, Read, ReadPart, Restarted}
 use Rattle.sw_peer.specs.declared.line.Line.{Line}
@@ -23,7 +23,7 @@ use Rattle.sw_peer.specs.declared.link.Link.{Link}
 use Rattle.sw_peer.specs.declared.link.Link.TheVariants.{Local, Sent}
 use Rattle.sw_peer.specs.declared.link.Lost.{Lost}
 use Rattle.sw_peer.specs.declared.part_read.PartRead.{PartRead}
-use Rattle.sw_peer.specs.declared.part_read.Stored.{Stored}
+use Rattle.sw_object_steps.specs.declared.stored.Stored.{Stored}
 use Rattle.sw_replicator.specs.Pushing.{InTurn, IsAskedNext, IsBeside, IsCompared, IsFilePushed, IsLinePushed, IsOursPushed, IsPassedOn, IsPush, IsRun}
 use Rattle.sw_replicator.specs.Pushing.{IsSuffixPushed, differing}
 use Rattle.sw_state.specs.declared.state.State.{State}

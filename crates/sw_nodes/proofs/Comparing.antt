@@ -11,10 +11,10 @@ use Rattle.sw_hashpath.specs.HashParts.{suffix_of}
 use Rattle.sw_message.specs.declared.request.Request.{Request}
 use Rattle.sw_message.specs.declared.response.Response.{Response}
 use Rattle.sw_peer.proofs.Calls.{calls-moves, files-step, hashes-step}
-use Rattle.sw_peer.specs.Journals.{Hash}
-use Rattle.sw_peer.specs.Parts.{IsOfPart}
+use Rattle.sw_object_steps.specs.Journals.{Hash}
+use Rattle.sw_object_steps.specs.Parts.{IsOfPart}
 use Rattle.sw_peer.specs.Sights.{Calls, IsFilesRead, IsHashesRead, Nodes, PartMoves, Sight}
-use Rattle.sw_peer.specs.declared.dir_fault.DirFault.{DirFault}
+use Rattle.sw_object_steps.specs.declared.dir_fault.DirFault.{DirFault}
 use Rattle.sw_peer.specs.declared.link.Link.TheVariants.{Local}
 use Rattle.sw_replica_server.specs.Asking.{AsksOf, IsAskedBy}
 use Rattle.sw_replica_server.specs.Serving.{AreFilesRead, AreRead, IsAnswered, IsFilesLeft, IsGivenUp, IsLeft, IsServed, IsStopped}

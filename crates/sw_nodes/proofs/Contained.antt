@@ -32,11 +32,11 @@ use Rattle.sw_message.specs.declared.request.Request.{Request}
 use Rattle.sw_message.specs.declared.response.Response.{Response}
 use Rattle.sw_object_server.specs.Replies.{bare}
 use Rattle.sw_peer.specs.ContSights.{ContMoves, IsContMade, IsLooked, is_wanting_cont, is_wanting_look}
-use Rattle.sw_peer.specs.Journals.{Hash}
+use Rattle.sw_object_steps.specs.Journals.{Hash}
 use Rattle.sw_peer.specs.Sights.{Calls, Comes, IsSame, Nodes, Sight, Trails}
 use Rattle.sw_peer.specs.declared.cont_event.ContEvent.{ContEvent}
 use Rattle.sw_peer.specs.declared.cont_event.ContEvent.TheVariants as cont_events
-use Rattle.sw_peer.specs.declared.entry.ObjEntry.{ObjEntry}
+use Rattle.sw_object_steps.specs.declared.entry.ObjEntry.{ObjEntry}
 use Rattle.sw_peer.specs.declared.line.Event.TheVariants.{AtContainer}
 use Rattle.sw_peer.specs.declared.line.Line.{Line}
 use Rattle.sw_peer.specs.declared.link.Link.{Link}

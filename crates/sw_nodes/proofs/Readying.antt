@@ -2,8 +2,8 @@
 use Rattle.std.proofs.Common.{◌≡◌, ℕ, ◌^◌, ◌<◌, ◌≤◌, Bool, length, Option, None, sym, ◌∙◌, ap, subst, arith}
 use Rattle.sw_object_machine.proofs.Witness.{hash_with, of-part}
 use Rattle.sw_core.specs.Worlds.{AllNodes, nodes_of, shown}
-use Rattle.sw_peer.specs.Journals.{Hash}
-use Rattle.sw_peer.specs.Parts.{IsOfPart}
+use Rattle.sw_object_steps.specs.Journals.{Hash}
+use Rattle.sw_object_steps.specs.Parts.{IsOfPart}
 use Rattle.sw_peer.specs.Sights.{Nodes}
 use Rattle.sw_ring.specs.declared.ring.Ring.{Ring}
 use Rattle.sw_hashdir.proofs.Stored.{hashed-is}

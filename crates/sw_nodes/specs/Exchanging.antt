@@ -9,8 +9,8 @@ use Rattle.sw_core.specs.Worlds.{AllNodes, sight_of}
 use Rattle.sw_message.specs.declared.request.Request.{Request}
 use Rattle.sw_message.specs.declared.response.Response.{Response}
 use Rattle.sw_pass.specs.declared.outcome.Outcome.{Outcome}
-use Rattle.sw_peer.specs.Journals.{Hash}
-use Rattle.sw_peer.specs.Parts.{IsOfPart}
+use Rattle.sw_object_steps.specs.Journals.{Hash}
+use Rattle.sw_object_steps.specs.Parts.{IsOfPart}
 use Rattle.sw_peer.specs.Sights.{Sight}
 use Rattle.sw_replicator.specs.Laws.{BothTell, CollidesOnce, HoldSame}
 use Rattle.sw_ring.specs.declared.ring.Ring.{Ring}

@@ -9,14 +9,14 @@ use Rattle.sw_history.proofs.Growing.{grows-refl}
 use Rattle.sw_peer.proofs.Calls.{calls-once, faithful-once, made-step, moves-refl, read-step}
 use Rattle.sw_peer.proofs.ContCalls.{cont-made-step, cont-wanting, look-step, look-wanting, none-alone}
 use Rattle.sw_peer.specs.ContSights.{ContMoves, IsContMade, IsIn, IsLooked}
-use Rattle.sw_peer.specs.Histories.{History}
-use Rattle.sw_peer.specs.Journals.{Answers}
+use Rattle.sw_object_steps.specs.Flat.{History}
+use Rattle.sw_object_steps.specs.Flat.{Answers}
 use Rattle.sw_peer.specs.Sights.{Calls, IsAt, IsMade, IsRead, Moves}
-use Rattle.sw_peer.specs.declared.answer.Answer.{Answer}
-use Rattle.sw_peer.specs.declared.answer.Answer.TheVariants as answers
-use Rattle.sw_peer.specs.declared.change.Change.{Change}
+use Rattle.sw_object_steps.specs.declared.answer.Answer.{Answer}
+use Rattle.sw_object_steps.specs.declared.answer.Answer.TheVariants as answers
+use Rattle.sw_object_steps.specs.declared.change.Change.{Change}
 use Rattle.sw_peer.specs.declared.cont_event.ContEvent.{ContEvent}
-use Rattle.sw_peer.specs.declared.got.Got.TheVariants as gots
+use Rattle.sw_object_steps.specs.declared.got.Got.TheVariants as gots
 use Rattle.sw_peer.specs.declared.link.Link.{Link}
 use Rattle.sw_keeper.specs.declared.tables.Tables.{Tables}
 use Rattle.sw_state.specs.States.{state_of}

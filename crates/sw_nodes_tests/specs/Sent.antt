@@ -1,12 +1,12 @@
 -- What is known of a device after a write was sent to it. (This project's own.)
 use Rattle.std.specs.Prelude.{◌≡◌, ℕ, Bool, true, false, Result, Ok, Err}
 use Rattle.sw_hashpath.specs.declared.name.Name.{Name}
-use Rattle.sw_peer.specs.Histories.{stands}
-use Rattle.sw_peer.specs.Journals.{Hash}
+use Rattle.sw_object_steps.specs.Flat.{stands}
+use Rattle.sw_object_steps.specs.Journals.{Hash}
 use Rattle.sw_peer.specs.Sights.{Calls, IsMade, Sight}
-use Rattle.sw_peer.specs.declared.answer.Answer.{Answer}
-use Rattle.sw_peer.specs.declared.answer.Answer.TheVariants as answers
-use Rattle.sw_peer.specs.declared.change.Change.TheVariants.{Receive}
+use Rattle.sw_object_steps.specs.declared.answer.Answer.{Answer}
+use Rattle.sw_object_steps.specs.declared.answer.Answer.TheVariants as answers
+use Rattle.sw_object_steps.specs.declared.change.Change.TheVariants.{Receive}
 use Rattle.sw_peer.specs.declared.link.Link.TheVariants.{Sent}
 use Rattle.sw_peer.specs.declared.link.Lost.{Lost}
 use Rattle.sw_state.specs.States.{joined}

@@ -3,8 +3,8 @@ use Rattle.std.specs.Prelude.{Bool, true, false, [], None, refl}
 use Rattle.sw_peer.specs.Carriage.{faithful}
 use Rattle.sw_history.specs.Halves.{HistoryOf}
 use Rattle.sw_peer.specs.Sights.{Nodes, Sight}
-use Rattle.sw_peer.specs.declared.answer.Answer.{Answer}
-use Rattle.sw_peer.specs.declared.answer.Answer.TheVariants as answers
+use Rattle.sw_object_steps.specs.declared.answer.Answer.{Answer}
+use Rattle.sw_object_steps.specs.declared.answer.Answer.TheVariants as answers
 use Rattle.sw_state.specs.States.{state_of}
 
 -- whether the answer says that the step changed nothing

@@ -5,7 +5,7 @@ use std::alloc::Global;
 use std::test::Fail;
 use sw_hashpath::{Name, Secrets};
 use sw_outside::{Bytes, FailingCall, NoMemory, is_utf8};
-use sw_peer::{Answer, Change, Got};
+use sw_object_steps::{Answer, Change, Got};
 use sw_state::{Content, Head, HeadList, Heads, Kind, Write};
 use sw_timestamp::Timestamp;
 

@@ -13,7 +13,8 @@ use sw_hashpath::{Name, Place, Secrets};
 use sw_listing::Query;
 use sw_lossy::{Acts, Lossy};
 use sw_outside::Bytes;
-use sw_peer::{Answer, Change, ContainerDoor, Link, ObjectDoor};
+use sw_object_steps::{Answer, Change};
+use sw_peer::{ContainerDoor, Link, ObjectDoor};
 use sw_state::{Kind, Write};
 use sw_timestamp::Timestamp;
 

@@ -3,7 +3,7 @@ use std::alloc::Global;
 use std::test::Fail;
 use sw_hashpath::BadFile;
 use sw_outside::NoMemory;
-use sw_peer::{Got, ObjEntry};
+use sw_object_steps::{Got, ObjEntry};
 use sw_state::{Kind, Write};
 use sw_timestamp::Timestamp;
 

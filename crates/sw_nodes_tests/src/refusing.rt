@@ -5,7 +5,8 @@ use std::alloc::Global;
 use sw_container_steps::{ContAnswer, ContChange, Info};
 use sw_hashpath::{Name, Place};
 use sw_listing::{Entries, Query};
-use sw_peer::{Answer, Change, ContainerDoor, Door, FaithfulDoor, Got, Link, Lost, ObjectDoor};
+use sw_object_steps::{Answer, Change, Got};
+use sw_peer::{ContainerDoor, Door, FaithfulDoor, Link, Lost, ObjectDoor};
 use sw_timestamp::Timestamp;
 
 /// A door that answers each change of an object in the same way, which changes nothing, and finds no object. At a container each step wants memory.

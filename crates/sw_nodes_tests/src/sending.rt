@@ -4,7 +4,8 @@ ghost use Rattle.sw_nodes_tests.specs.Sent.{Acknowledged, HeldBy, IsSent, acknow
 
 use std::alloc::Global;
 use sw_hashpath::Name;
-use sw_peer::{Answer, Change, Link, Lost, ObjectDoor};
+use sw_object_steps::{Answer, Change};
+use sw_peer::{Link, Lost, ObjectDoor};
 use sw_state::Write;
 
 /// Sends a write to a device in one message, and answers whether the device is known to have it.

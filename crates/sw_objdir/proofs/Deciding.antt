@@ -14,7 +14,7 @@ use Rattle.sw_diskfile.specs.declared.picking.Picked.{Picked}
 use Rattle.sw_hashdir.specs.Places.{dir_text}
 use Rattle.sw_hashdir.specs.Readings.{IsSecondRead, expiry_file}
 use Rattle.sw_hashdir.specs.Steps.{Writes}
-use Rattle.sw_peer.specs.Outlines.{picked_outline}
+use Rattle.sw_object_steps.specs.Outlines.{picked_outline}
 use Rattle.sw_hashpath.specs.declared.name.Name.{Name}
 use Rattle.sw_metafile.specs.Texts.{file_text}
 use Rattle.sw_journal.specs.Settling.{SettlesFirst}
@@ -29,15 +29,16 @@ use Rattle.sw_objdir.specs.Directories.{IsDir, Kept, held, history_of, is_told, 
 use Rattle.sw_objdir.specs.Stepping.{IsSeenAs, IsStep, LooksAt}
 use Rattle.sw_outside.specs.Counts.{raised}
 use Rattle.sw_outside.specs.Faults.{HasRisen}
-use Rattle.sw_peer.proofs.Answering.{is_refusal}
-use Rattle.sw_peer.specs.Journals.{Hash, Journal, bodies, body_size, has_room, with_doubt, with_entry, written}
-use Rattle.sw_peer.specs.Outlines.{has_object, outline_of, standing_expiry}
-use Rattle.sw_peer.specs.Steps.{asks_expiry, deletion_answer, is_entered, made_answer, refusal_by, write_of}
-use Rattle.sw_peer.specs.declared.answer.Answer.{Answer}
-use Rattle.sw_peer.specs.declared.answer.Answer.TheVariants as answers
-use Rattle.sw_peer.specs.declared.change.Change.{Change}
-use Rattle.sw_peer.specs.declared.change.Change.TheVariants.{Put, Post, Delete, Receive}
-use Rattle.sw_peer.specs.declared.outline.Outline.{Outline}
+use Rattle.sw_object_steps.proofs.Answering.{is_refusal}
+use Rattle.sw_object_steps.specs.Journals.{Hash, Journal, bodies, body_size, has_room, written}
+use Rattle.sw_object_steps.specs.Flat.{with_doubt, with_entry}
+use Rattle.sw_object_steps.specs.Outlines.{has_object, outline_of, standing_expiry}
+use Rattle.sw_object_steps.specs.Steps.{asks_expiry, deletion_answer, is_entered, made_answer, refusal_by, write_of}
+use Rattle.sw_object_steps.specs.declared.answer.Answer.{Answer}
+use Rattle.sw_object_steps.specs.declared.answer.Answer.TheVariants as answers
+use Rattle.sw_object_steps.specs.declared.change.Change.{Change}
+use Rattle.sw_object_steps.specs.declared.change.Change.TheVariants.{Put, Post, Delete, Receive}
+use Rattle.sw_object_steps.specs.declared.outline.Outline.{Outline}
 use Rattle.sw_state.specs.declared.state.State.{State}
 use Rattle.sw_state.specs.declared.write.Write.{Write}
 use Rattle.sw_step.specs.Rules.{CanStand, Ending, Fails, Overflows, Refuses}

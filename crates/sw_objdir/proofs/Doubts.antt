@@ -13,14 +13,14 @@ use Rattle.sw_objdir.specs.Comparing.{HasDoubt, Looks, SettlesDoubt, is_in}
 use Rattle.sw_objdir.specs.Directories.{Kept}
 use Rattle.sw_objdir.specs.Stepping.{AddsBriefs}
 use Rattle.sw_objdir.specs.declared.comparing.Scope.{Scope}
-use Rattle.sw_peer.proofs.Hashes.{hash-other, hash-self}
-use Rattle.sw_peer.specs.Briefs.{brief_of}
-use Rattle.sw_peer.specs.Journals.{Hash, Journal, written}
-use Rattle.sw_peer.specs.Outlines.{is_new_to}
-use Rattle.sw_peer.specs.declared.entry.Brief.{Brief}
-use Rattle.sw_peer.specs.declared.entry.ObjEntry.{ObjEntry}
-use Rattle.sw_peer.specs.declared.entry.ObjEntry.TheVariants.{Wrote}
-use Rattle.sw_peer.specs.declared.outline.Outline.{Outline}
+use Rattle.sw_object_steps.proofs.Hashes.{hash-other, hash-self}
+use Rattle.sw_object_steps.specs.Briefs.{brief_of}
+use Rattle.sw_object_steps.specs.Journals.{Hash, Journal, written}
+use Rattle.sw_object_steps.specs.Outlines.{is_new_to}
+use Rattle.sw_object_steps.specs.declared.entry.Brief.{Brief}
+use Rattle.sw_object_steps.specs.declared.entry.ObjEntry.{ObjEntry}
+use Rattle.sw_object_steps.specs.declared.entry.ObjEntry.TheVariants.{Wrote}
+use Rattle.sw_object_steps.specs.declared.outline.Outline.{Outline}
 use Rattle.sw_state.specs.Writes.{tag_of}
 use Rattle.sw_state.specs.declared.write.Write.{Write}
 use Rattle.sw_volume.proofs.Counting.{raised_by-plus}

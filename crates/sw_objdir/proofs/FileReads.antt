@@ -24,13 +24,14 @@ use Rattle.sw_objdir.specs.Stepping.{IsPartStep, LooksAt, ReadsHashes, SameFiles
 use Rattle.sw_objdir.specs.declared.comparing.Scope.TheVariants as scopes
 use Rattle.sw_outside.specs.Counts.{raised}
 use Rattle.sw_outside.specs.Faults.{HasRisen}
-use Rattle.sw_peer.proofs.Hashes.{hash-same, hash-self}
-use Rattle.sw_peer.specs.Journals.{Hash, Journal, written}
-use Rattle.sw_peer.specs.Parts.{IsFile, IsOfPart, ShowsPart}
-use Rattle.sw_peer.specs.declared.dir_fault.DirFault.{DirFault}
-use Rattle.sw_peer.specs.declared.dir_fault.DirFault.TheVariants as faulted
-use Rattle.sw_peer.specs.declared.entry.ObjEntry.{ObjEntry}
-use Rattle.sw_peer.specs.declared.part_read.Stored.{Stored}
+use Rattle.sw_object_steps.proofs.Hashes.{hash-same, hash-self}
+use Rattle.sw_object_steps.specs.Journals.{Hash, Journal, written}
+use Rattle.sw_object_steps.specs.Parts.{IsFile, IsOfPart}
+use Rattle.sw_object_steps.specs.Flat.{ShowsPart}
+use Rattle.sw_object_steps.specs.declared.dir_fault.DirFault.{DirFault}
+use Rattle.sw_object_steps.specs.declared.dir_fault.DirFault.TheVariants as faulted
+use Rattle.sw_object_steps.specs.declared.entry.ObjEntry.{ObjEntry}
+use Rattle.sw_object_steps.specs.declared.stored.Stored.{Stored}
 use Rattle.sw_state.specs.declared.write.Write.{Write}
 use Rattle.sw_volume.specs.Tree.{Folders, contents}
 use Rattle.sw_volume.specs.declared.errors.VolumeError.{VolumeError}

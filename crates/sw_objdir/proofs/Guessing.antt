@@ -8,14 +8,14 @@ use Rattle.sw_diskfile.specs.declared.picking.Picked.{Picked}
 use Rattle.sw_hashdir.specs.Readings.{IsSecondOf, expiry_file, second_of}
 use Rattle.sw_objdir.specs.Directories.{Kept, held, is_told}
 use Rattle.sw_objdir.specs.Stepping.{IsSeenAs}
-use Rattle.sw_peer.proofs.Answering.{expiry-unasked}
-use Rattle.sw_peer.specs.Journals.{Hash}
-use Rattle.sw_peer.specs.Outlines.{file_mark, mark_of, outline_of, picked_outline, standing_expiry}
-use Rattle.sw_peer.specs.Steps.{asks_expiry, refusal_by, refusal_of}
-use Rattle.sw_peer.specs.declared.answer.Answer.{Answer}
-use Rattle.sw_peer.specs.declared.change.Change.{Change}
-use Rattle.sw_peer.specs.declared.outline.Mark.TheVariants.{Object, Tombstone}
-use Rattle.sw_peer.specs.declared.outline.Outline.{Outline}
+use Rattle.sw_object_steps.proofs.Answering.{expiry-unasked}
+use Rattle.sw_object_steps.specs.Journals.{Hash}
+use Rattle.sw_object_steps.specs.Outlines.{file_mark, mark_of, outline_of, picked_outline, standing_expiry}
+use Rattle.sw_object_steps.specs.Steps.{asks_expiry, refusal_by, refusal_of}
+use Rattle.sw_object_steps.specs.declared.answer.Answer.{Answer}
+use Rattle.sw_object_steps.specs.declared.change.Change.{Change}
+use Rattle.sw_object_steps.specs.declared.outline.Mark.TheVariants.{Object, Tombstone}
+use Rattle.sw_object_steps.specs.declared.outline.Outline.{Outline}
 use Rattle.sw_state.specs.DeleteTimes.{is_delete_time}
 use Rattle.sw_state.specs.Metas.{Meta, is_later}
 use Rattle.sw_state.specs.declared.base.Base.{Base}

@@ -15,16 +15,16 @@ use Rattle.sw_object_steps.specs.Rules.{ObjJournal, Writes, obj_applied, obj_end
 use Rattle.sw_object_steps.specs.Values.{ObjValue, bare}
 use Rattle.sw_objdir.specs.Directories.{IsKept}
 use Rattle.sw_outside.specs.Faults.{HasRisen}
-use Rattle.sw_peer.proofs.Answering.{outline-new}
-use Rattle.sw_peer.proofs.Hashes.{hash-apart, hash-same, hash-self, left-entered, written-append, written-own}
-use Rattle.sw_peer.specs.Histories.{History, stands}
-use Rattle.sw_peer.specs.Journals.{Hash, Journal, written}
-use Rattle.sw_peer.specs.Outlines.{is_new_to, outline_of}
-use Rattle.sw_peer.specs.declared.answer.Answer.{Answer}
-use Rattle.sw_peer.specs.declared.change.Change.{Change}
-use Rattle.sw_peer.specs.declared.entry.ObjEntry.{ObjEntry}
-use Rattle.sw_peer.specs.declared.entry.ObjEntry.TheVariants.{Wrote}
-use Rattle.sw_peer.specs.declared.outline.Outline.{Outline}
+use Rattle.sw_object_steps.proofs.Answering.{outline-new}
+use Rattle.sw_object_steps.proofs.Hashes.{hash-apart, hash-same, hash-self, left-entered, written-append, written-own}
+use Rattle.sw_object_steps.specs.Flat.{History, stands}
+use Rattle.sw_object_steps.specs.Journals.{Hash, Journal, written}
+use Rattle.sw_object_steps.specs.Outlines.{is_new_to, outline_of}
+use Rattle.sw_object_steps.specs.declared.answer.Answer.{Answer}
+use Rattle.sw_object_steps.specs.declared.change.Change.{Change}
+use Rattle.sw_object_steps.specs.declared.entry.ObjEntry.{ObjEntry}
+use Rattle.sw_object_steps.specs.declared.entry.ObjEntry.TheVariants.{Wrote}
+use Rattle.sw_object_steps.specs.declared.outline.Outline.{Outline}
 use Rattle.sw_state.proofs.JoinLaws.{comes_again}
 use Rattle.sw_state.proofs.StateTests.{new_changes}
 use Rattle.sw_state.specs.States.{is_new, joined}

@@ -8,9 +8,9 @@ use Rattle.sw_objdir.proofs.Looking.{dir-moved, held-same, held-told, tells-now}
 use Rattle.sw_objdir.proofs.Settled.{dir-settled, none-left, only-settles}
 use Rattle.sw_objdir.specs.Directories.{IsDir, Kept, held, is_told}
 use Rattle.sw_objdir.specs.Stepping.{LooksAt, SameFiles}
-use Rattle.sw_peer.specs.Journals.{Hash, Journal, written}
-use Rattle.sw_peer.specs.Outlines.{outline_of}
-use Rattle.sw_peer.specs.declared.outline.Outline.{Outline}
+use Rattle.sw_object_steps.specs.Journals.{Hash, Journal, written}
+use Rattle.sw_object_steps.specs.Outlines.{outline_of}
+use Rattle.sw_object_steps.specs.declared.outline.Outline.{Outline}
 use Rattle.sw_volume.specs.Tree.{Folders}
 
 module _ {V : Type 0} (tells : V → Bool) (files : V → Folders) (faults : V → ℕ) (k : Kept V) (dir : IsDir tells files faults k) (hash : Hash) (path : List ℕ)

@@ -21,16 +21,16 @@ use Rattle.sw_object_steps.specs.Values.{bare}
 use Rattle.sw_objdir.specs.Directories.{IsDir, Kept, held, history_of, is_told, steps_of, values_of}
 use Rattle.sw_objdir.specs.Stepping.{IsPartStep, IsReadStep, IsSameDir, IsStep, LooksAt, ReadsHashes, SameFiles}
 use Rattle.sw_outside.specs.Faults.{HasRisen}
-use Rattle.sw_peer.proofs.Hashes.{hash-same, hash-self}
-use Rattle.sw_peer.specs.Histories.{History, StepChanges, StepReads}
-use Rattle.sw_peer.specs.Journals.{Hash, Shows, written}
-use Rattle.sw_peer.specs.Parts.{ShowsPart, StepReadsPart, is_given}
-use Rattle.sw_peer.specs.declared.answer.Answer.{Answer}
-use Rattle.sw_peer.specs.declared.change.Change.{Change}
-use Rattle.sw_peer.specs.declared.dir_fault.DirFault.{DirFault}
-use Rattle.sw_peer.specs.declared.dir_fault.DirFault.TheVariants as faulted
-use Rattle.sw_peer.specs.declared.got.Got.{Got}
-use Rattle.sw_peer.specs.declared.got.Got.TheVariants as gots
+use Rattle.sw_object_steps.proofs.Hashes.{hash-same, hash-self}
+use Rattle.sw_object_steps.specs.Flat.{History, StepChanges, StepReads}
+use Rattle.sw_object_steps.specs.Journals.{Hash, Shows, written}
+use Rattle.sw_object_steps.specs.Flat.{ShowsPart, StepReadsPart, is_given}
+use Rattle.sw_object_steps.specs.declared.answer.Answer.{Answer}
+use Rattle.sw_object_steps.specs.declared.change.Change.{Change}
+use Rattle.sw_object_steps.specs.declared.dir_fault.DirFault.{DirFault}
+use Rattle.sw_object_steps.specs.declared.dir_fault.DirFault.TheVariants as faulted
+use Rattle.sw_object_steps.specs.declared.got.Got.{Got}
+use Rattle.sw_object_steps.specs.declared.got.Got.TheVariants as gots
 use Rattle.sw_state.specs.States.{state_of}
 use Rattle.sw_state.specs.declared.state.State.{State}
 use Rattle.sw_step.specs.Rules.{CanStand, Damages, Ending, Fails}

@@ -20,18 +20,19 @@ use Rattle.sw_objdir.proofs.Looking.{held-told, held-untold, step-of, tells-now}
 use Rattle.sw_objdir.specs.Directories.{IsDir, Kept, held, history_of, is_told, steps_of, values_of}
 use Rattle.sw_objdir.specs.Stepping.{IsSeenAs, IsStep}
 use Rattle.sw_outside.specs.Faults.{HasRisen}
-use Rattle.sw_peer.proofs.Answering.{allowed-new}
-use Rattle.sw_peer.proofs.Hashes.{hash-apart, hash-same, written-append, written-other, written-own}
-use Rattle.sw_peer.specs.Journals.{Hash, Journal, has_room, with_doubt, with_entry, written}
-use Rattle.sw_peer.specs.Outlines.{has_object, outline_of}
-use Rattle.sw_peer.specs.Steps.{deletion_answer, made_answer, refusal_of, write_of}
-use Rattle.sw_peer.specs.declared.answer.Answer.{Answer}
-use Rattle.sw_peer.specs.declared.answer.Answer.TheVariants as answers
-use Rattle.sw_peer.specs.declared.change.Change.{Change}
-use Rattle.sw_peer.specs.declared.change.Change.TheVariants.{Put, Post, Delete, Receive}
-use Rattle.sw_peer.specs.declared.entry.ObjEntry.{ObjEntry}
-use Rattle.sw_peer.specs.declared.entry.ObjEntry.TheVariants.{Wrote}
-use Rattle.sw_peer.specs.declared.outline.Outline.{Outline}
+use Rattle.sw_object_steps.proofs.Answering.{allowed-new}
+use Rattle.sw_object_steps.proofs.Hashes.{hash-apart, hash-same, written-append, written-other, written-own}
+use Rattle.sw_object_steps.specs.Journals.{Hash, Journal, has_room, written}
+use Rattle.sw_object_steps.specs.Flat.{with_doubt, with_entry}
+use Rattle.sw_object_steps.specs.Outlines.{has_object, outline_of}
+use Rattle.sw_object_steps.specs.Steps.{deletion_answer, made_answer, refusal_of, write_of}
+use Rattle.sw_object_steps.specs.declared.answer.Answer.{Answer}
+use Rattle.sw_object_steps.specs.declared.answer.Answer.TheVariants as answers
+use Rattle.sw_object_steps.specs.declared.change.Change.{Change}
+use Rattle.sw_object_steps.specs.declared.change.Change.TheVariants.{Put, Post, Delete, Receive}
+use Rattle.sw_object_steps.specs.declared.entry.ObjEntry.{ObjEntry}
+use Rattle.sw_object_steps.specs.declared.entry.ObjEntry.TheVariants.{Wrote}
+use Rattle.sw_object_steps.specs.declared.outline.Outline.{Outline}
 use Rattle.sw_state.specs.States.{joined}
 use Rattle.sw_state.specs.declared.state.State.{State}
 use Rattle.sw_state.specs.declared.write.Write.{Write}

@@ -22,10 +22,10 @@ use Rattle.sw_hashpath.specs.declared.bad_name.BadName.{BadName}
 use Rattle.sw_hashpath.specs.declared.decode_error.BadFile.{BadFile}
 use Rattle.sw_hashpath.specs.declared.name.Name.{Name}
 use Rattle.sw_hashpath.specs.declared.secrets.Secrets.{Secrets}
-use Rattle.sw_peer.proofs.Hashes.{hash-self}
-use Rattle.sw_peer.specs.Journals.{Hash}
-use Rattle.sw_peer.specs.Parts.{Counts, IsFile}
-use Rattle.sw_peer.specs.declared.part_read.Stored.{Stored}
+use Rattle.sw_object_steps.proofs.Hashes.{hash-self}
+use Rattle.sw_object_steps.specs.Journals.{Hash}
+use Rattle.sw_object_steps.specs.Parts.{Counts, IsFile}
+use Rattle.sw_object_steps.specs.declared.stored.Stored.{Stored}
 use Rattle.sw_state.proofs.JoinLaws.{at_least_one_write, at_least_transitive, join_is_at_least}
 use Rattle.sw_state.proofs.StateLaws.{joins_lists}
 use Rattle.sw_state.proofs.StateOf.{is_state}

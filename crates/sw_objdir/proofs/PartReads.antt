@@ -8,10 +8,10 @@ use Rattle.sw_objdir.proofs.Told.{reopens}
 use Rattle.sw_objdir.specs.Comparing.{CountsFault, fault_of_volume}
 use Rattle.sw_objdir.specs.Directories.{IsDir, Kept, held, is_told}
 use Rattle.sw_objdir.specs.Stepping.{LooksAt, ReadsHashes, SameFiles}
-use Rattle.sw_peer.specs.Journals.{Hash, written}
-use Rattle.sw_peer.specs.Parts.{AreHashes, AreLines}
-use Rattle.sw_peer.specs.declared.dir_fault.DirFault.{DirFault}
-use Rattle.sw_peer.specs.declared.dir_fault.DirFault.TheVariants as faulted
+use Rattle.sw_object_steps.specs.Journals.{Hash, written}
+use Rattle.sw_object_steps.specs.Parts.{AreHashes, AreLines}
+use Rattle.sw_object_steps.specs.declared.dir_fault.DirFault.{DirFault}
+use Rattle.sw_object_steps.specs.declared.dir_fault.DirFault.TheVariants as faulted
 use Rattle.sw_state.specs.declared.state.State.{State}
 use Rattle.sw_suffix.specs.declared.dir_line.DirLine.{DirLine}
 use Rattle.sw_suffix.specs.declared.told.SuffixHash.{SuffixHash}

@@ -14,7 +14,7 @@ use Rattle.sw_hashdir.specs.Readings.{CallsFor, CallsWith, CountsFault, HasFront
 use Rattle.sw_hashdir.specs.Readings.{IsExpiryIn, IsFound, IsFoundAt, IsGotIn, IsSecondRead, IsShown, IsShownBeside, IsShownWith}
 use Rattle.sw_hashdir.specs.Readings.{IsOutOfOrder, IsPickedIn, OnShown, data_of, expiry_file, raised_where}
 use Rattle.sw_hashdir.specs.Steps.{IsOurs}
-use Rattle.sw_peer.specs.Outlines.{picked_outline}
+use Rattle.sw_object_steps.specs.Outlines.{picked_outline}
 use Rattle.sw_hashdir.specs.declared.reading.ReadFault.{ReadFault}
 use Rattle.sw_hashdir.specs.declared.reading.ReadFault.TheVariants as faulted
 use Rattle.sw_hashpath.specs.declared.decode_error.BadFile.{BadFile}
@@ -28,11 +28,11 @@ use Rattle.sw_objdir.specs.Directories.{IsDir, Kept, held, is_told}
 use Rattle.sw_objdir.specs.Stepping.{IsReadStep, LooksAt, SameFiles}
 use Rattle.sw_outside.specs.Counts.{raised}
 use Rattle.sw_outside.specs.Faults.{HasRisen}
-use Rattle.sw_peer.specs.Journals.{Hash, Shows, written}
-use Rattle.sw_peer.specs.Outlines.{standing_expiry}
-use Rattle.sw_peer.specs.Steps.{got_of}
-use Rattle.sw_peer.specs.declared.got.Got.{Got}
-use Rattle.sw_peer.specs.declared.got.Got.TheVariants as gots
+use Rattle.sw_object_steps.specs.Journals.{Hash, Shows, written}
+use Rattle.sw_object_steps.specs.Outlines.{standing_expiry}
+use Rattle.sw_object_steps.specs.Steps.{got_of}
+use Rattle.sw_object_steps.specs.declared.got.Got.{Got}
+use Rattle.sw_object_steps.specs.declared.got.Got.TheVariants as gots
 use Rattle.sw_state.specs.declared.heads.Heads.{Heads}
 use Rattle.sw_state.specs.declared.state.State.{State}
 use Rattle.sw_state.specs.declared.content.Content.{Content}

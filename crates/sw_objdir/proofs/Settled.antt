@@ -6,10 +6,10 @@ use Rattle.sw_object_steps.specs.Histories.{single_journal}
 use Rattle.sw_object_steps.specs.Rules.{obj_rules}
 use Rattle.sw_objdir.proofs.Journaling.{one-gone, one-kept, one-settles}
 use Rattle.sw_objdir.specs.Directories.{IsDir, IsKept, Kept, held, history_of, is_told, steps_of}
-use Rattle.sw_peer.specs.Histories.{History}
-use Rattle.sw_peer.specs.Journals.{Hash, Journal, written}
-use Rattle.sw_peer.specs.Outlines.{outline_of}
-use Rattle.sw_peer.specs.declared.outline.Outline.{Outline}
+use Rattle.sw_object_steps.specs.Flat.{History}
+use Rattle.sw_object_steps.specs.Journals.{Hash, Journal, written}
+use Rattle.sw_object_steps.specs.Outlines.{outline_of}
+use Rattle.sw_object_steps.specs.declared.outline.Outline.{Outline}
 use Rattle.sw_step.specs.Steps.{OnlySettles}
 use Rattle.sw_volume.specs.Tree.{Folders}
 

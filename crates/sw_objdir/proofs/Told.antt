@@ -8,7 +8,7 @@ use Rattle.sw_hashpath.specs.declared.secrets.Secrets.{Secrets}
 use Rattle.sw_objdir.specs.Directories.{IsDir, Kept, is_told, started, steps_of}
 use Rattle.sw_object_steps.specs.Rules.{obj_rules}
 use Rattle.sw_object_steps.specs.Values.{bare}
-use Rattle.sw_peer.specs.Journals.{Hash}
+use Rattle.sw_object_steps.specs.Journals.{Hash}
 use Rattle.sw_state.specs.States.{state_of}
 use Rattle.sw_state.specs.declared.state.State.{State}
 use Rattle.sw_step.specs.Rules.{CanStand}

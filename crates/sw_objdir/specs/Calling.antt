@@ -11,7 +11,7 @@ use Rattle.sw_diskfile.specs.declared.picking.Picked.{Picked}
 use Rattle.sw_hashdir.specs.Places.{dir_text}
 use Rattle.sw_hashdir.specs.Readings.{IsDamageShown, IsDamagedAt, IsSecondRead, IsShown, data_of, expiry_file}
 use Rattle.sw_hashdir.specs.Steps.{Writes}
-use Rattle.sw_peer.specs.Outlines.{picked_outline}
+use Rattle.sw_object_steps.specs.Outlines.{picked_outline}
 use Rattle.sw_hashpath.specs.declared.decode_error.BadFile.{BadFile}
 use Rattle.sw_hashpath.specs.declared.name.Name.{Name}
 use Rattle.sw_journal.specs.Settling.{SettlesFirst}
@@ -19,13 +19,14 @@ use Rattle.sw_metafile.specs.Texts.{file_text}
 use Rattle.sw_objdir.specs.Directories.{Kept}
 use Rattle.sw_objdir.specs.Stepping.{SameFiles}
 use Rattle.sw_outside.specs.Counts.{raised}
-use Rattle.sw_peer.specs.Journals.{Journal, with_doubt, with_entry, written}
-use Rattle.sw_peer.specs.Steps.{asks_expiry, made_answer, refusal_by, write_of}
-use Rattle.sw_peer.specs.declared.answer.Answer.{Answer}
-use Rattle.sw_peer.specs.declared.answer.Answer.TheVariants as answers
-use Rattle.sw_peer.specs.declared.change.Change.{Change}
-use Rattle.sw_peer.specs.declared.got.Got.{Got}
-use Rattle.sw_peer.specs.declared.got.Got.TheVariants as gots
+use Rattle.sw_object_steps.specs.Journals.{Journal, written}
+use Rattle.sw_object_steps.specs.Flat.{with_doubt, with_entry}
+use Rattle.sw_object_steps.specs.Steps.{asks_expiry, made_answer, refusal_by, write_of}
+use Rattle.sw_object_steps.specs.declared.answer.Answer.{Answer}
+use Rattle.sw_object_steps.specs.declared.answer.Answer.TheVariants as answers
+use Rattle.sw_object_steps.specs.declared.change.Change.{Change}
+use Rattle.sw_object_steps.specs.declared.got.Got.{Got}
+use Rattle.sw_object_steps.specs.declared.got.Got.TheVariants as gots
 use Rattle.sw_state.specs.declared.write.Write.{Write}
 use Rattle.sw_volume.specs.Tree.{Folders, contents}
 use Rattle.sw_volume.specs.Volume.{MaySet, raised_by}

@@ -9,10 +9,10 @@ use Rattle.sw_objdir.specs.Directories.{Kept}
 use Rattle.sw_objdir.specs.declared.comparing.Scope.{Scope}
 use Rattle.sw_objdir.specs.declared.comparing.Scope.TheVariants as scopes
 use Rattle.sw_outside.specs.Counts.{raised}
-use Rattle.sw_peer.specs.Journals.{Hash, written}
-use Rattle.sw_peer.specs.declared.dir_fault.DirFault.{DirFault}
-use Rattle.sw_peer.specs.declared.dir_fault.DirFault.TheVariants as faulted
-use Rattle.sw_peer.specs.declared.entry.ObjEntry.{ObjEntry}
+use Rattle.sw_object_steps.specs.Journals.{Hash, written}
+use Rattle.sw_object_steps.specs.declared.dir_fault.DirFault.{DirFault}
+use Rattle.sw_object_steps.specs.declared.dir_fault.DirFault.TheVariants as faulted
+use Rattle.sw_object_steps.specs.declared.entry.ObjEntry.{ObjEntry}
 use Rattle.sw_state.specs.declared.write.Write.{Write}
 use Rattle.sw_volume.specs.Volume.{raised_by}
 use Rattle.sw_volume.specs.declared.errors.VolumeError.{VolumeError}

@@ -6,8 +6,8 @@ use Rattle.sw_journal.specs.Entries.{begun}
 use Rattle.sw_object_steps.specs.Histories.{single_history}
 use Rattle.sw_object_steps.specs.Rules.{ObjHistory, obj_rules}
 use Rattle.sw_object_steps.specs.Values.{ObjValue, bare}
-use Rattle.sw_peer.specs.Histories.{History}
-use Rattle.sw_peer.specs.Journals.{Hash, Journal, written}
+use Rattle.sw_object_steps.specs.Flat.{History}
+use Rattle.sw_object_steps.specs.Journals.{Hash, Journal, written}
 use Rattle.sw_state.specs.States.{state_of}
 use Rattle.sw_state.specs.declared.state.State.{State}
 use Rattle.sw_step.specs.Rules.{CanStand}

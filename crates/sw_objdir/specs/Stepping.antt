@@ -5,19 +5,19 @@ use Rattle.sw_hashpath.specs.declared.name.Name.{Name}
 use Rattle.sw_objdir.specs.Directories.{Kept, held, history_of, is_told, steps_of, values_of}
 use Rattle.sw_object_steps.specs.Histories.{ChangesObject, ReadsObject, ReadsPart}
 use Rattle.sw_object_steps.specs.Rules.{obj_rules}
-use Rattle.sw_peer.specs.Briefs.{brief_of}
-use Rattle.sw_peer.specs.Histories.{StepChanges, StepReads}
-use Rattle.sw_peer.specs.Journals.{Hash}
-use Rattle.sw_peer.specs.Outlines.{outline_of}
-use Rattle.sw_peer.specs.Parts.{StepReadsPart}
-use Rattle.sw_peer.specs.Steps.{refusal_of}
-use Rattle.sw_peer.specs.declared.answer.Answer.{Answer}
-use Rattle.sw_peer.specs.declared.change.Change.{Change}
-use Rattle.sw_peer.specs.declared.dir_fault.DirFault.{DirFault}
-use Rattle.sw_peer.specs.declared.entry.Brief.{Brief}
-use Rattle.sw_peer.specs.declared.entry.ObjEntry.{ObjEntry}
-use Rattle.sw_peer.specs.declared.got.Got.{Got}
-use Rattle.sw_peer.specs.declared.outline.Outline.{Outline}
+use Rattle.sw_object_steps.specs.Briefs.{brief_of}
+use Rattle.sw_object_steps.specs.Flat.{StepChanges, StepReads}
+use Rattle.sw_object_steps.specs.Journals.{Hash}
+use Rattle.sw_object_steps.specs.Outlines.{outline_of}
+use Rattle.sw_object_steps.specs.Flat.{StepReadsPart}
+use Rattle.sw_object_steps.specs.Steps.{refusal_of}
+use Rattle.sw_object_steps.specs.declared.answer.Answer.{Answer}
+use Rattle.sw_object_steps.specs.declared.change.Change.{Change}
+use Rattle.sw_object_steps.specs.declared.dir_fault.DirFault.{DirFault}
+use Rattle.sw_object_steps.specs.declared.entry.Brief.{Brief}
+use Rattle.sw_object_steps.specs.declared.entry.ObjEntry.{ObjEntry}
+use Rattle.sw_object_steps.specs.declared.got.Got.{Got}
+use Rattle.sw_object_steps.specs.declared.outline.Outline.{Outline}
 use Rattle.sw_state.specs.declared.state.State.{State}
 use Rattle.sw_step.specs.Steps.{OnlySettles}
 use Rattle.sw_volume.specs.Tree.{Folders, contents}

@@ -11,10 +11,10 @@ ghost use Rattle.sw_objdir.specs.Comparing.{CountsFault, HasDoubt, IfDamagedPart
 ghost use Rattle.sw_objdir.specs.Comparing.{is_in, listings_of};
 ghost use Rattle.sw_objdir.specs.Directories.{IsDir};
 ghost use Rattle.sw_objdir.specs.Stepping.{AddsBriefs, IsPartStep, LooksAt, ReadsHashes};
-ghost use Rattle.sw_peer.specs.Briefs.{brief_of};
-ghost use Rattle.sw_peer.specs.Journals.{written};
-ghost use Rattle.sw_peer.specs.Parts.{AreHashes, AreLines, IsFile, IsOfPart};
-ghost use Rattle.sw_peer.specs.declared.entry.ObjEntry.{ObjEntry};
+ghost use Rattle.sw_object_steps.specs.Briefs.{brief_of};
+ghost use Rattle.sw_object_steps.specs.Journals.{written};
+ghost use Rattle.sw_object_steps.specs.Parts.{AreHashes, AreLines, IsFile, IsOfPart};
+ghost use Rattle.sw_object_steps.specs.declared.entry.ObjEntry.{ObjEntry};
 ghost use Rattle.sw_volume.specs.Tree.{contents};
 ghost use Rattle.sw_volume.specs.Volume.{HasCause, OnFailed, raised_by};
 
@@ -24,7 +24,7 @@ use sw_diskfile::FileName;
 use sw_hashdir::{ReadFault, dir_of, hashes_of, lines_of, read_stored};
 use sw_hashpath::{partition, suffix};
 use sw_journal::Journal;
-use sw_peer::{Brief, DirFault, ObjEntry, Stored};
+use sw_object_steps::{Brief, DirFault, ObjEntry, Stored};
 use sw_suffix::{DirLine, SuffixHash};
 use sw_volume::{Volume, VolumeError};
 

@@ -4,7 +4,7 @@ ghost use Rattle.sw_hashdir.specs.Walks.{Adds, IsPathBelow};
 ghost use Rattle.sw_objdir.specs.Calling.{ReadCalled};
 ghost use Rattle.sw_objdir.specs.Directories.{held};
 ghost use Rattle.sw_objdir.specs.Stepping.{IsReadStep, OnlyLooks};
-ghost use Rattle.sw_peer.specs.Journals.{Hash};
+ghost use Rattle.sw_object_steps.specs.Journals.{Hash};
 ghost use Rattle.sw_volume.specs.Tree.{contents};
 ghost use Rattle.sw_volume.specs.Volume.{HasCause, ListsAll, raised_by};
 
@@ -13,7 +13,7 @@ use std::alloc::Global;
 use sw_hashdir::{Paths, add_paths_below, dir_of, paths_below, show};
 use sw_hashpath::Name;
 use sw_outside::BytesList;
-use sw_peer::Got;
+use sw_object_steps::Got;
 use sw_volume::{Volume, VolumeError};
 
 impl<V: Volume + Drop> ObjDir<V> {

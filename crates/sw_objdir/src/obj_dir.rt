@@ -5,8 +5,8 @@ ghost use Rattle.sw_journal.specs.Entries.{first_in};
 ghost use Rattle.sw_object_steps.specs.Rules.{obj_rules};
 ghost use Rattle.sw_object_steps.specs.Values.{bare};
 ghost use Rattle.sw_objdir.specs.Directories.{is_told, started, steps_of};
-ghost use Rattle.sw_peer.specs.Journals.{Hash};
-ghost use Rattle.sw_peer.specs.declared.entry.ObjEntry.{ObjEntry};
+ghost use Rattle.sw_object_steps.specs.Journals.{Hash};
+ghost use Rattle.sw_object_steps.specs.declared.entry.ObjEntry.{ObjEntry};
 ghost use Rattle.sw_step.specs.Rules.{CanStand};
 
 use std::alloc::Global;
@@ -14,7 +14,7 @@ use std::marker::Model;
 use std::snapshot::Snapshot;
 use sw_hashpath::Secrets;
 use sw_journal::Journal;
-use sw_peer::{Added, ObjEntry};
+use sw_object_steps::{Added, ObjEntry};
 use sw_volume::Volume;
 
 /// What one object lock holds: a volume, and the journal of what was done with it since it began.

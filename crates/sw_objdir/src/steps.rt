@@ -1,12 +1,12 @@
 ghost use Rattle.sw_hashdir.specs.Steps.{IsHashed};
 ghost use Rattle.sw_objdir.specs.Calling.{Called};
 ghost use Rattle.sw_objdir.specs.Stepping.{IsStep};
-ghost use Rattle.sw_peer.specs.declared.change.Change.TheVariants as changes;
+ghost use Rattle.sw_object_steps.specs.declared.change.Change.TheVariants as changes;
 
 use crate::obj_dir::ObjDir;
 use std::alloc::Global;
 use sw_hashpath::Name;
-use sw_peer::{Answer, Change};
+use sw_object_steps::{Answer, Change};
 use sw_state::{Content, Heads, Write};
 use sw_timestamp::Timestamp;
 use sw_volume::Volume;

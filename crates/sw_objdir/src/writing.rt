@@ -4,9 +4,9 @@ ghost use Rattle.sw_hashdir.specs.Places.{dir_text};
 ghost use Rattle.sw_hashdir.specs.Steps.{IsOurs};
 ghost use Rattle.sw_objdir.specs.Calling.{Written};
 ghost use Rattle.sw_objdir.specs.Stepping.{IsSeenAs, IsStep};
-ghost use Rattle.sw_peer.specs.Journals.{has_room, written};
-ghost use Rattle.sw_peer.specs.Steps.{is_entered, made_answer, write_of};
-ghost use Rattle.sw_peer.specs.declared.entry.ObjEntry.TheVariants.{Wrote};
+ghost use Rattle.sw_object_steps.specs.Journals.{has_room, written};
+ghost use Rattle.sw_object_steps.specs.Steps.{is_entered, made_answer, write_of};
+ghost use Rattle.sw_object_steps.specs.declared.entry.ObjEntry.TheVariants.{Wrote};
 ghost use Rattle.sw_volume.specs.Tree.{contents};
 
 use crate::obj_dir::ObjDir;
@@ -14,7 +14,7 @@ use std::alloc::Global;
 use sw_hashdir::{Seen, write_file};
 use sw_hashpath::Name;
 use sw_outside::NoMemory;
-use sw_peer::{Answer, Change, ObjEntry, made_answer};
+use sw_object_steps::{Answer, Change, ObjEntry, made_answer};
 use sw_state::Write;
 use sw_volume::{Volume, VolumeError};
 

@@ -2,14 +2,15 @@
 use Rattle.std.proofs.Common.{◌≡◌, Bool, true, [], ◌++◌, length, sym, ◌∙◌, ap, subst, Result, Ok, Err}
 use Rattle.sw_hashpath.specs.declared.name.Name.{Name}
 use Rattle.sw_outside.specs.Faults.{HasRisen}
-use Rattle.sw_peer.specs.Histories.{Grows, History, OnlySettles, StepChanges, StepReads, stands}
-use Rattle.sw_peer.specs.Journals.{Answers, Hash, Shows, left_by, written}
-use Rattle.sw_peer.specs.Parts.{ShowsPart, StepReadsPart}
-use Rattle.sw_peer.specs.declared.dir_fault.DirFault.{DirFault}
-use Rattle.sw_peer.specs.declared.dir_fault.DirFault.TheVariants as dir_faults
-use Rattle.sw_peer.specs.declared.answer.Answer.{Answer}
-use Rattle.sw_peer.specs.declared.change.Change.{Change}
-use Rattle.sw_peer.specs.declared.got.Got.{Got}
+use Rattle.sw_object_steps.specs.Flat.{Grows, History, OnlySettles, StepChanges, StepReads, stands}
+use Rattle.sw_object_steps.specs.Journals.{Hash, Shows, written}
+use Rattle.sw_object_steps.specs.Flat.{Answers, left_by}
+use Rattle.sw_object_steps.specs.Flat.{ShowsPart, StepReadsPart}
+use Rattle.sw_object_steps.specs.declared.dir_fault.DirFault.{DirFault}
+use Rattle.sw_object_steps.specs.declared.dir_fault.DirFault.TheVariants as dir_faults
+use Rattle.sw_object_steps.specs.declared.answer.Answer.{Answer}
+use Rattle.sw_object_steps.specs.declared.change.Change.{Change}
+use Rattle.sw_object_steps.specs.declared.got.Got.{Got}
 use Rattle.sw_state.specs.declared.state.State.{State}
 
 abbrev pub recast : (alone : Bool) (h i : History) (s u : State) (name : Name) (change : Change) (answer : Answer) (g j : History) (t v : State) →

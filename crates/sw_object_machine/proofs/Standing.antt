@@ -3,17 +3,19 @@ use Rattle.std.proofs.Common.{◌≡◌, ◌≢◌, ℕ, ◌≤◌, Bool, true, 
 use Rattle.std.proofs.lemmas.List.{append-nil}
 use Rattle.std.proofs.lemmas.Bool.{eq-eqb, eqb-true}
 use Rattle.sw_hashpath.specs.declared.name.Name.{Name}
-use Rattle.sw_peer.proofs.Hashes.{hash-same, hash-self}
+use Rattle.sw_object_steps.proofs.Hashes.{hash-same, hash-self}
 use Rattle.sw_outside.specs.Faults.{HasRisen}
-use Rattle.sw_peer.specs.Histories.{History}
-use Rattle.sw_peer.specs.Journals.{Hash, left_by}
-use Rattle.sw_peer.specs.Steps.{write_of}
-use Rattle.sw_peer.specs.Parts.{IsOfPart, StepReadsPart}
+use Rattle.sw_object_steps.specs.Flat.{History}
+use Rattle.sw_object_steps.specs.Journals.{Hash}
+use Rattle.sw_object_steps.specs.Flat.{left_by}
+use Rattle.sw_object_steps.specs.Steps.{write_of}
+use Rattle.sw_object_steps.specs.Parts.{IsOfPart}
+use Rattle.sw_object_steps.specs.Flat.{StepReadsPart}
 use Rattle.sw_peer.specs.Sights.{IsAt, IsInPart, IsMade, IsPartRead, Nodes, Sight}
-use Rattle.sw_peer.specs.declared.dir_fault.DirFault.{DirFault}
+use Rattle.sw_object_steps.specs.declared.dir_fault.DirFault.{DirFault}
 use Rattle.sw_peer.specs.declared.part_read.PartRead.{PartRead}
-use Rattle.sw_peer.specs.declared.answer.Answer.{Answer}
-use Rattle.sw_peer.specs.declared.change.Change.{Change}
+use Rattle.sw_object_steps.specs.declared.answer.Answer.{Answer}
+use Rattle.sw_object_steps.specs.declared.change.Change.{Change}
 use Rattle.sw_peer.specs.declared.link.Link.{Link}
 use Rattle.sw_state.proofs.StateLaws.{joins_one_more}
 use Rattle.sw_state.specs.States.{state_of}

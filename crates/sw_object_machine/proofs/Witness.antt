@@ -5,8 +5,8 @@ use Rattle.std.proofs.Math.Nat.{mod-eq_of_lt, mul-le-mul_right, suc-mul}
 use Rattle.std.proofs.lemmas.List.Elements.{All-append, All-cons}
 use Rattle.std.proofs.lemmas.Nat.{div-mul-add, from_be_bytes-to_be_bytes_2, from_be_bytes-to_be_bytes_4, mod_below, pow-add, pow_pos}
 use Rattle.sw_hashpath.specs.HashParts.{suffix_of}
-use Rattle.sw_peer.specs.Journals.{Hash}
-use Rattle.sw_peer.specs.Parts.{IsOfPart}
+use Rattle.sw_object_steps.specs.Journals.{Hash}
+use Rattle.sw_object_steps.specs.Parts.{IsOfPart}
 
 -- its first four bytes are the partition's bits and zeros, its last two the suffix
 abbrev pub zeros : ℕ → List ℕ → List ℕ

@@ -1,6 +1,6 @@
 -- How much the journal of an object lock holds. (This project's own.)
 use Rattle.std.specs.Prelude.{ℕ, []}
-use Rattle.sw_peer.specs.Journals.{Journal}
+use Rattle.sw_object_steps.specs.Journals.{Journal}
 
 abbrev pub journal_entries : ℕ
 journal_entries = 262144

@@ -7,16 +7,16 @@ use Rattle.sw_object_machine.specs.Limits.{empty_journal}
 use Rattle.sw_object_machine.specs.PartReads.{IsReadOf, part_in}
 use Rattle.sw_hashpath.specs.declared.name.Name.{Name}
 use Rattle.sw_outside.specs.Faults.{HasRisen}
-use Rattle.sw_peer.specs.Histories.{History, StepChanges, StepReads}
+use Rattle.sw_object_steps.specs.Flat.{History, StepChanges, StepReads}
 use Rattle.sw_peer.specs.Sights.{Nodes, Sight}
-use Rattle.sw_peer.specs.Journals.{Hash}
-use Rattle.sw_peer.specs.Parts.{IsOfPart}
-use Rattle.sw_peer.specs.Steps.{write_of}
-use Rattle.sw_peer.specs.declared.answer.Answer.{Answer}
-use Rattle.sw_peer.specs.declared.change.Change.{Change}
-use Rattle.sw_peer.specs.declared.change.Change.TheVariants.{Receive}
-use Rattle.sw_peer.specs.declared.entry.ObjEntry.{ObjEntry}
-use Rattle.sw_peer.specs.declared.got.Got.{Got}
+use Rattle.sw_object_steps.specs.Journals.{Hash}
+use Rattle.sw_object_steps.specs.Parts.{IsOfPart}
+use Rattle.sw_object_steps.specs.Steps.{write_of}
+use Rattle.sw_object_steps.specs.declared.answer.Answer.{Answer}
+use Rattle.sw_object_steps.specs.declared.change.Change.{Change}
+use Rattle.sw_object_steps.specs.declared.change.Change.TheVariants.{Receive}
+use Rattle.sw_object_steps.specs.declared.entry.ObjEntry.{ObjEntry}
+use Rattle.sw_object_steps.specs.declared.got.Got.{Got}
 use Rattle.sw_peer.specs.declared.line.Event.{Event}
 use Rattle.sw_peer.specs.declared.line.Event.TheVariants.{AtContainer, Changed, Listed, Read, ReadPart, Restarted}
 use Rattle.sw_peer.specs.declared.line.Line.{Line}

@@ -1,11 +1,12 @@
 -- A read of a partition at nodes that nobody else changes. (This project's own.)
 use Rattle.std.specs.Prelude.{◌≡◌, ⊤, ℕ, true, false, List, ◌++◌}
 use Rattle.sw_hashpath.specs.HashParts.{suffix_of}
-use Rattle.sw_peer.specs.Histories.{Grows, History, OnlySettles}
-use Rattle.sw_peer.specs.Journals.{Hash}
-use Rattle.sw_peer.specs.Parts.{AreHashes, AreLines, IsFile, IsOfPart, StepReadsPart}
+use Rattle.sw_object_steps.specs.Flat.{Grows, History, OnlySettles}
+use Rattle.sw_object_steps.specs.Journals.{Hash}
+use Rattle.sw_object_steps.specs.Parts.{AreHashes, AreLines, IsFile, IsOfPart}
+use Rattle.sw_object_steps.specs.Flat.{StepReadsPart}
 use Rattle.sw_peer.specs.Sights.{Nodes}
-use Rattle.sw_peer.specs.declared.entry.ObjEntry.{ObjEntry}
+use Rattle.sw_object_steps.specs.declared.entry.ObjEntry.{ObjEntry}
 use Rattle.sw_peer.specs.declared.part_read.PartRead.{PartRead}
 use Rattle.sw_peer.specs.declared.part_read.PartRead.TheVariants.{Files, Hashes, Write}
 use Rattle.sw_state.specs.declared.state.State.{State}

@@ -3,13 +3,14 @@ use Rattle.std.proofs.Common.{◌≡◌, ◌==◌, ℕ, Bool, true, false, List,
 use Rattle.std.proofs.lemmas.Bool.{eqb-false, eqb-true}
 use Rattle.std.proofs.lemmas.Slice.Eq.{bytes_eq-Decides}
 use Rattle.sw_hashpath.specs.declared.name.Name.{Name}
-use Rattle.sw_peer.specs.Histories.{stands}
-use Rattle.sw_peer.specs.Journals.{Answers, Hash, Journal, left_by}
+use Rattle.sw_object_steps.specs.Flat.{stands}
+use Rattle.sw_object_steps.specs.Journals.{Hash, Journal}
+use Rattle.sw_object_steps.specs.Flat.{Answers, left_by}
 use Rattle.sw_peer.specs.Sights.{Comes, IsMade, IsRead, IsSame, Sight}
-use Rattle.sw_peer.specs.declared.answer.Answer.{Answer}
-use Rattle.sw_peer.specs.declared.answer.Answer.TheVariants as answers
-use Rattle.sw_peer.specs.declared.change.Change.{Change}
-use Rattle.sw_peer.specs.declared.got.Got.{Got}
+use Rattle.sw_object_steps.specs.declared.answer.Answer.{Answer}
+use Rattle.sw_object_steps.specs.declared.answer.Answer.TheVariants as answers
+use Rattle.sw_object_steps.specs.declared.change.Change.{Change}
+use Rattle.sw_object_steps.specs.declared.got.Got.{Got}
 use Rattle.sw_peer.specs.declared.link.Link.TheVariants.{Local}
 use Rattle.sw_state.specs.declared.state.State.{State}
 use Rattle.sw_object_server.specs.Laws.{LeavesHeld}

@@ -16,7 +16,7 @@ use Rattle.sw_hashpath.specs.declared.name.Name.{Name}
 use Rattle.sw_message.specs.declared.fields.Field.{Field}
 use Rattle.sw_message.specs.declared.request.Body.TheVariants.{Whole}
 use Rattle.sw_message.specs.declared.request.Request.{Request}
-use Rattle.sw_peer.specs.declared.got.Got.TheVariants as gots
+use Rattle.sw_object_steps.specs.declared.got.Got.TheVariants as gots
 use Rattle.sw_ring.proofs.Repeats.{one_place}
 use Rattle.sw_ring.specs.declared.ring.Ring.{Ring}
 use Rattle.sw_state.specs.DeleteTimes.{is_delete_time}

@@ -2,9 +2,9 @@
 use Rattle.std.specs.Prelude.{◌≡◌, ℕ, Bool, true, List}
 use Rattle.sw_message.specs.declared.request.Request.{Request}
 use Rattle.sw_message.specs.declared.response.Response.{Response}
-use Rattle.sw_peer.specs.Journals.{Hash}
+use Rattle.sw_object_steps.specs.Journals.{Hash}
 use Rattle.sw_peer.specs.Sights.{Sight}
-use Rattle.sw_peer.specs.declared.got.Got.{Got}
+use Rattle.sw_object_steps.specs.declared.got.Got.{Got}
 use Rattle.sw_ring.specs.declared.ring.Ring.{Ring}
 use Rattle.sw_object_server.specs.Asking.{IsAsked}
 use Rattle.sw_object_server.specs.Serving.{IsLeft}

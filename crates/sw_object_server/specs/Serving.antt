@@ -7,10 +7,10 @@ use Rattle.sw_hashpath.specs.declared.name.Name.{Name}
 use Rattle.sw_message.specs.declared.request.Request.{Request}
 use Rattle.sw_message.specs.declared.response.Response.{Response}
 use Rattle.sw_peer.specs.Sights.{Calls, IsMade, IsRead, Sight}
-use Rattle.sw_peer.specs.Steps.{write_of}
-use Rattle.sw_peer.specs.declared.answer.Answer.{Answer}
-use Rattle.sw_peer.specs.declared.change.Change.{Change}
-use Rattle.sw_peer.specs.declared.got.Got.{Got}
+use Rattle.sw_object_steps.specs.Steps.{write_of}
+use Rattle.sw_object_steps.specs.declared.answer.Answer.{Answer}
+use Rattle.sw_object_steps.specs.declared.change.Change.{Change}
+use Rattle.sw_object_steps.specs.declared.got.Got.{Got}
 use Rattle.sw_peer.specs.declared.link.Link.TheVariants.{Local}
 use Rattle.sw_ring.specs.declared.ring.Ring.{Ring}
 use Rattle.sw_object_server.specs.Asking.{IsAsked}

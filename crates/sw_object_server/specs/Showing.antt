@@ -8,8 +8,8 @@ use Rattle.sw_message.specs.declared.fields.Field.{Field}
 use Rattle.sw_message.specs.declared.response.ReplyBody.{ReplyBody}
 use Rattle.sw_message.specs.declared.response.ReplyBody.TheVariants.{LeftOut, Whole}
 use Rattle.sw_message.specs.declared.response.Response.{Response}
-use Rattle.sw_peer.specs.declared.got.Got.{Got}
-use Rattle.sw_peer.specs.declared.got.Got.TheVariants as gots
+use Rattle.sw_object_steps.specs.declared.got.Got.{Got}
+use Rattle.sw_object_steps.specs.declared.got.Got.TheVariants as gots
 use Rattle.sw_state.specs.declared.content.Content.{Content}
 use Rattle.sw_state.specs.declared.head.Head.{Head}
 use Rattle.sw_state.specs.declared.heads.Heads.{Heads}

@@ -7,8 +7,8 @@ use Rattle.sw_hashpath.specs.declared.name.Name.{Name}
 use Rattle.sw_message.specs.declared.fields.Field.{Field}
 use Rattle.sw_message.specs.declared.request.Body.TheVariants.{Whole}
 use Rattle.sw_message.specs.declared.request.Request.{Request}
-use Rattle.sw_peer.specs.declared.change.Change.{Change}
-use Rattle.sw_peer.specs.declared.change.Change.TheVariants as changes
+use Rattle.sw_object_steps.specs.declared.change.Change.{Change}
+use Rattle.sw_object_steps.specs.declared.change.Change.TheVariants as changes
 use Rattle.sw_ring.specs.declared.ring.Ring.{Ring}
 use Rattle.sw_state.specs.declared.content.Content.{Content}
 use Rattle.sw_state.specs.declared.heads.Heads.{Heads}

@@ -1,5 +1,5 @@
 use sw_hashpath::Name;
-use sw_peer::Change;
+use sw_object_steps::Change;
 
 /// What a request asks the nodes for. A device is its place in the ring's list of devices.
 #[derive(Debug, Drop)]

@@ -1,6 +1,6 @@
 ghost use Rattle.std.specs.Prelude.{◌≡◌, [], ◌∷◌, true, decimal, is_some, IfOk, OnErr};
 ghost use Rattle.sw_hashpath.specs.BadFiles.{bad_file_number as bad_file_number_of};
-ghost use Rattle.sw_peer.specs.Steps.{write_of};
+ghost use Rattle.sw_object_steps.specs.Steps.{write_of};
 ghost use Rattle.sw_timestamp.specs.TimeText.{normal_text};
 ghost use Rattle.sw_object_server.specs.Replies.{at_time as at_time_reply, bare as bare_reply, created as created_reply, damaged as damaged_reply};
 ghost use Rattle.sw_object_server.specs.Replies.{made_reply as made_reply_to, not_found as not_found_reply};
@@ -12,7 +12,7 @@ use std::alloc::Global;
 use sw_hashpath::{BadFile, hex_text};
 use sw_message::{Field, FieldList, ReplyBody, Response};
 use sw_outside::{Bytes, NoMemory};
-use sw_peer::{Answer, Change};
+use sw_object_steps::{Answer, Change};
 use sw_state::Kind;
 use sw_timestamp::Timestamp;
 

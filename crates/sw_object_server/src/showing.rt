@@ -10,7 +10,7 @@ use sw_fields::{UNITS_PER_SECOND, is_expired};
 use sw_hashpath::hex_text;
 use sw_message::{Field, FieldList, ReplyBody, Response};
 use sw_outside::{Bytes, NoMemory};
-use sw_peer::Got;
+use sw_object_steps::Got;
 use sw_state::{Content, Head, Heads};
 use sw_timestamp::Timestamp;
 

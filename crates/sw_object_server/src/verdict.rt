@@ -1,4 +1,4 @@
-use sw_peer::Change;
+use sw_object_steps::Change;
 
 /// What a request asks for at its name.
 #[derive(Debug, Drop)]

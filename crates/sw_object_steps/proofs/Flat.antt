@@ -5,20 +5,21 @@ use Rattle.std.specs.List.{fold}
 use Rattle.std.proofs.lemmas.List.{append-nil}
 use Rattle.sw_hashpath.specs.declared.name.Name.{Name}
 use Rattle.sw_history.specs.Halves.{Leaves as FlatLeaves}
-use Rattle.sw_peer.proofs.Hashes.{hash-same, hash-self}
-use Rattle.sw_peer.specs.Histories.{is_shown, stands as flat_stands}
-use Rattle.sw_peer.specs.Journals.{Answers as FlatAnswers, Doubts, Enters, Hash, Journal, Shows, has_settled, left_by}
-use Rattle.sw_peer.specs.Outlines.{has_object, outline_of}
-use Rattle.sw_peer.specs.Steps.{deletion_answer, got_of, made_answer, refusal_of, write_of}
-use Rattle.sw_peer.specs.declared.answer.Answer.{Answer}
-use Rattle.sw_peer.specs.declared.answer.Answer.TheVariants as answers
-use Rattle.sw_peer.specs.declared.change.Change.{Change}
-use Rattle.sw_peer.specs.declared.change.Change.TheVariants.{Put, Post, Delete, Receive}
-use Rattle.sw_peer.specs.declared.entry.ObjEntry.{ObjEntry}
-use Rattle.sw_peer.specs.declared.entry.ObjEntry.TheVariants.{Wrote}
-use Rattle.sw_peer.specs.declared.got.Got.{Got}
-use Rattle.sw_peer.specs.declared.got.Got.TheVariants as gots
-use Rattle.sw_peer.specs.declared.outline.Outline.{Outline}
+use Rattle.sw_object_steps.proofs.Hashes.{hash-same, hash-self}
+use Rattle.sw_object_steps.specs.Flat.{is_shown, stands as flat_stands}
+use Rattle.sw_object_steps.specs.Journals.{Hash, Journal, Shows}
+use Rattle.sw_object_steps.specs.Flat.{Answers as FlatAnswers, Doubts, Enters, has_settled, left_by}
+use Rattle.sw_object_steps.specs.Outlines.{has_object, outline_of}
+use Rattle.sw_object_steps.specs.Steps.{deletion_answer, got_of, made_answer, refusal_of, write_of}
+use Rattle.sw_object_steps.specs.declared.answer.Answer.{Answer}
+use Rattle.sw_object_steps.specs.declared.answer.Answer.TheVariants as answers
+use Rattle.sw_object_steps.specs.declared.change.Change.{Change}
+use Rattle.sw_object_steps.specs.declared.change.Change.TheVariants.{Put, Post, Delete, Receive}
+use Rattle.sw_object_steps.specs.declared.entry.ObjEntry.{ObjEntry}
+use Rattle.sw_object_steps.specs.declared.entry.ObjEntry.TheVariants.{Wrote}
+use Rattle.sw_object_steps.specs.declared.got.Got.{Got}
+use Rattle.sw_object_steps.specs.declared.got.Got.TheVariants as gots
+use Rattle.sw_object_steps.specs.declared.outline.Outline.{Outline}
 use Rattle.sw_state.specs.declared.state.State.{State}
 use Rattle.sw_step.specs.Journals.{flat}
 use Rattle.sw_step.specs.Rules.{AllAt, AreChosen, AreOf, Damages, doubts_about, stands}

@@ -5,11 +5,12 @@ use Rattle.std.specs.List.{fold}
 use Rattle.std.proofs.lemmas.Bool.{cases_Bool}
 use Rattle.std.proofs.lemmas.List.{append-nil}
 use Rattle.sw_history.specs.Halves.{GrowsOf}
-use Rattle.sw_peer.proofs.Hashes.{written-append}
-use Rattle.sw_peer.specs.Histories.{History, stands as flat_stands}
-use Rattle.sw_peer.specs.Journals.{Hash, Journal, Settles as FlatSettles, written}
-use Rattle.sw_peer.specs.declared.entry.ObjEntry.{ObjEntry}
-use Rattle.sw_peer.specs.declared.entry.ObjEntry.TheVariants.{Wrote}
+use Rattle.sw_object_steps.proofs.Hashes.{written-append}
+use Rattle.sw_object_steps.specs.Flat.{History, stands as flat_stands}
+use Rattle.sw_object_steps.specs.Journals.{Hash, Journal, written}
+use Rattle.sw_object_steps.specs.Flat.{Settles as FlatSettles}
+use Rattle.sw_object_steps.specs.declared.entry.ObjEntry.{ObjEntry}
+use Rattle.sw_object_steps.specs.declared.entry.ObjEntry.TheVariants.{Wrote}
 use Rattle.sw_state.proofs.StateLaws.{joins_one_more, state_of-writes_of}
 use Rattle.sw_state.specs.States.{joined, state_of, writes_of}
 use Rattle.sw_state.specs.declared.state.State.{State}

@@ -1,16 +1,16 @@
 -- One step at one object lock by its rules, and how its histories are told by those words in which a doubt is one entry and a value a state. (This
 -- project's own.)
-use Rattle.std.specs.Prelude.{Bool, true, [], ◌∷◌, map, Result, Ok, Err}
+use Rattle.std.specs.Prelude.{Bool, true, false, [], ◌∷◌, map, Result, Ok, Err}
 use Rattle.std.specs.Str.{bytes_eq}
 use Rattle.sw_hashpath.specs.declared.name.Name.{Name}
-use Rattle.sw_peer.specs.Histories.{History}
-use Rattle.sw_peer.specs.Journals.{Hash, Journal, Shows}
-use Rattle.sw_peer.specs.declared.answer.Answer.{Answer}
-use Rattle.sw_peer.specs.declared.change.Change.{Change}
-use Rattle.sw_peer.specs.declared.dir_fault.DirFault.{DirFault}
-use Rattle.sw_peer.specs.declared.dir_fault.DirFault.TheVariants as faults
-use Rattle.sw_peer.specs.declared.got.Got.{Got}
-use Rattle.sw_peer.specs.declared.got.Got.TheVariants as gots
+use Rattle.sw_object_steps.specs.Flat.{History}
+use Rattle.sw_object_steps.specs.Journals.{Hash, Journal, Shows}
+use Rattle.sw_object_steps.specs.declared.answer.Answer.{Answer}
+use Rattle.sw_object_steps.specs.declared.change.Change.{Change}
+use Rattle.sw_object_steps.specs.declared.dir_fault.DirFault.{DirFault}
+use Rattle.sw_object_steps.specs.declared.dir_fault.DirFault.TheVariants as faults
+use Rattle.sw_object_steps.specs.declared.got.Got.{Got}
+use Rattle.sw_object_steps.specs.declared.got.Got.TheVariants as gots
 use Rattle.sw_state.specs.declared.state.State.{State}
 use Rattle.sw_step.specs.Steps.{IsDamaged, IsLost, IsWanting, Look, StepChanges, StepReads, Tells}
 use Rattle.sw_object_steps.specs.Rules.{ObjHistory, ObjJournal, Writes, flat_journal, obj_rules}
@@ -29,6 +29,11 @@ got_look (gots.NotFound time) = Tells
 got_look (gots.Damaged bad) = IsDamaged
 got_look gots.Failed = IsLost
 got_look gots.NoMemory = IsWanting
+
+-- whether memory was wanting
+abbrev pub is_wanting_by : Look → Bool
+is_wanting_by IsWanting = true
+is_wanting_by look = false
 
 -- a step that reads what stands under a hash: where the lock is told, the answer is that of one value
 abbrev pub ReadsObject : Bool → ObjHistory → Hash → Got → ObjHistory → (Hash → ObjValue) → Type 0

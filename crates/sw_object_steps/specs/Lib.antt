@@ -1,4 +1,12 @@
-pub mod Values
-pub mod Rules
+pub mod Briefs
+pub mod Flat
+pub mod Halves
 pub mod Histories
+pub mod Journals
 pub mod Laws
+pub mod OutlineLaws
+pub mod Outlines
+pub mod Parts
+pub mod Rules
+pub mod Steps
+pub mod Values

@@ -2,14 +2,14 @@
 use Rattle.std.specs.Prelude.{ℕ, Bool, true, List, [], ◌∷◌, Option}
 use Rattle.std.specs.Str.{bytes_eq}
 use Rattle.sw_hashpath.specs.declared.name.Name.{Name}
-use Rattle.sw_peer.specs.Journals.{Hash, Journal, has_room}
-use Rattle.sw_peer.specs.Outlines.{outline_of}
-use Rattle.sw_peer.specs.Steps.{made_answer, refusal_of, write_of}
-use Rattle.sw_peer.specs.declared.answer.Answer.{Answer}
-use Rattle.sw_peer.specs.declared.answer.Answer.TheVariants as answers
-use Rattle.sw_peer.specs.declared.change.Change.{Change}
-use Rattle.sw_peer.specs.declared.entry.ObjEntry.{ObjEntry}
-use Rattle.sw_peer.specs.declared.entry.ObjEntry.TheVariants.{Wrote}
+use Rattle.sw_object_steps.specs.Journals.{Hash, Journal, has_room}
+use Rattle.sw_object_steps.specs.Outlines.{outline_of}
+use Rattle.sw_object_steps.specs.Steps.{made_answer, refusal_of, write_of}
+use Rattle.sw_object_steps.specs.declared.answer.Answer.{Answer}
+use Rattle.sw_object_steps.specs.declared.answer.Answer.TheVariants as answers
+use Rattle.sw_object_steps.specs.declared.change.Change.{Change}
+use Rattle.sw_object_steps.specs.declared.entry.ObjEntry.{ObjEntry}
+use Rattle.sw_object_steps.specs.declared.entry.ObjEntry.TheVariants.{Wrote}
 use Rattle.sw_state.specs.States.{joined}
 use Rattle.sw_step.specs.Journals.{StepHistory, StepJournal, flat}
 use Rattle.sw_step.specs.Rules.{Damages, Ending, Fails, Makes, Overflows, Refuses, RulesOf, Wants}

@@ -1,7 +1,7 @@
 -- What stands under a hash: its state, and the records that are filed there. No record is filed yet. (This project's own.)
 use Rattle.std.specs.Prelude.{ℕ, List, Option, None}
 use Rattle.sw_hashpath.specs.declared.name.Name.{Name}
-use Rattle.sw_peer.specs.Journals.{Hash}
+use Rattle.sw_object_steps.specs.Journals.{Hash}
 use Rattle.sw_state.specs.declared.state.State.{State}
 
 -- where a record's file is: the hash of its own name, and its time

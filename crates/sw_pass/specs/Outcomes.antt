@@ -1,10 +1,10 @@
 -- What a pass came to, and what each event counts for. (This project's own.)
 use Rattle.std.specs.Prelude.{◌==◌, ℕ, Bool, true, false, Option, None, Some}
 use Rattle.sw_outside.specs.Counts.{raised}
-use Rattle.sw_peer.specs.declared.answer.Answer.{Answer}
-use Rattle.sw_peer.specs.declared.answer.Answer.TheVariants as answers
-use Rattle.sw_peer.specs.declared.dir_fault.DirFault.{DirFault}
-use Rattle.sw_peer.specs.declared.dir_fault.DirFault.TheVariants as faults
+use Rattle.sw_object_steps.specs.declared.answer.Answer.{Answer}
+use Rattle.sw_object_steps.specs.declared.answer.Answer.TheVariants as answers
+use Rattle.sw_object_steps.specs.declared.dir_fault.DirFault.{DirFault}
+use Rattle.sw_object_steps.specs.declared.dir_fault.DirFault.TheVariants as faults
 use Rattle.sw_pass.specs.declared.hindrance.Hindrance.{Hindrance}
 use Rattle.sw_pass.specs.declared.hindrance.Hindrance.TheVariants.{Failed, JournalFull, Missing}
 use Rattle.sw_pass.specs.declared.outcome.Outcome.{Outcome}

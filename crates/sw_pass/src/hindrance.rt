@@ -1,7 +1,7 @@
 ghost use Rattle.std.specs.Prelude.{◌≡◌};
 ghost use Rattle.sw_pass.specs.Outcomes.{answer_hindrance, fault_hindrance, status_of};
 
-use sw_peer::{Answer, DirFault};
+use sw_object_steps::{Answer, DirFault};
 
 /// An answer that hindered a pass.
 #[derive(Clone, Copy, Debug, PartialEq, Eq)]

@@ -1,11 +1,4 @@
-pub mod Briefs
 pub mod Carriage
 pub mod ContSights
-pub mod Histories
-pub mod Journals
-pub mod Laws
 pub mod Lines
-pub mod Outlines
-pub mod Parts
 pub mod Sights
-pub mod Steps

@@ -1,9 +1,9 @@
 -- What the line of a step tells of the entries that it added. (This project's own.)
 use Rattle.std.specs.Prelude.{ℕ, ◌-◌, List, [], length, take, if◌then◌else◌}
 use Rattle.sw_container_steps.specs.declared.cont_entry.ContEntry.{ContEntry}
-use Rattle.sw_peer.specs.Steps.{is_entered}
-use Rattle.sw_peer.specs.declared.answer.Answer.{Answer}
-use Rattle.sw_peer.specs.declared.entry.ObjEntry.{ObjEntry}
+use Rattle.sw_object_steps.specs.Steps.{is_entered}
+use Rattle.sw_object_steps.specs.declared.answer.Answer.{Answer}
+use Rattle.sw_object_steps.specs.declared.entry.ObjEntry.{ObjEntry}
 use Rattle.sw_peer.specs.declared.line.Event.{Event}
 use Rattle.sw_peer.specs.declared.line.Event.TheVariants as events
 use Rattle.sw_peer.specs.declared.line.Line.{Line}

@@ -2,33 +2,38 @@
 --
 -- What was seen of a lock only grows, and is known over every door: by one that is alone, one that loses and repeats messages, and one
 -- that shares the nodes with others. What the devices hold is known only where the door is alone.
-use Rattle.std.specs.Prelude.{◌≡◌, ◌≢◌, ⊤, ℕ, ◌≤◌, Bool, true, false, List, [], ◌∷◌, ◌++◌, length, suc, Option, ◌⊎◌, Result, Ok, Err}
+use Rattle.std.specs.Prelude.{◌≡◌, ◌≢◌, ⊤, ℕ, ◌≤◌, ◌==◌, Bool, true, false, ◌&&◌, List, [], ◌∷◌, ◌++◌, length, suc, Option, ◌⊎◌, Result, Ok, Err}
 use Rattle.std.specs.Option.{option_map}
+use Rattle.std.specs.Str.{bytes_eq}
 use Rattle.std.specs.declared.alloc.Global.{Global}
 use Rattle.std.specs.declared.vec.Vec.{Vec}
 use Rattle.sw_container_steps.specs.Halves.{ContHalf}
 use Rattle.sw_diskfile.specs.declared.file_name.FileName.{FileName}
-use Rattle.sw_hashpath.specs.HashParts.{IsDigest, partition_of, suffix_of}
+use Rattle.sw_hashpath.specs.HashParts.{partition_of, suffix_of}
+use Rattle.sw_hashpath.specs.declared.decode_error.BadFile.{BadFile}
 use Rattle.sw_hashpath.specs.declared.name.Name.{Name}
 use Rattle.sw_hashpath.specs.declared.place.Place.{Place}
 use Rattle.sw_hashpath.specs.declared.secrets.Secrets.{Secrets}
+use Rattle.sw_history.specs.Halves.{HalfMoves, HalfRestarts}
+use Rattle.sw_object_steps.specs.Halves.{ObjHalf}
+use Rattle.sw_object_steps.specs.Histories.{ChangesObject, ReadsObject, ReadsPart, got_look, is_wanting_by, part_look}
+use Rattle.sw_object_steps.specs.Journals.{Hash}
+use Rattle.sw_object_steps.specs.Parts.{AreHashes, AreLines, IsFile, IsOfPart}
+use Rattle.sw_object_steps.specs.Rules.{obj_ending, obj_rules}
+use Rattle.sw_object_steps.specs.declared.answer.Answer.{Answer}
+use Rattle.sw_object_steps.specs.declared.change.Change.{Change}
+use Rattle.sw_object_steps.specs.declared.dir_fault.DirFault.{DirFault}
+use Rattle.sw_object_steps.specs.declared.dir_fault.DirFault.TheVariants.{Damaged}
+use Rattle.sw_object_steps.specs.declared.got.Got.{Got}
+use Rattle.sw_object_steps.specs.declared.stored.Stored.{Stored}
 use Rattle.sw_outside.specs.Counts.{raised}
 use Rattle.sw_outside.specs.Faults.{HasRisen}
 use Rattle.sw_state.specs.declared.state.State.{State}
+use Rattle.sw_step.specs.Rules.{has_wanted}
+use Rattle.sw_step.specs.Steps.{added_by}
 use Rattle.sw_suffix.specs.declared.dir_line.DirLine.{DirLine}
 use Rattle.sw_suffix.specs.declared.told.SuffixHash.{SuffixHash}
 use Rattle.sw_peer.specs.Carriage.{Carriage, Carries}
-use Rattle.sw_history.specs.Halves.{Half, HalfMoves, HalfRestarts}
-use Rattle.sw_peer.specs.Histories.{StepChanges, StepReads}
-use Rattle.sw_peer.specs.Journals.{Hash}
-use Rattle.sw_peer.specs.Parts.{AreHashes, AreLines, IsFile, IsOfPart, StepReadsPart, is_wanting_part}
-use Rattle.sw_peer.specs.declared.answer.Answer.{Answer}
-use Rattle.sw_peer.specs.declared.answer.Answer.TheVariants as answers
-use Rattle.sw_peer.specs.declared.change.Change.{Change}
-use Rattle.sw_peer.specs.declared.dir_fault.DirFault.{DirFault}
-use Rattle.sw_peer.specs.declared.entry.ObjEntry.{ObjEntry}
-use Rattle.sw_peer.specs.declared.got.Got.{Got}
-use Rattle.sw_peer.specs.declared.got.Got.TheVariants as gots
 use Rattle.sw_peer.specs.declared.line.Event.TheVariants.{Changed, Listed, Read, ReadPart, Restarted}
 use Rattle.sw_peer.specs.declared.line.Line.{Line}
 use Rattle.sw_peer.specs.declared.link.Link.{Link}
@@ -36,7 +41,6 @@ use Rattle.sw_peer.specs.declared.link.Link.TheVariants.{Local, Sent}
 use Rattle.sw_peer.specs.declared.link.Lost.{Lost}
 use Rattle.sw_peer.specs.declared.part_read.PartRead.{PartRead}
 use Rattle.sw_peer.specs.declared.part_read.PartRead.TheVariants.{Files, Hashes, Write}
-use Rattle.sw_peer.specs.declared.part_read.Stored.{Stored}
 
 -- what never changes
 pub record Nodes : Type 0 where
@@ -48,11 +52,11 @@ pub record Nodes : Type 0 where
   pub fits_place : Place → Bool  -- the same of a container's place
   pub lock : ℕ → Hash → ℕ  -- which lock of a device the hash is under: a number for objects, and one for containers
   pub part_lock : ℕ → ℕ → ℕ  -- which lock of a device the partition is under: each is under one
-  pub one_lock : (device : ℕ) (hash : Hash) → IsDigest hash → lock device hash ≡ part_lock device (partition_of hash power)
+  pub one_lock : (device : ℕ) (hash : Hash) → lock device hash ≡ part_lock device (partition_of hash power)
 
 pub record Sight : Type 0 where
   pub nodes : Nodes
-  pub objects : Half Hash State ObjEntry ObjEntry
+  pub objects : ObjHalf
   pub containers : ContHalf
   pub alone : Bool  -- whether nobody else changes the nodes
   pub faults : ℕ  -- how many messages or answers were lost
@@ -88,32 +92,22 @@ abbrev pub Trails : Sight → Line → Bool → Sight → Type 0
 Trails old line wanting new = (new.trail ≡ option_map (λ lines. lines ++ line ∷ []) old.trail) ⊎ ((wanting ≡ true) × IsSame old new)
 
 abbrev pub is_wanting : Answer → Bool
-is_wanting (answers.Done front) = false
-is_wanting (answers.Buried front) = false
-is_wanting (answers.Conflict time) = false
-is_wanting (answers.NotFound time) = false
-is_wanting (answers.Mismatch second) = false
-is_wanting answers.Exists = false
-is_wanting answers.JournalFull = false
-is_wanting (answers.Damaged bad) = false
-is_wanting answers.Failed = false
-is_wanting answers.NoMemory = true
+is_wanting answer = has_wanted (obj_ending answer)
 
 abbrev pub is_wanting_read : Got → Bool
-is_wanting_read (gots.Found time content heads front) = false
-is_wanting_read (gots.NotFound time) = false
-is_wanting_read (gots.Damaged bad) = false
-is_wanting_read gots.Failed = false
-is_wanting_read gots.NoMemory = true
+is_wanting_read got = is_wanting_by (got_look got)
+
+abbrev pub is_wanting_part : {A : Type 0} → Result A DirFault → Bool
+is_wanting_part got = is_wanting_by (part_look got)
 
 -- ---- one step, as it comes to a device and is answered there
 
 -- a step that may change something
 pub record IsMade (link : Link) (device : ℕ) (name : Name) (change : Change) (old : Sight) (answer : Answer) (new : Sight) : Type 0 where
   pub moves : Moves (IsAt device name.hash) old new
-  pub step : StepChanges new.alone (old.objects.seen (old.nodes.lock device name.hash)) (old.objects.holds device name.hash) name change answer
+  pub step : ChangesObject new.alone (old.objects.seen (old.nodes.lock device name.hash)) (old.objects.holds device) name change answer
       (new.objects.seen (old.nodes.lock device name.hash)) (new.objects.holds device name.hash)
-  pub trail : Trails old (record { device = device; link = link; event = Changed name change answer; added = step.added }) (is_wanting answer) new
+  pub trail : Trails old (record { device = device; link = link; event = Changed name change answer; added = added_by obj_rules step }) (is_wanting answer) new
 
 -- every device holds what it held
 abbrev pub HoldsAll : Sight → Sight → Type 0
@@ -123,43 +117,55 @@ HoldsAll old new = new.alone ≡ true → (d : ℕ) (hash : Hash) → new.object
 pub record IsRead (link : Link) (device : ℕ) (name : Name) (old : Sight) (got : Got) (new : Sight) : Type 0 where
   pub moves : Moves (IsAt device name.hash) old new
   pub holds_all : HoldsAll old new
-  pub step : StepReads new.alone (old.objects.seen (old.nodes.lock device name.hash)) name.hash got
-      (new.objects.seen (old.nodes.lock device name.hash)) (new.objects.holds device name.hash)
-  pub trail : Trails old (record { device = device; link = link; event = Read name got; added = step.added }) (is_wanting_read got) new
+  pub step : ReadsObject new.alone (old.objects.seen (old.nodes.lock device name.hash)) name.hash got
+      (new.objects.seen (old.nodes.lock device name.hash)) (new.objects.holds device)
+  pub trail : Trails old (record { device = device; link = link; event = Read name got; added = step.follows.entries.0 }) (is_wanting_read got) new
 
 -- ---- one read of a partition, or of some hashes of it
 
 -- these hashes of a partition of one device
-abbrev pub IsInPart : ℕ → ℕ → ℕ → (Hash → Type 0) → ℕ → Hash → Type 0
-IsInPart power device part at d hash = (d ≡ device) × IsOfPart power part hash × at hash
+abbrev pub IsInPart : ℕ → ℕ → ℕ → (Hash → Bool) → ℕ → Hash → Type 0
+IsInPart power device part at d hash = (d ≡ device) × IsOfPart power part hash × (at hash ≡ true)
 
 -- what it keeps. Where its places are is told by the nodes, which never change
-abbrev pub PartMoves : ℕ → ℕ → (Hash → Type 0) → Sight → Sight → Type 0
+abbrev pub PartMoves : ℕ → ℕ → (Hash → Bool) → Sight → Sight → Type 0
 PartMoves device part at old new = Moves (IsInPart old.nodes.power device part at) old new
 
 module _ {A : Type 0} where
-  pub record IsPartRead (link : Link) (device part : ℕ) (at : Hash → Type 0) (damages : Bool) (reading : Nodes → Bool → (Hash → State) → A → Type 0)
+  -- the hashes `at` are read, and `reading` tells what is answered of them. Only a read that `damages` may find a file damaged
+  pub record IsPartRead (link : Link) (device part : ℕ) (at : Nodes → Hash → Bool) (damages : Bool) (reading : Nodes → Bool → (Hash → State) → A → Type 0)
       (read : Result A DirFault → PartRead) (old : Sight) (got : Result A DirFault) (new : Sight) : Type 0 where
-    pub moves : PartMoves device part at old new
+    pub moves : PartMoves device part (at old.nodes) old new
     pub holds_all : HoldsAll old new
-    pub step : StepReadsPart new.alone (old.objects.seen (old.nodes.part_lock device part)) (λ hash. IsOfPart old.nodes.power part hash × at hash) damages
-        (reading old.nodes) got
+    pub step : ReadsPart new.alone (old.objects.seen (old.nodes.part_lock device part)) (at old.nodes)
+        (reading old.nodes (new.objects.seen (old.nodes.part_lock device part)).told) got
         (new.objects.seen (old.nodes.part_lock device part)) (new.objects.holds device)
-    pub trail : Trails old (record { device = device; link = link; event = ReadPart (read got); added = step.added }) (is_wanting_part got) new
+    pub sound : (bad : BadFile) → got ≡ Err (Damaged bad) → damages ≡ true
+    pub trail : Trails old (record { device = device; link = link; event = ReadPart (read got); added = step.follows.entries.0 }) (is_wanting_part got) new
+
+-- the hashes of a partition, those of one of its suffixes, and one hash
+abbrev pub in_part : ℕ → Nodes → Hash → Bool
+in_part part nodes hash = partition_of hash nodes.power == part
+
+abbrev pub in_suffix : ℕ → ℕ → Nodes → Hash → Bool
+in_suffix part suffix nodes hash = (partition_of hash nodes.power == part) && (suffix_of hash == suffix)
+
+abbrev pub is_one : Hash → Nodes → Hash → Bool
+is_one hash nodes other = bytes_eq hash other
 
 -- of the hashes of all its suffixes
 abbrev pub IsHashesRead : Link → ℕ → ℕ → Sight → Result (Vec SuffixHash Global) DirFault → Sight → Type 0
-IsHashesRead link device part = IsPartRead link device part (λ hash. ⊤) false (λ nodes told s got. AreHashes nodes.power part told s got.items)
+IsHashesRead link device part = IsPartRead link device part (in_part part) false (λ nodes told s got. AreHashes nodes.power part told s got.items)
     (λ got. Hashes part got)
 
 -- of the files of one suffix
 abbrev pub IsFilesRead : Link → ℕ → ℕ → ℕ → Sight → Result (Vec DirLine Global) DirFault → Sight → Type 0
-IsFilesRead link device part suffix = IsPartRead link device part (λ hash. suffix_of hash ≡ suffix) false
+IsFilesRead link device part suffix = IsPartRead link device part (in_suffix part suffix) false
     (λ nodes told s got. AreLines nodes.power part suffix told s got.items) (λ got. Files part suffix got)
 
 -- of one file
 abbrev pub IsWriteRead : Link → ℕ → ℕ → Hash → FileName → Sight → Result (Option Stored) DirFault → Sight → Type 0
-IsWriteRead link device part hash file = IsPartRead link device part (λ other. other ≡ hash) true (λ nodes told s got. IsFile nodes.fits hash file told s got)
+IsWriteRead link device part hash file = IsPartRead link device part (is_one hash) true (λ nodes told s got. IsFile nodes.fits hash file told s got)
     (λ got. Write part hash file got)
 
 -- how many messages asked for hashes or files, after a call that does
@@ -199,25 +205,11 @@ pub record IsListed (device : ℕ) (failed : Bool) (old new : Sight) : Type 0 wh
   pub counts : (new.faults ≡ old.faults) × (new.asks ≡ old.asks)
   pub trail : new.trail ≡ option_map (λ lines. lines ++ record { device = device; link = Local; event = Listed failed; added = [] } ∷ []) old.trail
 
--- It was restarted. Each lock of the device begins anew with what stands there, doubts that were made included. Where a lock told its contents, it tells
--- them still, and what stands is what stood; a lock that told none may tell them from now on. The same holds of its locks of containers.
+-- It was restarted: each of its locks of objects and of containers begins anew with what stands there.
 pub record Restarts (device : ℕ) (old new : Sight) : Type 0 where
   pub nodes : new.nodes ≡ old.nodes
-  pub others : (d : ℕ) (hash : Hash) → d ≢ device → new.objects.seen (old.nodes.lock d hash) ≡ old.objects.seen (old.nodes.lock d hash)
-  pub told : (hash : Hash) → (old.objects.seen (old.nodes.lock device hash)).told ≡ true → (new.objects.seen (old.nodes.lock device hash)).told ≡ true
-  pub opening : new.alone ≡ true → (hash : Hash) → (old.objects.seen (old.nodes.lock device hash)).told ≡ true
-      → (new.objects.seen (old.nodes.lock device hash)).opening hash ≡ old.objects.holds device hash
-  pub entries : (hash : Hash) → (new.objects.seen (old.nodes.lock device hash)).journal.entries ≡ []
-  pub doubts : (hash : Hash) → (new.objects.seen (old.nodes.lock device hash)).journal.doubts ≡ []
-  pub max_entries : (hash : Hash) → (new.objects.seen (old.nodes.lock device hash)).journal.max_entries ≡
-      (old.objects.seen (old.nodes.lock device hash)).journal.max_entries
-  pub max_bytes : (hash : Hash) → (new.objects.seen (old.nodes.lock device hash)).journal.max_bytes ≡
-      (old.objects.seen (old.nodes.lock device hash)).journal.max_bytes
-  pub faults : (hash : Hash) → (old.objects.seen (old.nodes.lock device hash)).faults ≤ (new.objects.seen (old.nodes.lock device hash)).faults
-  pub holds : new.alone ≡ true → (hash : Hash) → (old.objects.seen (old.nodes.lock device hash)).told ≡ true →
-      new.objects.holds device hash ≡ old.objects.holds device hash
-  pub elsewhere : new.alone ≡ true → (d : ℕ) (hash : Hash) → d ≢ device → new.objects.holds d hash ≡ old.objects.holds d hash
-  pub alone : new.alone ≡ old.alone
+  pub objects : HalfRestarts old.nodes.lock new.alone device old.objects new.objects
   pub containers : HalfRestarts (cont_lock old.nodes) new.alone device old.containers new.containers
+  pub alone : new.alone ≡ old.alone
   pub counts : (new.faults ≡ old.faults) × (new.asks ≡ old.asks)
   pub trail : new.trail ≡ option_map (λ lines. lines ++ record { device = device; link = Local; event = Restarted; added = [] } ∷ []) old.trail

@@ -1,12 +1,12 @@
 ghost use Rattle.std.specs.Prelude.{◌≡◌, [], map};
 ghost use Rattle.sw_peer.specs.Lines.{entered_in, settled_in};
-ghost use Rattle.sw_peer.specs.Briefs.{brief_of};
+ghost use Rattle.sw_object_steps.specs.Briefs.{brief_of};
 
-use crate::entry::Brief;
 use crate::line::Line;
 use std::alloc::Global;
 use std::marker::Model;
 use sw_container_steps::{ContEntry, ContEntryList};
+use sw_object_steps::Brief;
 
 /// A line as the keeper of all nodes keeps it. Contracts see the line. Beside it stands what a trail prints of the doubts that its step settled, where
 /// the doubted writes had been made, and the entries that a step at a container added. A step at an object adds its own write last.
@@ -21,7 +21,7 @@ impl Model for KeptLine {
     ghost use Rattle.std.specs.Prelude.{◌≡◌, [], map};
     ghost use Rattle.std.specs.Option.{option_map_or};
     ghost use Rattle.sw_peer.specs.Lines.{entered_in, settled_in};
-    ghost use Rattle.sw_peer.specs.Briefs.{brief_of};
+    ghost use Rattle.sw_object_steps.specs.Briefs.{brief_of};
     ghost use Rattle.sw_peer.specs.declared.line.Line.{Line};
 
     ghost Value = { Line };

@@ -1,13 +1,10 @@
-use crate::answer::Answer;
-use crate::change_seen::ChangeSeen;
 use crate::cont_event::ContEvent;
-use crate::entry::Added;
-use crate::got::Got;
 use crate::link::Link;
 use crate::part_read::PartRead;
 use sw_container_steps::ContEntryList;
 use sw_hashpath::Name;
 use sw_history::Seen;
+use sw_object_steps::{Added, Answer, ChangeSeen, Got};
 
 /// What a step asked for, and what it was answered. Bodies are seen by contracts alone, so that a line has no bytes of them.
 #[derive(Drop)]

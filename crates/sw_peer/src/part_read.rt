@@ -1,16 +1,7 @@
-use crate::dir_fault::DirFault;
 use sw_diskfile::FileName;
-use sw_hashpath::Name;
 use sw_history::Seen;
-use sw_state::Write;
+use sw_object_steps::{DirFault, Stored};
 use sw_suffix::{DirLine, SuffixHash};
-
-/// A write as a device keeps it: with the name that it is of.
-#[derive(Debug, Drop)]
-pub struct Stored {
-    pub name: Name,
-    pub write: Write,
-}
 
 /// A read of a partition, and what it was answered. Contracts alone see the answers.
 #[derive(Drop)]

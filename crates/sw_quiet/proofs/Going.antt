@@ -6,7 +6,7 @@ use Rattle.sw_object_machine.proofs.Standing.{change_runs, files_runs, hashes_ru
 use Rattle.sw_object_machine.specs.Doors.{StandsFor}
 use Rattle.sw_object_machine.specs.Machine.{Machine, MachineComes, Runs}
 use Rattle.sw_peer.specs.Sights.{IsFilesRead, IsHashesRead, IsMade, IsRead, IsSame, IsWriteRead, Nodes, Sight}
-use Rattle.sw_peer.specs.declared.entry.ObjEntry.{ObjEntry}
+use Rattle.sw_object_steps.specs.declared.entry.ObjEntry.{ObjEntry}
 use Rattle.sw_peer.specs.declared.line.Event.{Event}
 use Rattle.sw_peer.specs.declared.line.Event.TheVariants.{Changed, Read, ReadPart}
 use Rattle.sw_peer.specs.declared.link.Link.TheVariants.{Local}

@@ -6,12 +6,12 @@ use Rattle.sw_core.specs.Worlds.{AllNodes, SetsDown, restart_line, sight_of}
 use Rattle.sw_diskfile.specs.declared.file_name.FileName.{FileName}
 use Rattle.sw_hashpath.specs.HashParts.{suffix_of}
 use Rattle.sw_hashpath.specs.declared.name.Name.{Name}
-use Rattle.sw_peer.specs.Journals.{Hash}
-use Rattle.sw_peer.specs.Parts.{AreHashes, AreLines, IsFile}
+use Rattle.sw_object_steps.specs.Journals.{Hash}
+use Rattle.sw_object_steps.specs.Parts.{AreHashes, AreLines, IsFile}
 use Rattle.sw_peer.specs.Sights.{Calls, Comes, IsAt, IsFilesRead, IsHashesRead, IsInPart, IsMade, IsPartRead, IsRead, IsSame, IsWriteRead}
 use Rattle.sw_peer.specs.Sights.{Moves, Nodes, Restarts, Sight}
-use Rattle.sw_peer.specs.declared.change.Change.{Change}
-use Rattle.sw_peer.specs.declared.dir_fault.DirFault.{DirFault}
+use Rattle.sw_object_steps.specs.declared.change.Change.{Change}
+use Rattle.sw_object_steps.specs.declared.dir_fault.DirFault.{DirFault}
 use Rattle.sw_peer.specs.declared.link.Link.{Link}
 use Rattle.sw_peer.specs.declared.link.Lost.{Lost}
 use Rattle.sw_peer.specs.declared.part_read.PartRead.{PartRead}

@@ -7,19 +7,19 @@ use Rattle.sw_object_machine.specs.Machine.{Came, Machine, RunLine, Runs}
 use Rattle.sw_core.specs.Worlds.{AllNodes, Lifts}
 use Rattle.sw_diskfile.specs.declared.file_name.FileName.{FileName}
 use Rattle.sw_hashpath.specs.declared.name.Name.{Name}
-use Rattle.sw_peer.specs.Journals.{Hash}
-use Rattle.sw_peer.specs.Parts.{IsOfPart}
+use Rattle.sw_object_steps.specs.Journals.{Hash}
+use Rattle.sw_object_steps.specs.Parts.{IsOfPart}
 use Rattle.sw_peer.specs.Sights.{Calls, IsFilesRead, IsHashesRead, IsMade, IsRead, IsWriteRead, Restarts, Sight}
-use Rattle.sw_peer.specs.declared.answer.Answer.{Answer}
-use Rattle.sw_peer.specs.declared.change.Change.{Change}
-use Rattle.sw_peer.specs.declared.dir_fault.DirFault.{DirFault}
-use Rattle.sw_peer.specs.declared.entry.ObjEntry.{ObjEntry}
-use Rattle.sw_peer.specs.declared.got.Got.{Got}
+use Rattle.sw_object_steps.specs.declared.answer.Answer.{Answer}
+use Rattle.sw_object_steps.specs.declared.change.Change.{Change}
+use Rattle.sw_object_steps.specs.declared.dir_fault.DirFault.{DirFault}
+use Rattle.sw_object_steps.specs.declared.entry.ObjEntry.{ObjEntry}
+use Rattle.sw_object_steps.specs.declared.got.Got.{Got}
 use Rattle.sw_peer.specs.declared.line.Event.{Event}
 use Rattle.sw_peer.specs.declared.line.Event.TheVariants.{Changed, Read, ReadPart, Restarted}
 use Rattle.sw_peer.specs.declared.link.Link.TheVariants.{Local}
 use Rattle.sw_peer.specs.declared.part_read.PartRead.TheVariants.{Files, Hashes, Write}
-use Rattle.sw_peer.specs.declared.part_read.Stored.{Stored}
+use Rattle.sw_object_steps.specs.declared.stored.Stored.{Stored}
 use Rattle.sw_suffix.specs.declared.dir_line.DirLine.{DirLine}
 use Rattle.sw_suffix.specs.declared.told.SuffixHash.{SuffixHash}
 use Rattle.sw_volume.specs.Tree.{Folders}

@@ -6,10 +6,10 @@ use Rattle.std.specs.declared.vec.Vec.{Vec}
 use Rattle.sw_hashpath.specs.HashParts.{suffix_of}
 use Rattle.sw_object_server.specs.Serving.{IsStepped}
 use Rattle.sw_peer.proofs.Calls.{calls-moves, part-step}
-use Rattle.sw_peer.specs.Journals.{Hash}
-use Rattle.sw_peer.specs.Parts.{AreHashes, AreLines}
+use Rattle.sw_object_steps.specs.Journals.{Hash}
+use Rattle.sw_object_steps.specs.Parts.{AreHashes, AreLines}
 use Rattle.sw_peer.specs.Sights.{Comes, HoldsAll, IsFilesRead, IsHashesRead, IsPartRead, Nodes, PartMoves, Sight}
-use Rattle.sw_peer.specs.declared.dir_fault.DirFault.{DirFault}
+use Rattle.sw_object_steps.specs.declared.dir_fault.DirFault.{DirFault}
 use Rattle.sw_peer.specs.declared.link.Link.TheVariants.{Local}
 use Rattle.sw_peer.specs.declared.part_read.PartRead.{PartRead}
 use Rattle.sw_peer.specs.declared.part_read.PartRead.TheVariants as reads

@@ -8,7 +8,7 @@ use Rattle.sw_hashpath.specs.HashParts.{suffix_of}
 use Rattle.sw_object_server.specs.Serving.{IsStepped}
 use Rattle.sw_peer.proofs.Calls.{calls-moves, files-step}
 use Rattle.sw_peer.specs.Sights.{IsFilesRead, PartMoves, Sight}
-use Rattle.sw_peer.specs.declared.dir_fault.DirFault.{DirFault}
+use Rattle.sw_object_steps.specs.declared.dir_fault.DirFault.{DirFault}
 use Rattle.sw_peer.specs.declared.link.Link.TheVariants.{Local}
 use Rattle.sw_suffix.specs.declared.dir_line.DirLine.{DirLine}
 use Rattle.sw_replica_server.specs.Serving.{AreFilesRead, AreSomeRead, IsStopped}

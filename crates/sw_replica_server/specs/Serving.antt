@@ -10,7 +10,7 @@ use Rattle.sw_message.specs.declared.response.Response.{Response}
 use Rattle.sw_object_server.specs.Replies.{bare}
 use Rattle.sw_object_server.specs.Serving.{IsStepped}
 use Rattle.sw_peer.specs.Sights.{IsFilesRead, IsHashesRead, Sight}
-use Rattle.sw_peer.specs.declared.dir_fault.DirFault.{DirFault}
+use Rattle.sw_object_steps.specs.declared.dir_fault.DirFault.{DirFault}
 use Rattle.sw_peer.specs.declared.link.Link.TheVariants.{Local}
 use Rattle.sw_ring.specs.declared.ring.Ring.{Ring}
 use Rattle.sw_suffix.specs.declared.dir_line.DirLine.{DirLine}

@@ -13,7 +13,8 @@ use std::alloc::Global;
 use sw_message::{Request, Response};
 use sw_object_server::bare;
 use sw_outside::NoMemory;
-use sw_peer::{DirFault, Link, Lost, ReplicaDoor};
+use sw_object_steps::DirFault;
+use sw_peer::{Link, Lost, ReplicaDoor};
 use sw_ring::Ring;
 use sw_suffix::DirLine;
 

@@ -8,8 +8,8 @@ use Rattle.sw_outside.specs.Counts.{raised}
 use Rattle.sw_pass.specs.Outcomes.{asking, finished, nothing_yet}
 use Rattle.sw_pass.specs.declared.hindrance.Hindrance.{Hindrance}
 use Rattle.sw_pass.specs.declared.outcome.Outcome.{Outcome}
-use Rattle.sw_peer.specs.Histories.{stands}
-use Rattle.sw_peer.specs.Parts.{AreHashes}
+use Rattle.sw_object_steps.specs.Flat.{stands}
+use Rattle.sw_object_steps.specs.Parts.{AreHashes}
 use Rattle.sw_peer.specs.Sights.{Calls, IsHashesRead, Nodes, Sight}
 use Rattle.sw_peer.specs.declared.link.Link.TheVariants.{Local, Sent}
 use Rattle.sw_replicator.proofs.Reading.{hashes-pair, hashes-told, later, pair-trans}

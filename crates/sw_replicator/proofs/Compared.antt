@@ -15,9 +15,9 @@ use Rattle.std.specs.declared.cmp.Ordering.TheVariants.{Less, Equal}
 use Rattle.sw_diskfile.specs.StateFiles.{picked_of}
 use Rattle.sw_diskfile.specs.declared.file_name.FileName.{FileName}
 use Rattle.sw_diskfile.specs.declared.picking.Picked.{Picked}
-use Rattle.sw_peer.proofs.Hashes.{hash-other, hash-same}
-use Rattle.sw_peer.specs.Journals.{Hash}
-use Rattle.sw_peer.specs.Parts.{Counts, md5_in, nothing_picked, picked_in, suffix_md5}
+use Rattle.sw_object_steps.proofs.Hashes.{hash-other, hash-same}
+use Rattle.sw_object_steps.specs.Journals.{Hash}
+use Rattle.sw_object_steps.specs.Parts.{Counts, md5_in, nothing_picked, picked_in, suffix_md5}
 use Rattle.sw_replicator.specs.Pushing.{differing, is_same_md5}
 use Rattle.sw_suffix.proofs.Lines.{lines_from_text}
 use Rattle.sw_suffix.specs.SuffixLines.{AreSuffixLines}

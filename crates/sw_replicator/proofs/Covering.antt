@@ -6,9 +6,9 @@ use Rattle.sw_diskfile.specs.StateFiles.{picked_of}
 use Rattle.sw_diskfile.specs.declared.file_name.FileName.{FileName}
 use Rattle.sw_diskfile.specs.declared.picking.Picked.{Picked}
 use Rattle.sw_hashpath.specs.HashParts.{partition_of, suffix_of}
-use Rattle.sw_peer.specs.Histories.{stands}
-use Rattle.sw_peer.specs.Journals.{Hash}
-use Rattle.sw_peer.specs.Parts.{AreHashes, AreLines, Counts, IsOfPart, md5_in, picked_in, suffix_md5}
+use Rattle.sw_object_steps.specs.Flat.{stands}
+use Rattle.sw_object_steps.specs.Journals.{Hash}
+use Rattle.sw_object_steps.specs.Parts.{AreHashes, AreLines, Counts, IsOfPart, md5_in, picked_in, suffix_md5}
 use Rattle.sw_peer.specs.Sights.{HoldsAll, Nodes, Sight}
 use Rattle.sw_peer.specs.declared.link.Link.TheVariants.{Local, Sent}
 use Rattle.sw_replicator.proofs.Compared.{Among, IsPicked, Verdict, all-both, all-map, compared, files-count, own-lines, picked-at}

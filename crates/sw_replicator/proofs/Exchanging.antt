@@ -1,8 +1,8 @@
 -- Two pushes that are done, there and back.
 use Rattle.std.proofs.Common.{◌≡◌, ℕ, ◌++◌, sym, ◌∙◌, ap, subst, ◌⊎◌, inl, inr}
 use Rattle.sw_hashpath.specs.HashParts.{suffix_of}
-use Rattle.sw_peer.specs.Journals.{Hash}
-use Rattle.sw_peer.specs.Parts.{IsOfPart}
+use Rattle.sw_object_steps.specs.Journals.{Hash}
+use Rattle.sw_object_steps.specs.Parts.{IsOfPart}
 use Rattle.sw_peer.specs.Sights.{Nodes, Sight}
 use Rattle.sw_replicator.proofs.Meeting.{push-meets}
 use Rattle.sw_replicator.specs.Laws.{CollidesOnce, ExchangeAgrees, ExchangeMeets, HoldSame, IsExchange}

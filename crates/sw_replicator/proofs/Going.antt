@@ -9,16 +9,16 @@ use Rattle.sw_pass.specs.Outcomes.{answer_hindrance, asking, fault_hindrance, hi
 use Rattle.sw_pass.specs.declared.hindrance.Hindrance.{Hindrance}
 use Rattle.sw_pass.specs.declared.hindrance.Hindrance.TheVariants.{Missing}
 use Rattle.sw_pass.specs.declared.outcome.Outcome.{Outcome}
-use Rattle.sw_peer.specs.Journals.{Hash}
-use Rattle.sw_peer.specs.Parts.{picked_in}
+use Rattle.sw_object_steps.specs.Journals.{Hash}
+use Rattle.sw_object_steps.specs.Parts.{picked_in}
 use Rattle.sw_peer.specs.Sights.{Calls, IsFilesRead, IsHashesRead, IsMade, IsWriteRead, Sight}
-use Rattle.sw_peer.specs.Steps.{is_held}
-use Rattle.sw_peer.specs.declared.answer.Answer.{Answer}
-use Rattle.sw_peer.specs.declared.change.Change.TheVariants.{Receive}
-use Rattle.sw_peer.specs.declared.dir_fault.DirFault.{DirFault}
+use Rattle.sw_object_steps.specs.Steps.{is_held}
+use Rattle.sw_object_steps.specs.declared.answer.Answer.{Answer}
+use Rattle.sw_object_steps.specs.declared.change.Change.TheVariants.{Receive}
+use Rattle.sw_object_steps.specs.declared.dir_fault.DirFault.{DirFault}
 use Rattle.sw_peer.specs.declared.link.Link.TheVariants.{Local, Sent}
 use Rattle.sw_peer.specs.declared.link.Lost.{Lost}
-use Rattle.sw_peer.specs.declared.part_read.Stored.{Stored}
+use Rattle.sw_object_steps.specs.declared.stored.Stored.{Stored}
 use Rattle.sw_replicator.specs.Pushing.{CountsFor, Hinders, InTurn, IsAskedNext, IsBeside, IsCompared, IsFilePushed, IsLinePushed}
 use Rattle.sw_replicator.specs.Pushing.{IsOursPushed, IsPassedOn, IsRun, IsSuffixPushed, differing, is_wanted}
 use Rattle.sw_suffix.specs.SuffixTexts.{files}

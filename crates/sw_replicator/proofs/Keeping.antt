@@ -15,16 +15,16 @@ use Rattle.sw_pass.specs.Outcomes.{answer_hindrance, asking, fault_hindrance, fi
 use Rattle.sw_pass.specs.declared.hindrance.Hindrance.{Hindrance}
 use Rattle.sw_pass.specs.declared.hindrance.Hindrance.TheVariants.{Missing}
 use Rattle.sw_pass.specs.declared.outcome.Outcome.{Outcome}
-use Rattle.sw_peer.specs.Journals.{Hash}
-use Rattle.sw_peer.specs.Parts.{IsOfPart, picked_in}
+use Rattle.sw_object_steps.specs.Journals.{Hash}
+use Rattle.sw_object_steps.specs.Parts.{IsOfPart, picked_in}
 use Rattle.sw_peer.specs.Sights.{Calls, IsFilesRead, IsHashesRead, IsMade, IsWriteRead, Nodes, Sight}
-use Rattle.sw_peer.specs.declared.answer.Answer.{Answer}
-use Rattle.sw_peer.specs.declared.change.Change.{Change}
-use Rattle.sw_peer.specs.declared.change.Change.TheVariants.{Receive}
-use Rattle.sw_peer.specs.declared.dir_fault.DirFault.{DirFault}
+use Rattle.sw_object_steps.specs.declared.answer.Answer.{Answer}
+use Rattle.sw_object_steps.specs.declared.change.Change.{Change}
+use Rattle.sw_object_steps.specs.declared.change.Change.TheVariants.{Receive}
+use Rattle.sw_object_steps.specs.declared.dir_fault.DirFault.{DirFault}
 use Rattle.sw_peer.specs.declared.link.Link.TheVariants.{Local, Sent}
 use Rattle.sw_peer.specs.declared.link.Lost.{Lost}
-use Rattle.sw_peer.specs.declared.part_read.Stored.{Stored}
+use Rattle.sw_object_steps.specs.declared.stored.Stored.{Stored}
 use Rattle.sw_replicator.proofs.Reading.{files-pair, hashes-pair, lines-within, made-pair, pair-same, pair-trans, write-move, write-pair, write-told}
 use Rattle.sw_replicator.specs.Causes.{HasCauses}
 use Rattle.sw_replicator.specs.Meeting.{PairMoves}

@@ -1,18 +1,19 @@
 -- What a transfer that was acknowledged leaves at the receiver.
 use Rattle.std.proofs.Common.{◌≡◌, ℕ, Bool, true, false, List, [], ◌∷◌, ◌++◌, refl, sym, ◌∙◌, ap, subst, ◌⊎◌, inl, inr, Ok}
 use Rattle.sw_hashpath.specs.declared.name.Name.{Name}
-use Rattle.sw_peer.proofs.Answering.{refused-held}
+use Rattle.sw_object_steps.proofs.Answering.{refused-held}
 use Rattle.sw_peer.proofs.Calls.{calls-moves, comes-moves, made-step}
-use Rattle.sw_peer.proofs.Hashes.{left, left-entered}
-use Rattle.sw_peer.specs.Histories.{History, StepChanges, stands}
-use Rattle.sw_peer.specs.Journals.{Answers, Hash, Journal, has_settled, left_by, with_entry}
-use Rattle.sw_peer.specs.Parts.{IsOfPart}
+use Rattle.sw_object_steps.proofs.Hashes.{left, left-entered}
+use Rattle.sw_object_steps.specs.Flat.{History, StepChanges, stands}
+use Rattle.sw_object_steps.specs.Journals.{Hash, Journal}
+use Rattle.sw_object_steps.specs.Flat.{Answers, has_settled, left_by, with_entry}
+use Rattle.sw_object_steps.specs.Parts.{IsOfPart}
 use Rattle.sw_peer.specs.Sights.{Calls, Comes, IsAt, IsMade, Moves}
 use Rattle.sw_peer.specs.Sights.{Nodes, Sight}
-use Rattle.sw_peer.specs.Steps.{is_held}
-use Rattle.sw_peer.specs.declared.answer.Answer.{Answer}
-use Rattle.sw_peer.specs.declared.answer.Answer.TheVariants as answers
-use Rattle.sw_peer.specs.declared.change.Change.TheVariants.{Receive}
+use Rattle.sw_object_steps.specs.Steps.{is_held}
+use Rattle.sw_object_steps.specs.declared.answer.Answer.{Answer}
+use Rattle.sw_object_steps.specs.declared.answer.Answer.TheVariants as answers
+use Rattle.sw_object_steps.specs.declared.change.Change.TheVariants.{Receive}
 use Rattle.sw_peer.specs.declared.link.Link.TheVariants.{Sent}
 use Rattle.sw_replicator.proofs.Reading.{last, same-holds}
 use Rattle.sw_replicator.proofs.Taking.{grown-least, least-keeps}

@@ -7,10 +7,10 @@ use Rattle.sw_diskfile.specs.declared.file_name.FileName.{FileName}
 use Rattle.sw_hashpath.specs.HashParts.{suffix_of}
 use Rattle.sw_pass.specs.declared.outcome.Outcome.{Outcome}
 use Rattle.sw_peer.proofs.Calls.{moves-refl}
-use Rattle.sw_peer.proofs.Hashes.{hash-apart, hash-same}
-use Rattle.sw_peer.specs.Histories.{stands}
-use Rattle.sw_peer.specs.Journals.{Hash}
-use Rattle.sw_peer.specs.Parts.{Counts, IsOfPart}
+use Rattle.sw_object_steps.proofs.Hashes.{hash-apart, hash-same}
+use Rattle.sw_object_steps.specs.Flat.{stands}
+use Rattle.sw_object_steps.specs.Journals.{Hash}
+use Rattle.sw_object_steps.specs.Parts.{Counts, IsOfPart}
 use Rattle.sw_peer.specs.Sights.{HoldsAll, IsAt, Sight}
 use Rattle.sw_replicator.proofs.Covering.{Watches, run-covers}
 use Rattle.sw_replicator.proofs.Going.{Passes}

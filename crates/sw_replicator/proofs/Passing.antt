@@ -1,11 +1,11 @@
 -- A file that was read, sent and acknowledged.
 use Rattle.std.proofs.Common.{◌≡◌, ℕ, true, refl, sym, ◌∙◌, subst, inl, Some, Ok}
 use Rattle.sw_diskfile.specs.declared.file_name.FileName.{FileName}
-use Rattle.sw_peer.specs.Histories.{stands}
-use Rattle.sw_peer.specs.Journals.{Hash}
-use Rattle.sw_peer.specs.Parts.{IsOfPart, IsStored}
+use Rattle.sw_object_steps.specs.Flat.{stands}
+use Rattle.sw_object_steps.specs.Journals.{Hash}
+use Rattle.sw_object_steps.specs.Parts.{IsOfPart, IsStored}
 use Rattle.sw_peer.specs.Sights.{Nodes, Sight}
-use Rattle.sw_peer.specs.declared.change.Change.TheVariants.{Receive}
+use Rattle.sw_object_steps.specs.declared.change.Change.TheVariants.{Receive}
 use Rattle.sw_replicator.proofs.Going.{Passes}
 use Rattle.sw_replicator.proofs.Making.{made-stands}
 use Rattle.sw_replicator.proofs.Reading.{made-pair, pair-trans, write-pair, write-told}

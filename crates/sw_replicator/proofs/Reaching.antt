@@ -2,8 +2,8 @@
 use Rattle.std.proofs.Common.{◌≡◌, ℕ, ◌==◌, true, refl, sym, ◌∙◌, ap, subst, inl, inr, Ok}
 use Rattle.std.proofs.lemmas.Bool.Decides.{Decides-eqb}
 use Rattle.sw_pass.specs.declared.outcome.Outcome.{Outcome}
-use Rattle.sw_peer.specs.Histories.{stands}
-use Rattle.sw_peer.specs.Journals.{Hash}
+use Rattle.sw_object_steps.specs.Flat.{stands}
+use Rattle.sw_object_steps.specs.Journals.{Hash}
 use Rattle.sw_peer.specs.Sights.{Sight}
 use Rattle.sw_peer.proofs.Calls.{moves-refl}
 use Rattle.sw_replicator.proofs.Covering.{Watches, run-covers}

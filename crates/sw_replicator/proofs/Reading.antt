@@ -9,20 +9,20 @@ use Rattle.sw_diskfile.specs.declared.file_name.FileName.{FileName}
 use Rattle.sw_hashpath.specs.HashParts.{suffix_of}
 use Rattle.sw_hashpath.specs.declared.name.Name.{Name}
 use Rattle.sw_peer.proofs.Calls.{IsStep, calls-moves, comes-moves, made-step, moves-refl, moves-trans, moves-wider, part-step, same-refl}
-use Rattle.sw_peer.specs.Histories.{Grows, History, stands}
-use Rattle.sw_peer.specs.Journals.{Hash}
-use Rattle.sw_peer.specs.Parts.{AreHashes, AreLines, IsFile, IsOfPart}
+use Rattle.sw_object_steps.specs.Flat.{Grows, History, stands}
+use Rattle.sw_object_steps.specs.Journals.{Hash}
+use Rattle.sw_object_steps.specs.Parts.{AreHashes, AreLines, IsFile, IsOfPart}
 use Rattle.sw_peer.specs.Sights.{Calls, Comes, HoldsAll, IsAt, IsFilesRead, IsHashesRead, IsInPart, IsMade, IsPartRead, IsSame, IsWriteRead, Moves}
 use Rattle.sw_peer.specs.Sights.{Nodes, PartMoves, Sight}
-use Rattle.sw_peer.specs.declared.answer.Answer.{Answer}
-use Rattle.sw_peer.specs.declared.change.Change.{Change}
-use Rattle.sw_peer.specs.declared.dir_fault.DirFault.{DirFault}
+use Rattle.sw_object_steps.specs.declared.answer.Answer.{Answer}
+use Rattle.sw_object_steps.specs.declared.change.Change.{Change}
+use Rattle.sw_object_steps.specs.declared.dir_fault.DirFault.{DirFault}
 use Rattle.sw_peer.specs.declared.link.Link.{Link}
 use Rattle.sw_peer.specs.declared.link.Link.TheVariants.{Local, Sent}
 use Rattle.sw_peer.specs.declared.link.Lost.{Lost}
 use Rattle.sw_peer.specs.declared.part_read.PartRead.{PartRead}
 use Rattle.sw_peer.specs.declared.part_read.PartRead.TheVariants.{Files, Hashes, Write}
-use Rattle.sw_peer.specs.declared.part_read.Stored.{Stored}
+use Rattle.sw_object_steps.specs.declared.stored.Stored.{Stored}
 use Rattle.sw_replicator.proofs.Taking.{grown-least}
 use Rattle.sw_replicator.specs.Meeting.{IsOfPair, PairMoves, known}
 use Rattle.sw_state.specs.States.{IsAtLeast}

@@ -7,13 +7,13 @@ use Rattle.std.specs.Option.{option_map, option_to_list}
 use Rattle.sw_diskfile.specs.StateFiles.{name_of, picked_of}
 use Rattle.sw_diskfile.specs.declared.file_name.FileName.{FileName}
 use Rattle.sw_diskfile.specs.declared.picking.Picked.{Picked}
-use Rattle.sw_peer.proofs.Answering.{outline-new}
-use Rattle.sw_peer.proofs.Hashes.{written-append}
-use Rattle.sw_peer.specs.Histories.{Grows, History, stands}
-use Rattle.sw_peer.specs.Journals.{Hash, written}
-use Rattle.sw_peer.specs.Outlines.{file_mark, is_new_to, mark_of, outline_of, picked_outline}
-use Rattle.sw_peer.specs.declared.entry.ObjEntry.{ObjEntry}
-use Rattle.sw_peer.specs.declared.outline.Outline.{Outline}
+use Rattle.sw_object_steps.proofs.Answering.{outline-new}
+use Rattle.sw_object_steps.proofs.Hashes.{written-append}
+use Rattle.sw_object_steps.specs.Flat.{Grows, History, stands}
+use Rattle.sw_object_steps.specs.Journals.{Hash, written}
+use Rattle.sw_object_steps.specs.Outlines.{file_mark, is_new_to, mark_of, outline_of, picked_outline}
+use Rattle.sw_object_steps.specs.declared.entry.ObjEntry.{ObjEntry}
+use Rattle.sw_object_steps.specs.declared.outline.Outline.{Outline}
 use Rattle.sw_replicator.specs.Pushing.{is_wanted}
 use Rattle.sw_state.proofs.JoinLaws.{at_least_one_write, at_least_transitive, join_is_at_least}
 use Rattle.sw_state.proofs.StateLaws.{joins_lists, state_of-writes_of}

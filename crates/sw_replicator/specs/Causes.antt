@@ -3,8 +3,8 @@ use Rattle.std.specs.Prelude.{◌≡◌, ◌≢◌, ◌==◌, ℕ, ◌+◌, ◌-
 use Rattle.sw_outside.specs.Faults.{HasRisen}
 use Rattle.sw_pass.specs.declared.hindrance.Hindrance.{Hindrance}
 use Rattle.sw_pass.specs.declared.outcome.Outcome.{Outcome}
-use Rattle.sw_peer.specs.Histories.{History, stands}
-use Rattle.sw_peer.specs.Parts.{AreHashes}
+use Rattle.sw_object_steps.specs.Flat.{History, stands}
+use Rattle.sw_object_steps.specs.Parts.{AreHashes}
 use Rattle.sw_peer.specs.Sights.{Sight}
 use Rattle.sw_replicator.specs.Meeting.{Between}
 use Rattle.sw_replicator.specs.Pushing.{differing}

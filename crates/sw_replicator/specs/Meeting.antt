@@ -2,9 +2,9 @@
 use Rattle.std.specs.Prelude.{◌≡◌, ◌≢◌, ℕ, true, List, ◌⊎◌}
 use Rattle.md5.specs.Md5.{md5}
 use Rattle.sw_hashpath.specs.HashParts.{suffix_of}
-use Rattle.sw_peer.specs.Histories.{Grows, History, stands}
-use Rattle.sw_peer.specs.Journals.{Hash}
-use Rattle.sw_peer.specs.Parts.{AreLines, IsOfPart}
+use Rattle.sw_object_steps.specs.Flat.{Grows, History, stands}
+use Rattle.sw_object_steps.specs.Journals.{Hash}
+use Rattle.sw_object_steps.specs.Parts.{AreLines, IsOfPart}
 use Rattle.sw_peer.specs.Sights.{Moves, Sight}
 use Rattle.sw_state.specs.States.{IsAtLeast, together}
 use Rattle.sw_suffix.specs.SuffixTexts.{suffix_text}

@@ -6,7 +6,7 @@ ghost use Rattle.sw_peer.specs.Parts as parts;
 ghost use Rattle.sw_replicator.specs.Pushing as pushing;
 
 use sw_diskfile::{FileName, Picked};
-use sw_peer::Outline;
+use sw_object_steps::Outline;
 use sw_suffix::{DirLine, SuffixHash};
 
 /// Whether a receiver that told these files of a hash lacks what is in a file of this name.

@@ -1,12 +1,12 @@
 ghost use Rattle.std.specs.Prelude.{◌≡◌, Ok};
 ghost use Rattle.std.specs.Result.{is_ok};
-ghost use Rattle.sw_peer.specs.declared.change.Change.TheVariants.{Receive};
+ghost use Rattle.sw_object_steps.specs.declared.change.Change.TheVariants.{Receive};
 ghost use Rattle.sw_replicator.specs.Pushing.{CountsFor, Hinders};
 ghost use Rattle.sw_state.specs.declared.write.Write.{Write};
 
 use sw_outside::NoMemory;
 use sw_pass::{Hindrance, Outcome};
-use sw_peer::Answer;
+use sw_object_steps::Answer;
 
 /// Counts an answer that gave nothing. Want of memory is none of these: it ends the push.
 pub(crate) fn hinder(hindrance: Option<Hindrance>, outcome: &mut Outcome) -> Result<(), NoMemory>

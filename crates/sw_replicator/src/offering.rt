@@ -5,7 +5,7 @@ ghost use Rattle.std.specs.List.Sorted.{IsStrictlySortedBy};
 ghost use Rattle.std.specs.Option.{option_to_list};
 ghost use Rattle.std.specs.Ordering.{nat_cmp};
 ghost use Rattle.std.specs.Result.{is_ok};
-ghost use Rattle.sw_peer.specs.Parts.{IsOfPart};
+ghost use Rattle.sw_object_steps.specs.Parts.{IsOfPart};
 ghost use Rattle.sw_replicator.specs.Pushing.{InTurn, IsFilePushed, IsLinePushed, IsPassedOn};
 ghost use Rattle.sw_replicator.specs.Routes.{Leads};
 
@@ -16,7 +16,8 @@ use std::alloc::Global;
 use sw_diskfile::{FileName, Picked};
 use sw_outside::NoMemory;
 use sw_pass::{Hindrance, Outcome};
-use sw_peer::{Change, Link, Lost, ReplicaDoor, Stored};
+use sw_object_steps::{Change, Stored};
+use sw_peer::{Link, Lost, ReplicaDoor};
 use sw_suffix::DirLine;
 
 /// Sends a write that was read at the sender.

@@ -12,14 +12,14 @@ use Rattle.sw_diskfile.specs.declared.picking.Picked.{Picked}
 use Rattle.sw_hashpath.specs.HashParts.{partition_of, suffix_of}
 use Rattle.sw_pass.specs.Outcomes.{asking, nothing_yet}
 use Rattle.sw_pass.specs.declared.outcome.Outcome.{Outcome}
-use Rattle.sw_peer.specs.Histories.{stands}
-use Rattle.sw_peer.specs.Journals.{Hash}
-use Rattle.sw_peer.specs.Parts.{AreLines, Counts, IsOfPart, IsStored, picked_in}
+use Rattle.sw_object_steps.specs.Flat.{stands}
+use Rattle.sw_object_steps.specs.Journals.{Hash}
+use Rattle.sw_object_steps.specs.Parts.{AreLines, Counts, IsOfPart, IsStored, picked_in}
 use Rattle.sw_peer.specs.Sights.{Calls, IsFilesRead, IsWriteRead, Sight}
-use Rattle.sw_peer.specs.declared.dir_fault.DirFault.{DirFault}
+use Rattle.sw_object_steps.specs.declared.dir_fault.DirFault.{DirFault}
 use Rattle.sw_peer.specs.declared.link.Link.TheVariants.{Local, Sent}
 use Rattle.sw_peer.specs.declared.link.Lost.{Lost}
-use Rattle.sw_peer.specs.declared.part_read.Stored.{Stored}
+use Rattle.sw_object_steps.specs.declared.stored.Stored.{Stored}
 use Rattle.sw_replicator.proofs.Compared.{IsPicked, all-both, files-count, own-lines}
 use Rattle.sw_replicator.proofs.Reading.{files-held, files-told, lines-within, write-held, write-told}
 use Rattle.sw_replicator.specs.Meeting.{known}

@@ -5,8 +5,8 @@ use Rattle.sw_object_machine.specs.Machine.{Machine}
 use Rattle.sw_lossy.specs.declared.acts.Acts.{Acts}
 use Rattle.sw_outside.specs.declared.errors.NoMemory.{NoMemory}
 use Rattle.sw_pass.specs.declared.outcome.Outcome.{Outcome}
-use Rattle.sw_peer.specs.Journals.{Hash}
-use Rattle.sw_peer.specs.Parts.{IsOfPart}
+use Rattle.sw_object_steps.specs.Journals.{Hash}
+use Rattle.sw_object_steps.specs.Parts.{IsOfPart}
 use Rattle.sw_peer.specs.Sights.{Sight}
 use Rattle.sw_steps.specs.Exchanging.{AreMet}
 use Rattle.sw_steps.specs.Passing.{IsPushedOver}

@@ -7,8 +7,8 @@ use Rattle.sw_hashpath.specs.declared.secrets.Secrets.{Secrets}
 use Rattle.sw_outside.specs.declared.errors.NoMemory.{NoMemory}
 use Rattle.sw_pass.specs.declared.outcome.Outcome.{Outcome}
 use Rattle.sw_peer.specs.Sights.{Calls, IsListed, IsMade, IsRead, Restarts, Sight, is_wanting, is_wanting_read}
-use Rattle.sw_peer.specs.declared.answer.Answer.{Answer}
-use Rattle.sw_peer.specs.declared.got.Got.{Got}
+use Rattle.sw_object_steps.specs.declared.answer.Answer.{Answer}
+use Rattle.sw_object_steps.specs.declared.got.Got.{Got}
 use Rattle.sw_peer.specs.declared.link.Link.TheVariants.{Local}
 use Rattle.sw_steps.specs.Passing.{IsPushedOver}
 use Rattle.sw_steps.specs.declared.step.Step.{Step}

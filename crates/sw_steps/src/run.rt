@@ -13,7 +13,8 @@ use sw_core::World;
 use sw_hashpath::Name;
 use sw_lossy::{Acts, Lossy};
 use sw_outside::NoMemory;
-use sw_peer::{Answer, Change, Got, Link, ObjectDoor};
+use sw_object_steps::{Answer, Change, Got};
+use sw_peer::{Link, ObjectDoor};
 use sw_volume::{Volume, VolumeError};
 
 /// Makes the steps in their order, of the world inside the door. The world keeps the lines of what came. The messages of a push go through the

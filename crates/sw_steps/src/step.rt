@@ -1,6 +1,6 @@
 use sw_hashpath::Name;
 use sw_lossy::Acts;
-use sw_peer::Change;
+use sw_object_steps::Change;
 
 /// A step that is to be made of a world.
 #[derive(Debug, Drop)]

@@ -4,9 +4,8 @@ use crate::quiet_world::QuietWorld;
 use std::alloc::Global;
 use sw_diskfile::FileName;
 use sw_hashpath::Name;
-use sw_peer::{
-    Answer, Change, DirFault, Door, FaithfulDoor, Got, Link, Lost, ObjectDoor, ReplicaDoor, Stored,
-};
+use sw_object_steps::{Answer, Change, DirFault, Got, Stored};
+use sw_peer::{Door, FaithfulDoor, Link, Lost, ObjectDoor, ReplicaDoor};
 use sw_suffix::{DirLine, SuffixHash};
 use sw_volume::Volume;
 

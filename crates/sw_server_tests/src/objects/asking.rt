@@ -5,7 +5,7 @@ use std::alloc::Global;
 use std::process::Abort;
 use std::test::Fail;
 use sw_object_server::{Asked, read_request};
-use sw_peer::Change;
+use sw_object_steps::Change;
 use sw_state::{Content, Kind, Write};
 
 /// The status of a request that isn't refused.

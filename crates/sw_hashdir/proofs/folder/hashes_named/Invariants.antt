@@ -1,6 +1,6 @@
 use Rattle.std.proofs.Common.{◌↔◌, take}
 use Rattle.std.specs.List.{Contains}
-use Rattle.sw_peer.specs.Journals.{Hash}
+use Rattle.sw_object_steps.specs.Journals.{Hash}
 use Rattle.sw_hashdir.specs.Partitions.{HasFolder, IsHashName}
 use Rattle.sw_hashdir.proofs.folder.hashes_named.Given as goal
 

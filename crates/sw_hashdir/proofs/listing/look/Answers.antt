@@ -5,7 +5,7 @@ use Rattle.sw_cleanup.proofs.Listed.{listed_in}
 use Rattle.sw_cleanup.specs.Cleaning.{AreListedIn}
 use Rattle.sw_diskfile.specs.Picking.{IsPicked}
 use Rattle.sw_diskfile.specs.declared.file_name.FileName.{FileName}
-use Rattle.sw_peer.specs.declared.outline.Outline.{Outline}
+use Rattle.sw_object_steps.specs.declared.outline.Outline.{Outline}
 use Rattle.std.specs.List.{All}
 use Rattle.sw_hashdir.proofs.Lines.{named-times}
 use Rattle.sw_hashdir.proofs.Putting.{outline-in}

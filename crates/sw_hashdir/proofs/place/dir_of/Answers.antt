@@ -2,7 +2,7 @@ use Rattle.std.proofs.Common.{◌≡◌, ℕ, ◌++◌, ◌∷◌, [], List, len
 use Rattle.hex.proofs.HexLemmas.{length-encode_with}
 use Rattle.hex.specs.Hex.{encode_lower, lower_digits}
 use Rattle.sw_hashpath.specs.HashParts.{IsDigest, partition_of, suffix_of}
-use Rattle.sw_peer.specs.Parts.{IsOfPart}
+use Rattle.sw_object_steps.specs.Parts.{IsOfPart}
 use Rattle.sw_hashdir.specs.Partitions.{suffix_dir_text}
 use Rattle.sw_hashdir.proofs.Digits.{dir-below}
 use Rattle.sw_hashdir.proofs.Order.{digest-place}

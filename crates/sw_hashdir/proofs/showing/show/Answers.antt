@@ -2,7 +2,7 @@ use Rattle.std.proofs.Common.{◌≡◌, true, Option, None, Some, Result, Ok, E
 use Rattle.std.specs.Option.{IfSome}
 use Rattle.sw_diskfile.specs.StateFiles.{name_of}
 use Rattle.sw_hashpath.specs.declared.decode_error.BadFile.{BadFile}
-use Rattle.sw_peer.specs.declared.got.Got.TheVariants as gots
+use Rattle.sw_object_steps.specs.declared.got.Got.TheVariants as gots
 use Rattle.sw_hashdir.specs.Readings.{CallsReading, IfDamaged, IsDamagedOf, IsGotIn, IsWholeAt, OnShown, got_read}
 use Rattle.sw_hashdir.specs.declared.reading.ReadFault.{ReadFault}
 use Rattle.sw_hashdir.specs.declared.showing.Object.{Object}

@@ -1,7 +1,7 @@
 use Rattle.std.proofs.Common.{◌≡◌, ◌<◌, ◌∙◌, sym, ap, subst, false, length, ℕ, suc, ◌+◌, take, [], arith}
-use Rattle.sw_peer.specs.Journals.{written}
+use Rattle.sw_object_steps.specs.Journals.{written}
 use Rattle.std.specs.Str.{bytes_eq}
-use Rattle.sw_peer.specs.declared.entry.ObjEntry.{ObjEntry}
+use Rattle.sw_object_steps.specs.declared.entry.ObjEntry.{ObjEntry}
 use Rattle.sw_journal.specs.Entries.{entry_hash}
 use Rattle.sw_journal.proofs.Finding.{written-next}
 use Rattle.sw_journal.proofs.entries.first_of.Goals as goal

@@ -1,5 +1,5 @@
 use Rattle.std.proofs.Common.{◌≡◌, [], take}
-use Rattle.sw_peer.specs.Journals.{written}
+use Rattle.sw_object_steps.specs.Journals.{written}
 use Rattle.sw_journal.proofs.entries.first_of.Given as goal
 
 abbrev pub invariant-loop-i : goal.invariant-loop-i

@@ -2,7 +2,7 @@ use Rattle.std.proofs.Common.{◌≡◌, true, inl, inr, Result, Ok, Err}
 use Rattle.std.proofs.lemmas.Result.{on_err_weaker}
 use Rattle.std.specs.declared.alloc.Global.{Global}
 use Rattle.std.specs.declared.vec.Vec.{Vec}
-use Rattle.sw_peer.specs.declared.dir_fault.DirFault.{DirFault}
+use Rattle.sw_object_steps.specs.declared.dir_fault.DirFault.{DirFault}
 use Rattle.sw_suffix.specs.declared.dir_line.DirLine.{DirLine}
 use Rattle.sw_replica_server.specs.Replies.{takes_memory}
 use Rattle.sw_replica_server.specs.Serving.{AreRead, IsFilesLeft}

@@ -1,6 +1,6 @@
 use Rattle.std.proofs.Common.{◌∙◌, true, sym, subst, take}
 use Rattle.std.proofs.lemmas.List.Elements.{All-take}
-use Rattle.sw_peer.specs.Parts.{IsOfPart}
+use Rattle.sw_object_steps.specs.Parts.{IsOfPart}
 use Rattle.sw_peer.specs.Sights.{Nodes}
 use Rattle.sw_replicator.proofs.Keeping.{lines-keep}
 use Rattle.sw_replicator.proofs.Turns.{turn-ended, turn-more}

@@ -2,7 +2,7 @@ use Rattle.std.proofs.Common.{◌≡◌, ℕ, ◌+◌, ◌-◌, ◌^◌, ◌<◌
 use Rattle.std.proofs.lemmas.List.Filters.{length-filter_more}
 use Rattle.std.proofs.lemmas.List.{get_or_default}
 use Rattle.sw_outside.specs.Counts.{raised}
-use Rattle.sw_peer.specs.Parts.{md5_in}
+use Rattle.sw_object_steps.specs.Parts.{md5_in}
 use Rattle.sw_peer.specs.Sights.{Nodes}
 use Rattle.sw_replicator.proofs.Keeping.{suffixes-keep}
 use Rattle.sw_replicator.proofs.Turns.{turn-broken, turn-passed}

@@ -4,7 +4,7 @@ use Rattle.sw_core.proofs.Wholes.{still-whole}
 use Rattle.sw_core.specs.Worlds.{sight_of}
 use Rattle.sw_peer.proofs.Calls.{calls-moves, made-step}
 use Rattle.sw_peer.specs.Sights.{Calls, IsAt, IsMade, Moves, Nodes}
-use Rattle.sw_peer.specs.declared.change.Change.{Change}
+use Rattle.sw_object_steps.specs.declared.change.Change.{Change}
 use Rattle.sw_peer.specs.declared.link.Link.TheVariants.{Local}
 use Rattle.sw_steps.proofs.Stepping.{any-err, on-err, on-ok}
 use Rattle.sw_steps.proofs.run.change_at.Goals as goal

@@ -1,5 +1,5 @@
 use Rattle.std.proofs.Common.{◌≡◌, [], ◌∷◌, ◌++◌, sym, ◌∙◌, ap}
-use Rattle.sw_peer.specs.declared.entry.ObjEntry.{ObjEntry}
+use Rattle.sw_object_steps.specs.declared.entry.ObjEntry.{ObjEntry}
 use Rattle.std.proofs.lemmas.List.{append-nil}
 use Rattle.sw_journal.proofs.Counting.{counted-entered}
 use Rattle.sw_journal.proofs.journal.Journal.confirm.Goals as goal

@@ -2,8 +2,8 @@ use Rattle.std.proofs.Common.{◌≡◌, ◌≤◌, ◌+◌, [], ◌∷◌, ◌+
 use Rattle.sw_journal.proofs.Counting.{counted-entered, counted-gone, has-place, sized}
 use Rattle.sw_journal.proofs.Finding.{settles-one, split-of}
 use Rattle.sw_journal.specs.Entries.{IsFirstOf}
-use Rattle.sw_peer.specs.Journals.{Journal}
-use Rattle.sw_peer.specs.declared.entry.ObjEntry.{ObjEntry}
+use Rattle.sw_object_steps.specs.Journals.{Journal}
+use Rattle.sw_object_steps.specs.declared.entry.ObjEntry.{ObjEntry}
 use Rattle.sw_journal.proofs.journal.Journal.settle.Goals as goal
 
 pub overflow_sub-self : goal.overflow_sub-self

@@ -1,7 +1,7 @@
 use Rattle.std.proofs.Common.{refl, sym, ◌∙◌, ap, subst, Err}
 use Rattle.sw_peer.proofs.Calls.{made-step}
 use Rattle.sw_peer.specs.Sights.{Calls, IsMade}
-use Rattle.sw_peer.specs.declared.change.Change.{Change}
+use Rattle.sw_object_steps.specs.declared.change.Change.{Change}
 use Rattle.sw_lossy.proofs.Losses.{becomes, kept, nodes-after, uncopied}
 use Rattle.sw_lossy.specs.Losses.{around, fate_of}
 use Rattle.sw_lossy.specs.declared.acts.Fate.TheVariants.{Goes, IsLost, LosesReply, ComesTwice}

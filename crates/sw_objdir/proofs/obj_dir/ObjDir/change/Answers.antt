@@ -2,7 +2,7 @@ use Rattle.std.proofs.Common.{◌≡◌, ℕ, length, true, false, List, [], ref
 use Rattle.sw_cleanup.specs.Cleaning.{AreListedIn}
 use Rattle.sw_hashdir.specs.Places.{dir_text}
 use Rattle.sw_hashdir.specs.Readings.{IsSecondRead, expiry_file}
-use Rattle.sw_peer.specs.Outlines.{picked_outline}
+use Rattle.sw_object_steps.specs.Outlines.{picked_outline}
 use Rattle.sw_journal.specs.Settling.{SettlesFirst}
 use Rattle.sw_objdir.proofs.Deciding.{called-refused, called-written, dir-still, listed-still, looked-so, outline-still}
 use Rattle.sw_objdir.proofs.Deciding.{risen-after, room-as, second-now, step-full, step-refused}
@@ -14,12 +14,12 @@ use Rattle.sw_objdir.specs.Directories.{IsDir, Kept, is_told}
 use Rattle.sw_objdir.specs.Stepping.{IsSeenAs}
 use Rattle.sw_step.specs.Rules.{Damages, Fails, Wants}
 use Rattle.sw_outside.specs.Counts.{raised}
-use Rattle.sw_peer.proofs.Answering.{refusals}
+use Rattle.sw_object_steps.proofs.Answering.{refusals}
 use Rattle.sw_volume.specs.Volume.{raised_by}
-use Rattle.sw_peer.specs.Journals.{Journal, has_room, written}
-use Rattle.sw_peer.specs.Steps.{asks_expiry, is_entered, made_answer, refusal_by, write_of}
-use Rattle.sw_peer.specs.declared.answer.Answer.TheVariants as answers
-use Rattle.sw_peer.specs.declared.outline.Outline.{Outline}
+use Rattle.sw_object_steps.specs.Journals.{Journal, has_room, written}
+use Rattle.sw_object_steps.specs.Steps.{asks_expiry, is_entered, made_answer, refusal_by, write_of}
+use Rattle.sw_object_steps.specs.declared.answer.Answer.TheVariants as answers
+use Rattle.sw_object_steps.specs.declared.outline.Outline.{Outline}
 use Rattle.sw_volume.specs.Tree.{contents}
 use Rattle.sw_objdir.proofs.obj_dir.ObjDir.change.Goals as goal
 

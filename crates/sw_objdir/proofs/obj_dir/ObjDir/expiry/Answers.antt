@@ -6,7 +6,7 @@ use Rattle.sw_hashdir.specs.Steps.{IsOurs}
 use Rattle.sw_objdir.proofs.Looking.{dir-moved, looks-moved}
 use Rattle.sw_objdir.proofs.Reading.{damaged-untold, second-asked, second-held}
 use Rattle.sw_objdir.specs.Directories.{Kept}
-use Rattle.sw_peer.specs.Steps.{asks_expiry}
+use Rattle.sw_object_steps.specs.Steps.{asks_expiry}
 use Rattle.sw_volume.specs.Tree.{contents}
 use Rattle.sw_objdir.proofs.obj_dir.ObjDir.expiry.Goals as goal
 

@@ -8,8 +8,8 @@ use Rattle.sw_objdir.specs.Comparing.{IsSettled, Looks, is_in}
 use Rattle.sw_objdir.specs.Directories.{Kept, held, is_told}
 use Rattle.sw_objdir.specs.Stepping.{LooksAt}
 use Rattle.sw_objdir.specs.declared.comparing.Scope.TheVariants as scopes
-use Rattle.sw_peer.specs.Parts.{AreLines, IsOfPart}
-use Rattle.sw_peer.specs.declared.dir_fault.DirFault.{DirFault}
+use Rattle.sw_object_steps.specs.Parts.{AreLines, IsOfPart}
+use Rattle.sw_object_steps.specs.declared.dir_fault.DirFault.{DirFault}
 use Rattle.sw_suffix.specs.declared.dir_line.DirLine.{DirLine}
 use Rattle.sw_volume.specs.declared.errors.VolumeError.{VolumeError}
 use Rattle.sw_objdir.proofs.obj_dir.ObjDir.files_of.Goals.{in-Ok, in-Err-lines_of}

@@ -2,16 +2,16 @@ use Rattle.std.proofs.Common.{◌≡◌, ℕ, List, true, [], subst, sym, ap, �
 use Rattle.std.specs.Str.{bytes_eq}
 use Rattle.sw_cleanup.specs.Cleaning.{AreListedIn}
 use Rattle.sw_hashdir.specs.Steps.{IsOurs}
-use Rattle.sw_peer.specs.Outlines.{picked_outline}
+use Rattle.sw_object_steps.specs.Outlines.{picked_outline}
 use Rattle.sw_hashdir.specs.Places.{dir_text, is_place}
 use Rattle.sw_journal.specs.Settling.{SettlesFirst}
 use Rattle.sw_objdir.proofs.Looking.{dir-moved, looks-refl}
 use Rattle.sw_objdir.proofs.Reading.{read-called, read-step, unread}
 use Rattle.sw_objdir.specs.Directories.{IsDir, Kept}
 use Rattle.sw_objdir.specs.Stepping.{LooksAt}
-use Rattle.sw_peer.specs.Journals.{written}
-use Rattle.sw_peer.specs.declared.got.Got.TheVariants as gots
-use Rattle.sw_peer.specs.declared.outline.Outline.{Outline}
+use Rattle.sw_object_steps.specs.Journals.{written}
+use Rattle.sw_object_steps.specs.declared.got.Got.TheVariants as gots
+use Rattle.sw_object_steps.specs.declared.outline.Outline.{Outline}
 use Rattle.sw_volume.specs.Tree.{contents}
 use Rattle.sw_objdir.proofs.obj_dir.ObjDir.get.Goals as goal
 

@@ -13,10 +13,10 @@ use Rattle.sw_objdir.proofs.Reading.{damage-before}
 use Rattle.sw_objdir.specs.Comparing.{Looks, listings_of}
 use Rattle.sw_objdir.specs.Directories.{Kept, held}
 use Rattle.sw_objdir.specs.Stepping.{LooksAt}
-use Rattle.sw_peer.specs.Journals.{written}
-use Rattle.sw_peer.specs.Parts.{IsFile}
-use Rattle.sw_peer.specs.declared.dir_fault.DirFault.{DirFault}
-use Rattle.sw_peer.specs.declared.part_read.Stored.{Stored}
+use Rattle.sw_object_steps.specs.Journals.{written}
+use Rattle.sw_object_steps.specs.Parts.{IsFile}
+use Rattle.sw_object_steps.specs.declared.dir_fault.DirFault.{DirFault}
+use Rattle.sw_object_steps.specs.declared.stored.Stored.{Stored}
 use Rattle.sw_volume.specs.declared.errors.VolumeError.{VolumeError}
 use Rattle.sw_volume.specs.declared.errors.VolumeError.TheVariants as volumes
 use Rattle.sw_objdir.proofs.obj_dir.ObjDir.read_write.Goals as goal

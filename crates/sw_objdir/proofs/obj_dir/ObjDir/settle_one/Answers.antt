@@ -1,8 +1,8 @@
 use Rattle.std.proofs.Common.{◌≡◌, None, Some, find, refl, sym, true, ◌∙◌, ap, subst}
 use Rattle.std.specs.Str.{bytes_eq}
 use Rattle.sw_objdir.proofs.Looking.{looks-wider}
-use Rattle.sw_peer.proofs.Hashes.{hash-same}
-use Rattle.sw_peer.specs.Journals.{Hash}
+use Rattle.sw_object_steps.proofs.Hashes.{hash-same}
+use Rattle.sw_object_steps.specs.Journals.{Hash}
 use Rattle.std.specs.Option.{option_copied}
 use Rattle.sw_journal.specs.Entries.{entry_hash, first_in}
 use Rattle.sw_objdir.proofs.Doubts.{briefs-none, doubt-of, ends-one, first-doubted, found-first, found-none, wants-one}

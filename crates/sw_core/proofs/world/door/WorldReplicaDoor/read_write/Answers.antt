@@ -4,8 +4,8 @@ use Rattle.std.specs.List.{slice_get}
 use Rattle.sw_hashdir.specs.Steps.{is_hashed}
 use Rattle.sw_objdir.specs.Directories.{Kept}
 use Rattle.sw_peer.proofs.Calls.{calls-once, faithful-once, write-step}
-use Rattle.sw_peer.specs.Journals.{Hash}
-use Rattle.sw_peer.specs.Parts.{IsFile, IsOfPart}
+use Rattle.sw_object_steps.specs.Journals.{Hash}
+use Rattle.sw_object_steps.specs.Parts.{IsFile, IsOfPart}
 use Rattle.sw_peer.specs.Sights.{IsWriteRead, PartMoves}
 use Rattle.sw_peer.specs.declared.line.Event.TheVariants.{ReadPart}
 use Rattle.sw_peer.specs.declared.line.Line.{Line}

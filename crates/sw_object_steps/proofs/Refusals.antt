@@ -2,12 +2,12 @@
 use Rattle.std.proofs.Common.{◌≡◌, Bool, true, false, Some, None, if◌then◌else◌, refl, sym, ◌∙◌}
 use Rattle.sw_state.proofs.StateTests.{new_changes}
 use Rattle.sw_state.specs.Writes.{tag_of}
-use Rattle.sw_peer.proofs.Answering.{allowed-new, outline-new, refused-held}
-use Rattle.sw_peer.specs.Laws.{AllowedChanges, OutlineTells, TransferIsRefused}
-use Rattle.sw_peer.specs.Outlines.{is_new_to, outline_of}
-use Rattle.sw_peer.specs.Steps.{latest_time, write_of}
-use Rattle.sw_peer.specs.declared.answer.Answer.{Answer}
-use Rattle.sw_peer.specs.declared.answer.Answer.TheVariants as answers
+use Rattle.sw_object_steps.proofs.Answering.{allowed-new, outline-new, refused-held}
+use Rattle.sw_object_steps.specs.OutlineLaws.{AllowedChanges, OutlineTells, TransferIsRefused}
+use Rattle.sw_object_steps.specs.Outlines.{is_new_to, outline_of}
+use Rattle.sw_object_steps.specs.Steps.{latest_time, write_of}
+use Rattle.sw_object_steps.specs.declared.answer.Answer.{Answer}
+use Rattle.sw_object_steps.specs.declared.answer.Answer.TheVariants as answers
 
 pub outline_tells : OutlineTells
 outline_tells s time tag = outline-new s time tag

@@ -11,9 +11,9 @@ use Rattle.sw_state.specs.declared.base.Base.TheVariants as bases
 use Rattle.sw_state.specs.declared.state.State.{State}
 use Rattle.sw_timestamp.specs.declared.tag.Tag.{Tag}
 use Rattle.sw_timestamp.specs.declared.tag.Tag.TheVariants as tags
-use Rattle.sw_peer.specs.declared.outline.Mark.{Mark}
-use Rattle.sw_peer.specs.declared.outline.Mark.TheVariants.{Object, Tombstone}
-use Rattle.sw_peer.specs.declared.outline.Outline.{Outline}
+use Rattle.sw_object_steps.specs.declared.outline.Mark.{Mark}
+use Rattle.sw_object_steps.specs.declared.outline.Mark.TheVariants.{Object, Tombstone}
+use Rattle.sw_object_steps.specs.declared.outline.Outline.{Outline}
 
 abbrev pub mark_of : Base → Mark
 mark_of (bases.Put time content) = Object time

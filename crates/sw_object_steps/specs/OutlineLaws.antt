@@ -4,11 +4,11 @@ use Rattle.sw_state.specs.States.{is_new, joined}
 use Rattle.sw_state.specs.declared.state.State.{State}
 use Rattle.sw_state.specs.declared.write.Write.{Write}
 use Rattle.sw_timestamp.specs.declared.tag.Tag.{Tag}
-use Rattle.sw_peer.specs.Outlines.{is_new_to, outline_of}
-use Rattle.sw_peer.specs.Steps.{refusal_of, write_of}
-use Rattle.sw_peer.specs.declared.answer.Answer.{Answer}
-use Rattle.sw_peer.specs.declared.change.Change.{Change}
-use Rattle.sw_peer.specs.declared.change.Change.TheVariants.{Receive}
+use Rattle.sw_object_steps.specs.Outlines.{is_new_to, outline_of}
+use Rattle.sw_object_steps.specs.Steps.{refusal_of, write_of}
+use Rattle.sw_object_steps.specs.declared.answer.Answer.{Answer}
+use Rattle.sw_object_steps.specs.declared.change.Change.{Change}
+use Rattle.sw_object_steps.specs.declared.change.Change.TheVariants.{Receive}
 
 -- the names of a state's files tell whether a write changes it
 abbrev pub OutlineTells : Type 0

@@ -1,5 +1,5 @@
 ghost use Rattle.std.specs.Prelude.{◌≡◌};
-ghost use Rattle.sw_peer.specs.Steps.{step_kind, time_in};
+ghost use Rattle.sw_object_steps.specs.Steps.{step_kind, time_in};
 
 use crate::change::{Change, StepKind};
 use std::marker::Model;
@@ -16,8 +16,8 @@ pub struct ChangeSeen {
 
 impl Model for ChangeSeen {
     ghost use Rattle.std.specs.Prelude.{◌≡◌};
-    ghost use Rattle.sw_peer.specs.Steps.{step_kind, time_in};
-    ghost use Rattle.sw_peer.specs.declared.change.Change.{Change};
+    ghost use Rattle.sw_object_steps.specs.Steps.{step_kind, time_in};
+    ghost use Rattle.sw_object_steps.specs.declared.change.Change.{Change};
 
     ghost Value = { Change };
 

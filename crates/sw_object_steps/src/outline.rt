@@ -1,7 +1,7 @@
 ghost use Rattle.std.specs.Prelude.{◌≡◌, Some};
-ghost use Rattle.sw_peer.specs.Outlines.{file_mark, has_object, is_new_to, outline_of, picked_outline, shown_time, standing_expiry, standing_time, time_with};
-ghost use Rattle.sw_peer.specs.Outlines.{tombstone_time};
-ghost use Rattle.sw_peer.specs.declared.outline.Mark.TheVariants.{Object};
+ghost use Rattle.sw_object_steps.specs.Outlines.{file_mark, has_object, is_new_to, outline_of, picked_outline, shown_time, standing_expiry, standing_time, time_with};
+ghost use Rattle.sw_object_steps.specs.Outlines.{tombstone_time};
+ghost use Rattle.sw_object_steps.specs.declared.outline.Mark.TheVariants.{Object};
 
 use sw_diskfile::{FileName, Picked};
 use sw_state::{Base, State};
@@ -141,7 +141,7 @@ fn time_beside(time: Timestamp, meta: Option<Timestamp>) -> Timestamp
 
 /// Whether there is no such time, or an earlier one.
 fn is_before(standing: Option<Timestamp>, time: Timestamp) -> bool
-    ensures { result ≡ Rattle.sw_peer.specs.Outlines.is_before standing time }
+    ensures { result ≡ Rattle.sw_object_steps.specs.Outlines.is_before standing time }
 {
     match standing {
         Some(standing) => standing < time,

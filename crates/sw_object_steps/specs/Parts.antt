@@ -1,6 +1,6 @@
 -- What a read of a partition tells of what its hashes stand for. (Suffixes, their hashes, and that nodes compare them, are OpenStack
 -- Swift's; that the files that count are told by their names is this project's own.)
-use Rattle.std.specs.Prelude.{◌≡◌, ⊤, ℕ, ◌<◌, ◌==◌, Bool, true, false, List, [], ◌∷◌, ◌++◌, map, Option, None, Some, find, if◌then◌else◌, ◌⊎◌, Result, Ok, Err}
+use Rattle.std.specs.Prelude.{◌≡◌, ℕ, ◌<◌, ◌==◌, Bool, true, false, List, [], ◌∷◌, map, Option, None, Some, find, if◌then◌else◌, ◌⊎◌}
 use Rattle.std.specs.Prelude.{Contains}
 use Rattle.std.specs.List.{All}
 use Rattle.std.specs.List.Sorted.{IsStrictlySortedBy}
@@ -13,19 +13,14 @@ use Rattle.sw_diskfile.specs.declared.file_name.FileName.{FileName}
 use Rattle.sw_diskfile.specs.declared.picking.Picked.{Picked}
 use Rattle.sw_hashpath.specs.HashParts.{IsDigest, partition_of, suffix_of}
 use Rattle.sw_hashpath.specs.declared.name.Name.{Name}
-use Rattle.sw_outside.specs.Faults.{HasRisen}
 use Rattle.sw_state.specs.States.{joined, writes_of}
 use Rattle.sw_state.specs.declared.state.State.{State}
 use Rattle.sw_suffix.specs.SuffixLines.{AreSuffixLines}
 use Rattle.sw_suffix.specs.SuffixTexts.{suffix_text}
 use Rattle.sw_suffix.specs.declared.dir_line.DirLine.{DirLine}
 use Rattle.sw_suffix.specs.declared.told.SuffixHash.{SuffixHash}
-use Rattle.sw_peer.specs.Histories.{Grows, History, OnlySettles, stands}
-use Rattle.sw_peer.specs.Journals.{Hash, written}
-use Rattle.sw_peer.specs.declared.dir_fault.DirFault.{DirFault}
-use Rattle.sw_peer.specs.declared.dir_fault.DirFault.TheVariants as faults
-use Rattle.sw_peer.specs.declared.entry.ObjEntry.{ObjEntry}
-use Rattle.sw_peer.specs.declared.part_read.Stored.{Stored}
+use Rattle.sw_object_steps.specs.Journals.{Hash}
+use Rattle.sw_object_steps.specs.declared.stored.Stored.{Stored}
 
 -- ---- which hashes
 
@@ -88,36 +83,3 @@ pub record IsStored (fits : Name → Bool) (hash : Hash) (file : FileName) (told
 abbrev pub IsFile : (Name → Bool) → Hash → FileName → Bool → (Hash → State) → Option Stored → Type 0
 IsFile fits hash file told s None = told ≡ true → ¬ (Counts (s hash) file)
 IsFile fits hash file told s (Some stored) = IsStored fits hash file told s stored
-
--- ---- a read at one lock, of the hashes `at`
-
-module _ {A : Type 0} where
-  abbrev pub is_given : Result A DirFault → Bool
-  is_given (Ok got) = true
-  is_given (Err fault) = false
-
-  -- whether it wanted memory
-  abbrev pub is_wanting_part : Result A DirFault → Bool
-  is_wanting_part (Ok got) = false
-  is_wanting_part (Err (faults.Damaged bad)) = false
-  is_wanting_part (Err faults.Failed) = false
-  is_wanting_part (Err faults.NoMemory) = true
-
-  -- what it is answered, by what `reading` says of an answer. Only a read of files may find one damaged, and only where they aren't in order
-  abbrev pub ShowsPart : Bool → Bool → (Hash → State) → (Bool → (Hash → State) → A → Type 0) → Result A DirFault → Type 0
-  ShowsPart told damages s reading (Ok got) = reading told s got
-  ShowsPart told damages s reading (Err (faults.Damaged bad)) = (damages ≡ true) × (told ≡ false)
-  ShowsPart told damages s reading (Err faults.Failed) = ⊤
-  ShowsPart told damages s reading (Err faults.NoMemory) = ⊤
-
-  -- from the history h to g: it is answered from what stands after it, with no doubt left of these hashes; t is what the device then holds
-  pub record StepReadsPart (alone : Bool) (h : History) (at : Hash → Type 0) (damages : Bool) (reading : Bool → (Hash → State) → A → Type 0)
-      (got : Result A DirFault) (g : History) (t : Hash → State) : Type 0 where
-    pub follows : Grows h g
-    pub settles : alone ≡ true → OnlySettles h g
-    pub settled : is_given got ≡ true → (hash : Hash) → at hash → written hash g.journal.doubts ≡ []
-    pub shown : ShowsPart g.told damages (stands g) reading got
-    pub failed : got ≡ Err faults.Failed → HasRisen h.faults g.faults
-    pub held : alone ≡ true → g.told ≡ true → is_given got ≡ true → (hash : Hash) → at hash → stands g hash ≡ t hash
-    pub added : List ObjEntry
-    pub adds : alone ≡ true → g.journal.entries ≡ h.journal.entries ++ added

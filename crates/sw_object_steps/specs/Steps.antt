@@ -13,16 +13,16 @@ use Rattle.sw_state.specs.declared.write.Kind.TheVariants as kinds
 use Rattle.sw_state.specs.declared.write.Write.{Write}
 use Rattle.sw_timestamp.specs.declared.tag.Tag.{Tag}
 use Rattle.sw_timestamp.specs.declared.tag.Tag.TheVariants as tags
-use Rattle.sw_peer.specs.Outlines.{has_object, is_new_to, outline_of, shown_time, standing_expiry, standing_time, tombstone_time}
-use Rattle.sw_peer.specs.declared.answer.Answer.{Answer}
-use Rattle.sw_peer.specs.declared.answer.Answer.TheVariants as answers
-use Rattle.sw_peer.specs.declared.change.Change.{Change}
-use Rattle.sw_peer.specs.declared.change.Change.TheVariants.{Put, Post, Delete, Receive}
-use Rattle.sw_peer.specs.declared.change.StepKind.{StepKind}
-use Rattle.sw_peer.specs.declared.change.StepKind.TheVariants as step_kinds
-use Rattle.sw_peer.specs.declared.got.Got.{Got}
-use Rattle.sw_peer.specs.declared.got.Got.TheVariants as gots
-use Rattle.sw_peer.specs.declared.outline.Outline.{Outline}
+use Rattle.sw_object_steps.specs.Outlines.{has_object, is_new_to, outline_of, shown_time, standing_expiry, standing_time, tombstone_time}
+use Rattle.sw_object_steps.specs.declared.answer.Answer.{Answer}
+use Rattle.sw_object_steps.specs.declared.answer.Answer.TheVariants as answers
+use Rattle.sw_object_steps.specs.declared.change.Change.{Change}
+use Rattle.sw_object_steps.specs.declared.change.Change.TheVariants.{Put, Post, Delete, Receive}
+use Rattle.sw_object_steps.specs.declared.change.StepKind.{StepKind}
+use Rattle.sw_object_steps.specs.declared.change.StepKind.TheVariants as step_kinds
+use Rattle.sw_object_steps.specs.declared.got.Got.{Got}
+use Rattle.sw_object_steps.specs.declared.got.Got.TheVariants as gots
+use Rattle.sw_object_steps.specs.declared.outline.Outline.{Outline}
 
 -- the write that the step adds where it isn't refused
 abbrev pub write_of : Change → Write

@@ -15,18 +15,19 @@ use Rattle.sw_state.specs.declared.write.Write.{Write}
 use Rattle.sw_timestamp.specs.declared.tag.Tag.{Tag}
 use Rattle.sw_timestamp.specs.declared.tag.Tag.TheVariants as tags
 use Rattle.sw_history.specs.Halves.{Leaves}
-use Rattle.sw_peer.specs.Journals.{Answers, Enters, Journal, Shows, has_room, with_entry}
-use Rattle.sw_peer.specs.declared.outline.Outline.{Outline}
-use Rattle.sw_peer.specs.declared.outline.Mark.{Mark}
-use Rattle.sw_peer.specs.declared.outline.Mark.TheVariants.{Object, Tombstone}
-use Rattle.sw_peer.specs.Outlines.{burial_time, is_object, time_with, standing_expiry, has_object, is_before, is_below, is_new_to, mark_of, mark_time}
-use Rattle.sw_peer.specs.Outlines.{outline_of, shown_time, standing_time, tombstone_time}
-use Rattle.sw_peer.specs.Steps.{asks_expiry, asks_expiry_after, burial_refusal, conflict, deletion_answer, deletion_refusal, expires_at}
-use Rattle.sw_peer.specs.Steps.{expiring_deletion_refusal, expiry_refusal, got_beside, got_of, latest_time, made_answer, refusal_by, refusal_of, write_of}
-use Rattle.sw_peer.specs.declared.answer.Answer.{Answer}
-use Rattle.sw_peer.specs.declared.answer.Answer.TheVariants as answers
-use Rattle.sw_peer.specs.declared.change.Change.{Change}
-use Rattle.sw_peer.specs.declared.change.Change.TheVariants.{Put, Post, Delete, Receive}
+use Rattle.sw_object_steps.specs.Journals.{Journal, Shows, has_room}
+use Rattle.sw_object_steps.specs.Flat.{Answers, Enters, with_entry}
+use Rattle.sw_object_steps.specs.declared.outline.Outline.{Outline}
+use Rattle.sw_object_steps.specs.declared.outline.Mark.{Mark}
+use Rattle.sw_object_steps.specs.declared.outline.Mark.TheVariants.{Object, Tombstone}
+use Rattle.sw_object_steps.specs.Outlines.{burial_time, is_object, time_with, standing_expiry, has_object, is_before, is_below, is_new_to, mark_of, mark_time}
+use Rattle.sw_object_steps.specs.Outlines.{outline_of, shown_time, standing_time, tombstone_time}
+use Rattle.sw_object_steps.specs.Steps.{asks_expiry, asks_expiry_after, burial_refusal, conflict, deletion_answer, deletion_refusal, expires_at}
+use Rattle.sw_object_steps.specs.Steps.{expiring_deletion_refusal, expiry_refusal, got_beside, got_of, latest_time, made_answer, refusal_by, refusal_of, write_of}
+use Rattle.sw_object_steps.specs.declared.answer.Answer.{Answer}
+use Rattle.sw_object_steps.specs.declared.answer.Answer.TheVariants as answers
+use Rattle.sw_object_steps.specs.declared.change.Change.{Change}
+use Rattle.sw_object_steps.specs.declared.change.Change.TheVariants.{Put, Post, Delete, Receive}
 
 -- ---- outlines
 
