@@ -1,20 +1,20 @@
 -- Calls of a door, one after another, with messages that come several times or never.
-use Rattle.std.proofs.Common.{◌≡◌, ℕ, suc, ◌+◌, ◌≤◌, Bool, true, false, List, [], ◌∷◌, ◌++◌, length, refl, sym, ◌∙◌, ap, subst, arith, append_assoc}
+use Rattle.std.proofs.Common.{◌≡◌, ℕ, suc, ◌+◌, ◌≤◌, Bool, true, false, List, [], ◌∷◌, ◌++◌, length, refl, sym, ◌∙◌, ap, subst, arith, append_assoc, bytes_eq}
 use Rattle.std.proofs.Common.{length-append, inl, inr, Result, Ok, Err}
 use Rattle.std.proofs.lemmas.List.{append-nil}
-use Rattle.std.specs.Bool.{⊤}
+use Rattle.sw_object_steps.proofs.Hashes.{hash-same, hash-self}
 use Rattle.sw_diskfile.specs.declared.file_name.FileName.{FileName}
-use Rattle.sw_hashpath.specs.HashParts.{suffix_of}
 use Rattle.sw_hashpath.specs.declared.name.Name.{Name}
 use Rattle.sw_outside.specs.Faults.{HasRisen}
 use Rattle.sw_peer.specs.Carriage.{Carriage, Carries, Delivery, faithful}
 use Rattle.sw_history.proofs.Growing.{grows-refl, half-refl, half-trans, half-wider}
-use Rattle.sw_object_steps.specs.Flat.{History}
-use Rattle.sw_object_steps.specs.Journals.{Hash, Journal}
-use Rattle.sw_object_steps.specs.Flat.{Settles}
-use Rattle.sw_object_steps.specs.Parts.{AreHashes, AreLines, IsFile, is_wanting_part}
+use Rattle.sw_object_steps.specs.Journals.{Hash}
+use Rattle.sw_object_steps.specs.Parts.{AreHashes, AreLines, IsFile}
+use Rattle.sw_object_steps.specs.Rules.{ObjHistory, obj_rules}
 use Rattle.sw_peer.specs.Sights.{Calls, Comes, IsAt, IsFilesRead, IsHashesRead, IsInPart, IsMade, IsPartRead, IsRead, IsSame, IsWriteRead, Moves, Nodes}
-use Rattle.sw_peer.specs.Sights.{PartMoves, Sight, Trails, is_wanting, is_wanting_read}
+use Rattle.sw_peer.specs.Sights.{MayStand, PartMoves, Sight, Trails, in_part, in_suffix, is_one, is_wanting, is_wanting_part, is_wanting_read}
+use Rattle.sw_step.specs.Rules.{CanStand, Damages, Fails, Wants}
+use Rattle.sw_step.specs.Steps.{added_by}
 use Rattle.sw_object_steps.specs.declared.answer.Answer.TheVariants as answers
 use Rattle.sw_object_steps.specs.declared.change.Change.{Change}
 use Rattle.sw_peer.specs.declared.line.Event.TheVariants.{Changed, Read, ReadPart}
@@ -40,53 +40,58 @@ moves-trans at a b c p q = record {
 pub moves-refl : (at : ℕ → Hash → Type 0) (s : Sight) → Moves at s s
 moves-refl at s = record { nodes = refl; objects = half-refl s.nodes.lock s.alone at s.objects; containers = refl; alone = λ x. x; faults = omega arith }
 
-pub settles-none : (j : Journal) → Settles j [] j
-settles-none j = record {
-  entered = sym (append-nil j.entries);
-  count = omega arith;
-  of_doubts = λ hash none. (refl, none);
-  max_entries = refl;
-  max_bytes = refl;
-}
-
 pub same-refl : (s : Sight) → IsSame s s
 same-refl s = record { same = refl; faults = omega arith }
 
--- a step that wanted memory at once is one that came and changed nothing
-pub wanting : (link : Link) (device : ℕ) (name : Name) (change : Change) (s : Sight) → IsMade link device name change s answers.NoMemory s
-wanting link device name change s = record {
+-- a step that wanted memory at once is one that came and changed nothing, where what its device holds is what it may stand for
+pub wanting : (link : Link) (device : ℕ) (name : Name) (change : Change) (s : Sight) → MayStand device name.hash s
+    → IsMade link device name change s answers.NoMemory s
+wanting link device name change s may = record {
   moves = moves-refl (IsAt device name.hash) s;
   step = record {
+    own = itself name.hash;
     before = h;
-    made = false;
+    looked = false;
+    read = s.objects.holds device name.hash;
+    made = [];
     follows = grows-refl h;
-    settles = λ alone. ([], settles-none h.journal);
+    settles = λ alone. (0, refl);
     settled = λ is. absurd (never is);
     answered = record { not_made = refl; same = refl };
+    orderly = λ is. absurd (damages is);
     after = grows-refl h;
-    failed = λ is. absurd (other is);
+    failed = λ is. absurd (fails is);
+    known = λ told is. absurd (never is);
+    kept = λ alone told other is. subst (λ (k : Hash). CanStand obj_rules h k (s.objects.holds device k)) (sym (same other is)) (may alone told);
     held = λ alone told is. absurd (never is);
     leaves = λ alone told. refl;
-    added = [];
-    adds = λ alone. sym (append-nil h.journal.entries);
   };
   trail = inr (refl, same-refl s);
 }
   where
-    h : History
+    h : ObjHistory
     h = s.objects.seen (s.nodes.lock device name.hash)
+
+    itself : (hash : Hash) → bytes_eq hash hash ≡ true
+    itself hash = hash-self hash
+
+    same : (other : Hash) → bytes_eq other name.hash ≡ true → other ≡ name.hash
+    same other is = hash-same other name.hash is
 
     never : false ≡ true → ⊥
     never is = cc
 
-    other : answers.NoMemory ≡ answers.Failed → ⊥
-    other is = cc
+    damages : Wants ≡ Damages → ⊥
+    damages is = cc
+
+    fails : Wants ≡ Fails → ⊥
+    fails is = cc
 
 -- the same, with other messages to come
-pub wanting-on : (link : Link) (device : ℕ) (name : Name) (change : Change) (s : Sight) (carriage : Carriage)
+pub wanting-on : (link : Link) (device : ℕ) (name : Name) (change : Change) (s : Sight) (carriage : Carriage) → MayStand device name.hash s
     → IsMade link device name change s answers.NoMemory (record s { carriage = carriage })
-wanting-on link device name change s carriage =
-    let plain = wanting link device name change s in
+wanting-on link device name change s carriage may =
+    let plain = wanting link device name change s may in
     record {
       moves = record {
         nodes = refl;
@@ -157,7 +162,7 @@ made-step link device name change = record {
   recounts = λ s t x f f' k k' c c' later step. record {
     moves = moves-counted (IsAt device name.hash) s t f f' k k' c c' later step.moves;
     step = step.step;
-    trail = trails-counted s t (record { device = device; link = link; event = Changed name change x; added = step.step.added }) (is_wanting x)
+    trail = trails-counted s t (record { device = device; link = link; event = Changed name change x; added = added_by obj_rules step.step }) (is_wanting x)
         f f' k k' c c' later step.trail;
   };
 }
@@ -170,47 +175,51 @@ read-step link device name = record {
     moves = moves-counted (IsAt device name.hash) s t f f' k k' c c' later step.moves;
     holds_all = step.holds_all;
     step = step.step;
-    trail = trails-counted s t (record { device = device; link = link; event = Read name x; added = step.step.added }) (is_wanting_read x)
+    trail = trails-counted s t (record { device = device; link = link; event = Read name x; added = step.step.follows.entries.0 }) (is_wanting_read x)
         f f' k k' c c' later step.trail;
   };
 }
 
 -- what a read of a partition keeps
-pub part-frame : (device part : ℕ) (at : Hash → Type 0) → IsFrame (PartMoves device part at)
+abbrev pub PartFrame : ℕ → ℕ → (Nodes → Hash → Bool) → Sight → Sight → Type 0
+PartFrame device part at s t = PartMoves device part (at s.nodes) s t
+
+pub part-frame : (device part : ℕ) (at : Nodes → Hash → Bool) → IsFrame (PartFrame device part at)
 part-frame device part at = record {
-  same = λ s t p. (frame-of (IsInPart s.nodes.power device part at)).same s t p;
-  join = λ a b c p q. moves-trans (IsInPart a.nodes.power device part at) a b c p
-      (subst (λ (n : Nodes). Moves (IsInPart n.power device part at) b c) p.nodes q);
-  recounts = λ s t f f' k k' c c' later p. moves-counted (IsInPart s.nodes.power device part at) s t f f' k k' c c' later p;
+  same = λ s t p. (frame-of (IsInPart s.nodes.power device part (at s.nodes))).same s t p;
+  join = λ a b c p q. moves-trans (IsInPart a.nodes.power device part (at a.nodes)) a b c p
+      (subst (λ (n : Nodes). Moves (IsInPart n.power device part (at n)) b c) p.nodes q);
+  recounts = λ s t f f' k k' c c' later p. moves-counted (IsInPart s.nodes.power device part (at s.nodes)) s t f f' k k' c c' later p;
   faults = λ s t p. p.faults;
 }
 
-pub part-step : {A : Type 0} (link : Link) (device part : ℕ) (at : Hash → Type 0) (damages : Bool) (reading : Nodes → Bool → (Hash → State) → A → Type 0)
-    (read : Result A DirFault → PartRead)
-    → IsStep (PartMoves device part at) (IsPartRead link device part at damages reading read)
+pub part-step : {A : Type 0} (link : Link) (device part : ℕ) (at : Nodes → Hash → Bool) (damages : Bool)
+    (reading : Nodes → Bool → (Hash → State) → A → Type 0) (read : Result A DirFault → PartRead)
+    → IsStep (PartFrame device part at) (IsPartRead link device part at damages reading read)
 part-step {A} link device part at damages reading read = record {
   frames = part-frame device part at;
   moves = λ s t x step. step.moves;
   recounts = λ s t x f f' k k' c c' later step. record {
-    moves = moves-counted (IsInPart s.nodes.power device part at) s t f f' k k' c c' later step.moves;
+    moves = moves-counted (IsInPart s.nodes.power device part (at s.nodes)) s t f f' k k' c c' later step.moves;
     holds_all = step.holds_all;
     step = step.step;
-    trail = trails-counted s t (record { device = device; link = link; event = ReadPart (read x); added = step.step.added }) (is_wanting_part x)
+    sound = step.sound;
+    trail = trails-counted s t (record { device = device; link = link; event = ReadPart (read x); added = step.step.follows.entries.0 }) (is_wanting_part x)
         f f' k k' c c' later step.trail;
   };
 }
 
-pub hashes-step : (link : Link) (device part : ℕ) → IsStep (PartMoves device part (λ hash. ⊤)) (IsHashesRead link device part)
-hashes-step link device part = part-step link device part (λ hash. ⊤) false (λ nodes told s got. AreHashes nodes.power part told s got.items)
+pub hashes-step : (link : Link) (device part : ℕ) → IsStep (PartFrame device part (in_part part)) (IsHashesRead link device part)
+hashes-step link device part = part-step link device part (in_part part) false (λ nodes told s got. AreHashes nodes.power part told s got.items)
     (λ got. Hashes part got)
 
-pub files-step : (link : Link) (device part suffix : ℕ) → IsStep (PartMoves device part (λ hash. suffix_of hash ≡ suffix)) (IsFilesRead link device part suffix)
-files-step link device part suffix = part-step link device part (λ hash. suffix_of hash ≡ suffix) false
+pub files-step : (link : Link) (device part suffix : ℕ) → IsStep (PartFrame device part (in_suffix part suffix)) (IsFilesRead link device part suffix)
+files-step link device part suffix = part-step link device part (in_suffix part suffix) false
     (λ nodes told s got. AreLines nodes.power part suffix told s got.items) (λ got. Files part suffix got)
 
 pub write-step : (link : Link) (device part : ℕ) (hash : Hash) (file : FileName) →
-    IsStep (PartMoves device part (λ other. other ≡ hash)) (IsWriteRead link device part hash file)
-write-step link device part hash file = part-step link device part (λ other. other ≡ hash) true (λ nodes told s got. IsFile nodes.fits hash file told s got)
+    IsStep (PartFrame device part (is_one hash)) (IsWriteRead link device part hash file)
+write-step link device part hash file = part-step link device part (is_one hash) true (λ nodes told s got. IsFile nodes.fits hash file told s got)
     (λ got. Write part hash file got)
 
 -- a door that delivers each message once delivers this one so, and the next ones

@@ -29,7 +29,7 @@ use Rattle.sw_object_steps.specs.declared.stored.Stored.{Stored}
 use Rattle.sw_outside.specs.Counts.{raised}
 use Rattle.sw_outside.specs.Faults.{HasRisen}
 use Rattle.sw_state.specs.declared.state.State.{State}
-use Rattle.sw_step.specs.Rules.{has_wanted}
+use Rattle.sw_step.specs.Rules.{CanStand, has_wanted}
 use Rattle.sw_step.specs.Steps.{added_by}
 use Rattle.sw_suffix.specs.declared.dir_line.DirLine.{DirLine}
 use Rattle.sw_suffix.specs.declared.told.SuffixHash.{SuffixHash}
@@ -99,6 +99,12 @@ is_wanting_read got = is_wanting_by (got_look got)
 
 abbrev pub is_wanting_part : {A : Type 0} → Result A DirFault → Bool
 is_wanting_part got = is_wanting_by (part_look got)
+
+-- Where the door is alone, and a lock tells its contents, its device holds under a hash what the lock's entries tell, with those of its doubts that were
+-- made
+abbrev pub MayStand : ℕ → Hash → Sight → Type 0
+MayStand device hash s = s.alone ≡ true → (s.objects.seen (s.nodes.lock device hash)).told ≡ true
+    → CanStand obj_rules (s.objects.seen (s.nodes.lock device hash)) hash (s.objects.holds device hash)
 
 -- ---- one step, as it comes to a device and is answered there
 
