@@ -1,4 +1,4 @@
--- No step at an object touches a container or tells of a restart: so neither a push nor a read of a partition does.
+-- No step at an object tells of a restart: so no push does.
 use Rattle.std.proofs.Common.{◌≡◌, ℕ, ◌+◌, Bool, true, false, List, [], ◌∷◌, ◌++◌, refl, ◌∙◌, ap, inl, inr, Option, Some, None, Result, Ok, Err, arith}
 use Rattle.std.specs.Option.{option_map}
 use Rattle.std.specs.declared.alloc.Global.{Global}
@@ -11,7 +11,7 @@ use Rattle.sw_pass.specs.Outcomes.{asking, nothing_yet}
 use Rattle.sw_pass.specs.declared.outcome.Outcome.{Outcome}
 use Rattle.sw_object_steps.specs.Journals.{Hash}
 use Rattle.sw_object_steps.specs.Parts.{picked_in}
-use Rattle.sw_peer.specs.Sights.{Calls, Comes, IsFilesRead, IsHashesRead, IsMade, IsPartRead, IsRead, IsWriteRead, Nodes, Sight, Trails}
+use Rattle.sw_peer.specs.Sights.{Calls, Comes, IsFilesRead, IsHashesRead, IsMade, IsPartRead, IsSame, IsWriteRead, Nodes, Sight, Trails}
 use Rattle.sw_object_steps.specs.declared.answer.Answer.{Answer}
 use Rattle.sw_object_steps.specs.declared.change.Change.{Change}
 use Rattle.sw_object_steps.specs.declared.dir_fault.DirFault.{DirFault}
@@ -30,77 +30,61 @@ use Rattle.sw_state.specs.declared.state.State.{State}
 use Rattle.sw_suffix.specs.SuffixTexts.{files}
 use Rattle.sw_suffix.specs.declared.dir_line.DirLine.{DirLine}
 use Rattle.sw_suffix.specs.declared.told.SuffixHash.{SuffixHash}
-use Rattle.sw_container_machine.proofs.Sessions.{AreOfObjects, IsCalm, calm-join, calm-line, calm-same, calm-still, is_of_objects}
+use Rattle.sw_nodes.proofs.Restarting.{one-line}
 use Rattle.sw_nodes.specs.Restarts.{restarts_in, restarts_of}
+
+-- the trail tells as many restarts as it did
+abbrev pub IsCalm : Sight → Sight → Type 0
+IsCalm s t = option_map restarts_in t.trail ≡ option_map restarts_in s.trail
+
+pub calm-same : (s t : Sight) → t ≡ s → IsCalm s t
+calm-same s t same = ap (λ (x : Sight). option_map restarts_in x.trail) same
+
+pub calm-still : (s t : Sight) → IsSame s t → IsCalm s t
+calm-still s t same = ap (λ (x : Sight). option_map restarts_in x.trail) same.same
+
+pub calm-join : (a b c : Sight) → IsCalm a b → IsCalm b c → IsCalm a c
+calm-join a b c p q = q ∙ p
 
 -- ---- one step
 
-calm-trails : (s t : Sight) (line : Line) (wanting : Bool) → is_of_objects line.event ≡ true → t.containers ≡ s.containers → Trails s line wanting t →
-    IsCalm s t
-calm-trails s t line wanting of_objects containers (inl kept) = calm-line s t line of_objects containers kept
-calm-trails s t line wanting of_objects containers (inr same) = calm-still s t same.1
+-- one line more, which tells of no restart
+calm-line : (lines : Option (List Line)) (line : Line) → restarts_of line.event ≡ 0
+    → option_map restarts_in (option_map (λ ls. ls ++ line ∷ []) lines) ≡ option_map restarts_in lines
+calm-line None line none = refl
+calm-line (Some lines) line none =
+    let one = one-line lines line in
+    ap Some (let e : restarts_in (lines ++ line ∷ []) ≡ restarts_in lines = omega (arith, one, none) in e)
+
+pub calm-trails : (s t : Sight) (line : Line) (wanting : Bool) → restarts_of line.event ≡ 0 → Trails s line wanting t → IsCalm s t
+calm-trails s t line wanting none (inl kept) = ap (option_map restarts_in) kept ∙ calm-line s.trail line none
+calm-trails s t line wanting none (inr same) = calm-still s t same.1
 
 module _ {A : Type 0} (step : Sight → A → Sight → Type 0) (calm : (s : Sight) (x : A) (t : Sight) → step s x t → IsCalm s t) where
   calm-comes : (s : Sight) (xs : List A) (t : Sight) → Comes step s xs t → IsCalm s t
   calm-comes s [] t p = calm-still s t p
   calm-comes s (x ∷ xs) t p = calm-join s p.0 t (calm s x p.0 p.1) (calm-comes p.0 xs t p.2)
 
-  pub calm-calls : (s : Sight) (link : Link) (r : Result A Lost) (t : Sight) → Calls step s link r t → IsCalm s t
+  calm-calls : (s : Sight) (link : Link) (r : Result A Lost) (t : Sight) → Calls step s link r t → IsCalm s t
   calm-calls s link (Ok x) t p = calm-comes s (p.0 ++ x ∷ []) t p.2
   calm-calls s link (Err lost) t p = calm-comes s p.2.0 t p.2.1
 
--- ---- no restart is told
-
-none-of-objects : (lines : List Line) → AreOfObjects lines → restarts_in lines ≡ 0
-none-of-objects [] all = refl
-none-of-objects (line ∷ lines) all =
-    let here = no-restart line.event all.0 in
-    let rest = none-of-objects lines all.1 in
-    omega (arith, here, rest)
-  where
-    no-restart : (event : Event) → is_of_objects event ≡ true → restarts_of event ≡ 0
-    no-restart (Changed name change answer) is = refl
-    no-restart (Read name got) is = refl
-    no-restart (ReadPart read) is = refl
-    no-restart (Listed failed) is = refl
-    no-restart (AtContainer event entries) is = refl
-    no-restart Restarted is = cc
-
-both-restarts : (xs ys : List Line) → restarts_in (xs ++ ys) ≡ restarts_in xs + restarts_in ys
-both-restarts [] ys = omega arith
-both-restarts (x ∷ xs) ys = let rest = both-restarts xs ys in omega (arith, rest)
-
--- the trail tells as many restarts as it did
-pub calm-restarts : (s t : Sight) → IsCalm s t → option_map restarts_in t.trail ≡ option_map restarts_in s.trail
-calm-restarts s t calm = ap (option_map restarts_in) calm.trail ∙ by s.trail
-  where
-    by : (o : Option (List Line)) → option_map restarts_in (option_map (λ ls. ls ++ calm.lines) o) ≡ option_map restarts_in o
-    by None = refl
-    by (Some lines) =
-        let both = both-restarts lines calm.lines in
-        let none = none-of-objects calm.lines calm.all in
-        ap Some (let e : restarts_in (lines ++ calm.lines) ≡ restarts_in lines = omega (arith, both, none) in e)
-
-pub made-calm : (link : Link) (device : ℕ) (name : Name) (change : Change) (s : Sight) (r : Result Answer Lost) (t : Sight)
+made-calm : (link : Link) (device : ℕ) (name : Name) (change : Change) (s : Sight) (r : Result Answer Lost) (t : Sight)
     → Calls (IsMade link device name change) s link r t → IsCalm s t
 made-calm link device name change s r t p =
-    calm-calls (IsMade link device name change) (λ a x b made. calm-trails a b _ _ refl made.moves.containers made.trail) s link r t p
+    calm-calls (IsMade link device name change) (λ a x b made. calm-trails a b _ _ refl made.trail) s link r t p
 
-pub read-calm : (link : Link) (device : ℕ) (name : Name) (s : Sight) (r : Result Got Lost) (t : Sight) → Calls (IsRead link device name) s link r t → IsCalm s t
-read-calm link device name s r t p =
-    calm-calls (IsRead link device name) (λ a x b made. calm-trails a b _ _ refl made.moves.containers made.trail) s link r t p
-
-part-calm : {A : Type 0} (link : Link) (device part : ℕ) (at : Hash → Type 0) (damages : Bool) (reading : Nodes → Bool → (Hash → State) → A → Type 0)
+part-calm : {A : Type 0} (link : Link) (device part : ℕ) (at : Nodes → Hash → Bool) (damages : Bool) (reading : Nodes → Bool → (Hash → State) → A → Type 0)
     (read : Result A DirFault → PartRead) (s : Sight) (r : Result (Result A DirFault) Lost) (t : Sight)
     → Calls (IsPartRead link device part at damages reading read) s link r t → IsCalm s t
 part-calm {A} link device part at damages reading read s r t p =
-    calm-calls (IsPartRead link device part at damages reading read) (λ a x b made. calm-trails a b _ _ refl made.moves.containers made.trail) s link r t p
+    calm-calls (IsPartRead link device part at damages reading read) (λ a x b made. calm-trails a b _ _ refl made.trail) s link r t p
 
-pub hashes-calm : (link : Link) (device part : ℕ) (s : Sight) (r : Result (Result (Vec SuffixHash Global) DirFault) Lost) (t : Sight)
+hashes-calm : (link : Link) (device part : ℕ) (s : Sight) (r : Result (Result (Vec SuffixHash Global) DirFault) Lost) (t : Sight)
     → Calls (IsHashesRead link device part) s link r t → IsCalm s t
 hashes-calm link device part s r t p = part-calm link device part _ _ _ _ s r t p
 
-pub files-calm : (link : Link) (device part suffix : ℕ) (s : Sight) (r : Result (Result (Vec DirLine Global) DirFault) Lost) (t : Sight)
+files-calm : (link : Link) (device part suffix : ℕ) (s : Sight) (r : Result (Result (Vec DirLine Global) DirFault) Lost) (t : Sight)
     → Calls (IsFilesRead link device part suffix) s link r t → IsCalm s t
 files-calm link device part suffix s r t p = part-calm link device part _ _ _ _ s r t p
 

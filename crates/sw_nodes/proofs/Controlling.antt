@@ -12,8 +12,8 @@ use Rattle.sw_control.specs.Asking.{IsControl, IsPlaced, is_control}
 use Rattle.sw_control.specs.declared.asking.Control.TheVariants as controls
 use Rattle.sw_control.specs.declared.replication.Replication.{Replication}
 use Rattle.sw_core.proofs.Anew.{restarts}
-use Rattle.sw_object_machine.proofs.Sessions.{run-listed, run-restarted}
-use Rattle.sw_object_machine.specs.Doors.{HasRun}
+use Rattle.sw_machine.proofs.Doors.{files-listed-run-on, restart-runs-on, runs-on-itself}
+use Rattle.sw_machine.specs.Doors.{RunsOn}
 use Rattle.sw_core.specs.Listing.{is_failed}
 use Rattle.sw_core.specs.Worlds.{AllNodes, sight_of}
 use Rattle.sw_peer.specs.Sights.{Restarts, Sight}
@@ -22,10 +22,8 @@ use Rattle.sw_session.specs.declared.server.ServerFault.{ServerFault}
 use Rattle.sw_steps.proofs.Running.{over-nodes, pushing_runs}
 use Rattle.sw_volume.specs.Tree.{Folders}
 use Rattle.sw_volume.specs.Volume.{raised_by}
-use Rattle.sw_container_machine.proofs.Sessions.{calm-line, cont-run-calm, cont-run-restarted}
-use Rattle.sw_container_machine.specs.Standing.{HasContRun}
-use Rattle.sw_nodes.proofs.Calming.{calm-restarts, push-calm}
-use Rattle.sw_nodes.proofs.Readying.{part_hash, ready-of}
+use Rattle.sw_nodes.proofs.Calming.{push-calm}
+use Rattle.sw_nodes.proofs.Readying.{ready-of}
 use Rattle.sw_nodes.proofs.Serving.{goes_on}
 use Rattle.sw_nodes.proofs.Restarting.{listed-lines, no-line, none-called, once-called, restart-lines, some_is}
 use Rattle.sw_nodes.specs.Restarts.{restarts_in}
@@ -57,8 +55,7 @@ module _ {V : Type 0} (tells : V → Bool) (files : V → Folders) (faults : V �
   wanted ring w after request moment response is same reply = record {
     answers = on_true _ _ (is_control request.path) is (inr (same, reply));
     nodes = ap (λ (x : AllNodes V). (see x).nodes) same;
-    runs = λ start r. subst (λ (x : AllNodes V). HasRun start (see x)) (sym same) r;
-    cont_runs = λ start r. subst (λ (x : AllNodes V). HasContRun start (see x)) (sym same) r;
+    runs = subst (λ (x : AllNodes V). RunsOn (see w) (see x)) (sym same) (runs-on-itself (see w));
   }
 
   -- the files of a device were listed
@@ -68,9 +65,7 @@ module _ {V : Type 0} (tells : V → Bool) (files : V → Folders) (faults : V �
   may_list ring w after request moment response device is asked (inl filed) = record {
     answers = on_true _ _ (is_control request.path) is (inl (controls.Files device, asked, filed));
     nodes = filed.moves.nodes;
-    runs = λ start r. run-listed start device (is_failed filed.listed) (see w) (see after) filed.moves r;
-    cont_runs = λ start r. cont-run-calm start (see w) (see after) filed.moves.nodes
-        (calm-line (see w) (see after) _ refl filed.moves.containers filed.moves.trail) r;
+    runs = files-listed-run-on device (is_failed filed.listed) (see w) (see after) filed.moves;
   }
   may_list ring w after request moment response device is asked (inr same) = wanted ring w after request moment response is same.0 same.1
 
@@ -86,8 +81,7 @@ module _ {V : Type 0} (tells : V → Bool) (files : V → Folders) (faults : V �
       record {
         answers = on_true _ _ (is_control request.path) is (inl (controls.Restart device, asked, done));
         nodes = begun.nodes;
-        runs = λ start r. run-restarted start device (see w) (see after) refl begun r;
-        cont_runs = λ start r. cont-run-restarted start device (see w) (see after) refl begun r;
+        runs = restart-runs-on device (see w) (see after) refl begun;
       }
   may_restart ring w after request moment response device is asked (inr same) = wanted ring w after request moment response is same.0 same.1
 
@@ -109,27 +103,20 @@ module _ {V : Type 0} (tells : V → Bool) (files : V → Folders) (faults : V �
 
   -- a partition was pushed
   may_push : (ring : Ring) (w after : AllNodes V) (request : Request) (moment : ℕ) (response : Response) (asked : Replication) → is_control request.path ≡ true
-      → IsControl ring request (controls.Replicate asked) → IsPlaced ring (controls.Replicate asked) → w.power ≡ ring.power
+      → IsControl ring request (controls.Replicate asked) → IsPlaced ring (controls.Replicate asked)
       → IsReplicated tells files faults asked w response after → MayAnswer tells files faults ring w request moment response after
-  may_push ring w after request moment response asked is asks placed power done =
-      let there = part_hash ring w.power power asked.part placed.3 in
-      record {
-        answers = on_true _ _ (is_control request.path) is (inl (controls.Replicate asked, asks, done));
-        nodes = over-nodes asked.from asked.to asked.part asked.acts (see w) done.outcome (see after) done.pushed;
-        runs = λ start r. pushing_runs start asked.from asked.to asked.part asked.acts (see w) done.outcome (see after) there.0 done.pushed placed.2 refl
-            there.1 r;
-        cont_runs = λ start r.
-            let calm = push-calm asked.from asked.to asked.part _ done.outcome _ done.pushed.pushes in
-            cont-run-calm start (see w) (see after) (over-nodes asked.from asked.to asked.part asked.acts (see w) done.outcome (see after) done.pushed)
-            (record { containers = calm.containers; lines = calm.lines; all = calm.all; trail = calm.trail }) r;
-      }
+  may_push ring w after request moment response asked is asks placed done = record {
+    answers = on_true _ _ (is_control request.path) is (inl (controls.Replicate asked, asks, done));
+    nodes = over-nodes asked.from asked.to asked.part asked.acts (see w) done.outcome (see after) done.pushed;
+    runs = pushing_runs asked.from asked.to asked.part asked.acts (see w) done.outcome (see after) done.pushed placed.2 refl;
+  }
 
   -- and leaves no line of a restart
   push_lines : (w after : AllNodes V) (asked : Replication) (response : Response) → IsReplicated tells files faults asked w response after
       → restarts_in after.lines ≡ restarts_in w.lines + 0
   push_lines w after asked response done =
       let calm : Some (restarts_in after.lines) ≡ Some (restarts_in w.lines) =
-      calm-restarts _ _ (push-calm asked.from asked.to asked.part _ done.outcome _ done.pushed.pushes) in
+      push-calm asked.from asked.to asked.part _ done.outcome _ done.pushed.pushes in
       let e : restarts_in after.lines ≡ restarts_in w.lines = some_is calm in
       omega (arith, e)
 
@@ -140,7 +127,7 @@ module _ {V : Type 0} (tells : V → Bool) (files : V → Folders) (faults : V �
         → ring_now ≡ ring → stores_now ≡ stores → IsReady out ring w stores.now → IsReplicated tells files faults asked w response after
         → NodesAnswer tells files faults store_faults store_calls out ring ring_now w after stores stores_now request moment response
     was_pushed moment response asked is asks placed ring_is stores_are ready done =
-        let may = may_push ring w after request moment response asked is asks placed ready.power done in
+        let may = may_push ring w after request moment response asked is asks placed done in
         record {
           ring_is = ring_is;
           may = may;

@@ -55,6 +55,9 @@ module _ {V : Type 0} (tells : V → Bool) (files : V → Folders) (faults : V �
   abbrev see : AllNodes V → Sight
   see w = sight_of tells files faults w
 
+  abbrev held : AllNodes V → ℕ → Hash → State
+  held w device hash = ((see w).objects.holds device hash).state
+
   -- a push that is done
   record IsPushed (from to part : ℕ) (w after : AllNodes V) : Type 0 where
     acts : Acts
@@ -112,13 +115,13 @@ module _ {V : Type 0} (tells : V → Bool) (files : V → Folders) (faults : V �
       back = pushed ring b a part n after second
 
       both : State
-      both = state_of (writes_of ((see w).objects.holds a hash) ++ writes_of ((see w).objects.holds b hash))
+      both = state_of (writes_of (held w a hash) ++ writes_of (held w b hash))
 
-      by : (((see after).objects.holds a hash ≡ state_of (writes_of ((see w).objects.holds a hash) ++ writes_of ((see w).objects.holds b hash)))
-          × ((see after).objects.holds b hash ≡ state_of (writes_of ((see w).objects.holds a hash) ++ writes_of ((see w).objects.holds b hash))))
+      by : ((held after a hash ≡ state_of (writes_of (held w a hash) ++ writes_of (held w b hash)))
+          × (held after b hash ≡ state_of (writes_of (held w a hash) ++ writes_of (held w b hash))))
           ⊎ CollidesOnce a b part hash (begun there.acts (see w)) (sight_after there.over) (begun back.acts (see n)) (sight_after back.over)
-          → (((see after).objects.holds a hash ≡ state_of (writes_of ((see w).objects.holds a hash) ++ writes_of ((see w).objects.holds b hash)))
-          × ((see after).objects.holds b hash ≡ state_of (writes_of ((see w).objects.holds a hash) ++ writes_of ((see w).objects.holds b hash))))
+          → ((held after a hash ≡ state_of (writes_of (held w a hash) ++ writes_of (held w b hash)))
+          × (held after b hash ≡ state_of (writes_of (held w a hash) ++ writes_of (held w b hash))))
           ⊎ CollidesOnce a b part hash (see w) (see m) (see n) (see after)
       by (inl joined) = inl joined
       by (inr (inl collides)) = inr (inl (collides-out a b part (suffix_of hash) there.acts (see w) (Ok there.outcome) (see m) there.over collides))

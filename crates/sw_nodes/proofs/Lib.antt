@@ -3,7 +3,7 @@ pub mod Comparing
 pub mod Contained
 pub mod Controlling
 pub mod Exchanging
-pub mod Going
+pub mod Keeping
 pub mod Readying
 pub mod Replicating
 pub mod Restarting

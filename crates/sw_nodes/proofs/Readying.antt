@@ -1,9 +1,6 @@
--- A world over the nodes of a ring is ready where its volumes are out, and each partition of the ring has a hash.
+-- A world over the nodes of a ring is ready where its volumes are out.
 use Rattle.std.proofs.Common.{◌≡◌, ℕ, ◌^◌, ◌<◌, ◌≤◌, Bool, length, Option, None, sym, ◌∙◌, ap, subst, arith}
-use Rattle.sw_object_machine.proofs.Witness.{hash_with, of-part}
 use Rattle.sw_core.specs.Worlds.{AllNodes, nodes_of, shown}
-use Rattle.sw_object_steps.specs.Journals.{Hash}
-use Rattle.sw_object_steps.specs.Parts.{IsOfPart}
 use Rattle.sw_peer.specs.Sights.{Nodes}
 use Rattle.sw_ring.specs.declared.ring.Ring.{Ring}
 use Rattle.sw_hashdir.proofs.Stored.{hashed-is}
@@ -24,14 +21,6 @@ ready-of out ring w stores whole nodes are_out = record {
   secrets = ap (λ (n : Nodes). n.secrets) nodes;
   are_out = are_out;
 }
-
--- each partition of the ring has a hash
-pub part_hash : (ring : Ring) (power : ℕ) → power ≡ ring.power → (part : ℕ) → part < 2 ^ ring.power → (hash : Hash) × IsOfPart power part hash
-part_hash ring power same part within =
-    let few : ring.power ≤ 16 = ring.greatest_power in (
-      hash_with power part 0,
-      of-part power part 0 (subst (λ (n : ℕ). n ≤ 32) (sym same) (omega (arith, few))) (subst (λ (n : ℕ). part < 2 ^ n) (sym same) within),
-    )
 
 -- then they are the ring's, for whoever asks them
 pub ready-nodes : {V S : Type 0} (out : S → ℕ → ℕ → Bool) (ring : Ring) (w : AllNodes V) (stores : S) → IsReady out ring w stores

@@ -10,12 +10,11 @@ use Rattle.sw_replica_server.specs.Serving.{IsAnswered, IsGivenUp}
 use Rattle.sw_replica_server.specs.Targets.{is_replication_of}
 use Rattle.sw_ring.specs.declared.ring.Ring.{Ring}
 use Rattle.sw_volume.specs.Tree.{Folders}
-use Rattle.sw_container_machine.proofs.Sessions.{cont-run-calm}
 use Rattle.sw_container_server.specs.Targets.{is_for_containers}
-use Rattle.sw_nodes.proofs.Calming.{calm-restarts}
-use Rattle.sw_nodes.proofs.Comparing.{Stays, answered-stays, given_up-stays}
+use Rattle.sw_machine.proofs.Doors.{runs-on-itself}
+use Rattle.sw_nodes.proofs.Comparing.{answered-keeps, given_up-keeps}
 use Rattle.sw_nodes.proofs.Controlling.{on_true}
-use Rattle.sw_nodes.proofs.Readying.{part_hash}
+use Rattle.sw_nodes.proofs.Keeping.{Keeps}
 use Rattle.sw_nodes.proofs.Restarting.{no-line, none-called, some_is}
 use Rattle.sw_nodes.proofs.Serving.{goes_on, on_false}
 use Rattle.sw_nodes.specs.Nodes.{IsReady, NodesAnswer}
@@ -31,28 +30,27 @@ module _ {V S : Type 0} (tells : V → Bool) (files : V → Folders) (faults : V
   abbrev Answers : Type 0
   Answers = NodesAnswer tells files faults store_faults store_calls out ring ring w after stores stores request moment response
 
-  goes : Stays ring (see w) (see after) → IsCompared tells files faults ring w request response after → Answers
-  goes stays compared = record {
+  goes : Keeps (see w) (see after) → IsCompared tells files faults ring w request response after → Answers
+  goes keeps compared = record {
     ring_is = refl;
     may = record {
       answers = on_false _ _ (is_control request.path) nodes (on_true _ _ (is_replication_of request) replicas compared);
-      nodes = stays.nodes;
-      runs = λ start r. stays.runs start refl (part_hash ring w.power ready.power) r;
-      cont_runs = λ start r. cont-run-calm start (see w) (see after) stays.nodes stays.calm r;
+      nodes = keeps.nodes;
+      runs = keeps.runs refl;
     };
     faults_are = refl;
     gained = 0;
-    gains = let calm : restarts_in after.lines ≡ restarts_in w.lines = some_is (calm-restarts _ _ stays.calm) in omega (arith, calm);
+    gains = let calm : restarts_in after.lines ≡ restarts_in w.lines = some_is keeps.calm in omega (arith, calm);
     calls_are = none-called (2 ^ ring.lock_bits) (store_calls stores.now) (store_calls stores.now) refl;
     same_stores = refl;
-    ready = goes_on tells files faults out ring w after stores.now ready stays.nodes;
+    ready = goes_on tells files faults out ring w after stores.now ready keeps.nodes;
   }
 
   pub compared : IsAnswered see w after ring request response → Answers
-  compared answered = goes (answered-stays see ring request w after response answered) (inl answered)
+  compared answered = goes (answered-keeps see ring request w after response answered) (inl answered)
 
   pub compared_not : response ≡ bare 500 → IsGivenUp see w after ring request → Answers
-  compared_not reply left = goes (given_up-stays see ring request w after left) (inr (reply, left))
+  compared_not reply left = goes (given_up-keeps see ring request w after left) (inr (reply, left))
 
   pub compared_ready : Answers → IsReady out ring after stores.now
   compared_ready answers = answers.ready
@@ -82,8 +80,7 @@ module _ {V S : Type 0} (tells : V → Bool) (files : V → Folders) (faults : V
     may = record {
       answers = whatever (is_control request.path) (is_replication_of request) (is_for_containers request);
       nodes = refl;
-      runs = λ start r. r;
-      cont_runs = λ start r. r;
+      runs = runs-on-itself (sight_of tells files faults w);
     };
     faults_are = refl;
     gained = 0;

@@ -8,7 +8,6 @@ use Rattle.sw_message.specs.declared.response.Response.{Response}
 use Rattle.sw_object_server.specs.Replies.{bare}
 use Rattle.sw_object_server.specs.Serving.{IsAnswered, IsGivenUp}
 use Rattle.sw_control.specs.Asking.{is_control}
-use Rattle.sw_container_machine.proofs.Sessions.{cont-run-calm}
 use Rattle.sw_container_server.specs.Targets.{is_for_containers}
 use Rattle.sw_replica_server.specs.Targets.{is_replication_of}
 use Rattle.sw_core.specs.Worlds.{AllNodes, shown, sight_of}
@@ -19,7 +18,7 @@ use Rattle.sw_ring.specs.declared.ring.Ring.{Ring}
 use Rattle.sw_volume.specs.Tree.{Folders}
 use Rattle.sw_nodes.proofs.Readying.{ready-of}
 use Rattle.sw_nodes.proofs.Restarting.{asked-lines, none-called}
-use Rattle.sw_nodes.proofs.RunningLemmas.{answered_calm, answered_nodes, answered_runs, left_calm, left_nodes, left_runs}
+use Rattle.sw_nodes.proofs.RunningLemmas.{answered_keeps, left_keeps}
 use Rattle.sw_nodes.proofs.ServingLemmas.{request_left, request_served}
 use Rattle.sw_nodes.specs.Nodes.{IsReady, NodesAnswer}
 
@@ -77,12 +76,12 @@ module _ {V : Type 0} (tells : V → Bool) (files : V → Folders) (faults : V �
     pub answered_on : (ring : Ring) (w after : AllNodes V) (stores : S) (request : Request) (moment : ℕ) (response : Response) → IsReady out ring w stores
         → IsAnswered see w after ring request moment response → IsReady out ring after stores
     answered_on ring w after stores request moment response ready answered =
-        goes_on ring w after stores ready (answered_nodes see ring w after request moment response answered)
+        goes_on ring w after stores ready ((answered_keeps see ring w after request moment response answered).nodes)
 
     pub left_on : (ring : Ring) (w after : AllNodes V) (stores : S) (request : Request) (moment : ℕ) → IsReady out ring w stores
         → IsGivenUp see w after ring request moment → IsReady out ring after stores
     left_on ring w after stores request moment ready left =
-        goes_on ring w after stores ready (left_nodes see ring w after request moment left)
+        goes_on ring w after stores ready ((left_keeps see ring w after request moment left).nodes)
 
   -- ---- a request of the nodes
 
@@ -97,10 +96,8 @@ module _ {V : Type 0} (tells : V → Bool) (files : V → Folders) (faults : V �
       may = record {
         answers = on_false _ _ (is_control request.path) is (on_false _ _ (is_replication_of request) other (on_false _ _ (is_for_containers request) object
             (request_served see (λ w. w.lines) (λ w. refl) ring w after request moment response answered)));
-        nodes = answered_nodes see ring w after request moment response answered;
-        runs = answered_runs see (λ w. refl) ring w after request moment response answered;
-        cont_runs = λ start r. cont-run-calm start (see w) (see after) (answered_nodes see ring w after request moment response answered)
-            (answered_calm see ring w after request moment response answered) r;
+        nodes = (answered_keeps see ring w after request moment response answered).nodes;
+        runs = (answered_keeps see ring w after request moment response answered).runs refl;
       };
       faults_are = refl;
       gained = 0;
@@ -122,10 +119,8 @@ module _ {V : Type 0} (tells : V → Bool) (files : V → Folders) (faults : V �
       may = record {
         answers = on_false _ _ (is_control request.path) is (on_false _ _ (is_replication_of request) other (on_false _ _ (is_for_containers request) object
             (inr (reply, request_left see (λ w. w.lines) (λ w. refl) ring w after request moment left))));
-        nodes = left_nodes see ring w after request moment left;
-        runs = left_runs see (λ w. refl) ring w after request moment left;
-        cont_runs = λ start r. cont-run-calm start (see w) (see after) (left_nodes see ring w after request moment left)
-            (left_calm see ring w after request moment left) r;
+        nodes = (left_keeps see ring w after request moment left).nodes;
+        runs = (left_keeps see ring w after request moment left).runs refl;
       };
       faults_are = refl;
       gained = 0;

@@ -4,6 +4,7 @@ use Rattle.sw_hashpath.specs.declared.name.Name.{Name}
 use Rattle.sw_message.specs.declared.request.Request.{Request}
 use Rattle.sw_message.specs.declared.response.Response.{Response}
 use Rattle.sw_peer.specs.Sights.{Comes, IsMade, IsRead, Sight, Trails, is_wanting, is_wanting_read}
+use Rattle.sw_object_steps.specs.Rules.{obj_rules}
 use Rattle.sw_object_steps.specs.Steps.{is_entered, write_of}
 use Rattle.sw_object_steps.specs.declared.answer.Answer.{Answer}
 use Rattle.sw_object_steps.specs.declared.answer.Answer.TheVariants as answers
@@ -22,6 +23,7 @@ use Rattle.sw_object_server.specs.Serving.{IsAnswered, IsGivenUp, IsLeft, IsServ
 use Rattle.sw_object_server.specs.Showing.{IsShown}
 use Rattle.sw_object_server.specs.declared.asked.Asked.{Asked}
 use Rattle.sw_object_server.specs.declared.asked.Asked.TheVariants as asks
+use Rattle.sw_step.specs.Steps.{added_by}
 use Rattle.sw_nodes.specs.Server.{HasLine, IsIdle, IsRight, IsWanting}
 
 -- ---- the line of one step
@@ -77,7 +79,7 @@ change_line s t lines lines_now device name change answer before after stepped =
     let once : Comes (IsMade Local device name change) s (answer ∷ []) t =
     subst (λ (e : List Answer). Comes (IsMade Local device name change) s (e ++ answer ∷ []) t) (stepped.called.1 refl) stepped.called.2 in
     let there : (once.0).trail ≡ Some lines_now = sym (ap (λ (x : Sight). x.trail) once.2.same) ∙ after in
-    elim (line_left s once.0 lines lines_now device (Changed name change answer) once.1.step.added (is_wanting answer) before there once.1.trail) [
+    elim (line_left s once.0 lines lines_now device (Changed name change answer) (added_by obj_rules once.1.step) (is_wanting answer) before there once.1.trail) [
       | inl line ↦ inl line
       | inr none ↦ inr (wants answer none.0, none.1)
     ]
@@ -89,7 +91,7 @@ read_line s t lines lines_now device name got before after stepped =
     let once : Comes (IsRead Local device name) s (got ∷ []) t =
     subst (λ (e : List Got). Comes (IsRead Local device name) s (e ++ got ∷ []) t) (stepped.called.1 refl) stepped.called.2 in
     let there : (once.0).trail ≡ Some lines_now = sym (ap (λ (x : Sight). x.trail) once.2.same) ∙ after in
-    elim (line_left s once.0 lines lines_now device (Read name got) once.1.step.added (is_wanting_read got) before there once.1.trail) [
+    elim (line_left s once.0 lines lines_now device (Read name got) once.1.step.follows.entries.0 (is_wanting_read got) before there once.1.trail) [
       | inl line ↦ inl line
       | inr none ↦ inr (wants_read got none.0, none.1)
     ]

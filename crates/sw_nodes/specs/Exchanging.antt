@@ -15,6 +15,7 @@ use Rattle.sw_peer.specs.Sights.{Sight}
 use Rattle.sw_replicator.specs.Laws.{BothTell, CollidesOnce, HoldSame}
 use Rattle.sw_ring.specs.declared.ring.Ring.{Ring}
 use Rattle.sw_state.specs.States.{Agree, state_of, writes_of}
+use Rattle.sw_state.specs.declared.state.State.{State}
 use Rattle.sw_volume.specs.Tree.{Folders}
 use Rattle.sw_nodes.specs.Server.{MayAnswer}
 
@@ -27,6 +28,10 @@ pub record TellsDone (response : Response) : Type 0 where
 module _ {V : Type 0} (tells : V → Bool) (files : V → Folders) (faults : V → ℕ) where
   abbrev pub seen : AllNodes V → Sight
   seen w = sight_of tells files faults w
+
+  -- the state that a device holds under a hash
+  abbrev pub held : AllNodes V → ℕ → Hash → State
+  held w device hash = ((seen w).objects.holds device hash).state
 
   -- a request asked for a push of this partition, and was told that it is done
   pub record IsDonePush (ring : Ring) (from to part : ℕ) (w after : AllNodes V) : Type 0 where
@@ -47,7 +52,7 @@ module _ {V : Type 0} (tells : V → Bool) (files : V → Folders) (faults : V �
   ExchangeMeets = (ring : Ring) (a b part : ℕ) (w m n after : AllNodes V) → IsDonePush ring a b part w m → IsDonePush ring b a part n after
       → (seen n).nodes ≡ (seen w).nodes → BothTell a b part (seen w) → BothTell a b part (seen n)
       → (hash : Hash) → IsOfPart w.power part hash → HoldSame a b hash (seen m) (seen n)
-      → Agree (writes_of ((seen w).objects.holds a hash) ++ writes_of ((seen w).objects.holds b hash))
-      → (((seen after).objects.holds a hash ≡ state_of (writes_of ((seen w).objects.holds a hash) ++ writes_of ((seen w).objects.holds b hash)))
-      × ((seen after).objects.holds b hash ≡ state_of (writes_of ((seen w).objects.holds a hash) ++ writes_of ((seen w).objects.holds b hash))))
+      → Agree (writes_of (held w a hash) ++ writes_of (held w b hash))
+      → ((held after a hash ≡ state_of (writes_of (held w a hash) ++ writes_of (held w b hash)))
+      × (held after b hash ≡ state_of (writes_of (held w a hash) ++ writes_of (held w b hash))))
       ⊎ CollidesOnce a b part hash (seen w) (seen m) (seen n) (seen after)

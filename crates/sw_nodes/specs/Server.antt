@@ -19,8 +19,6 @@ use Rattle.sw_object_server.specs.Replies.{bare, made_reply, reply_to}
 use Rattle.sw_object_server.specs.Showing.{IsShown}
 use Rattle.sw_object_server.specs.declared.asked.Asked.{Asked}
 use Rattle.sw_object_server.specs.declared.asked.Asked.TheVariants as asks
-use Rattle.sw_container_machine.specs.Machine.{ContMachine}
-use Rattle.sw_container_machine.specs.Standing.{HasContRun}
 use Rattle.sw_container_server.specs.Serving as containers
 use Rattle.sw_container_server.specs.Targets.{is_for_containers}
 use Rattle.sw_replica_server.specs.Serving as replicas
@@ -32,9 +30,8 @@ use Rattle.sw_control.specs.TrailText.{trail_text}
 use Rattle.sw_control.specs.declared.asking.Control.{Control}
 use Rattle.sw_control.specs.declared.asking.Control.TheVariants as controls
 use Rattle.sw_control.specs.declared.replication.Replication.{Replication}
-use Rattle.sw_object_machine.specs.Doors.{HasRun}
+use Rattle.sw_machine.specs.Doors.{RunsOn}
 use Rattle.sw_core.specs.Listing.{AreCalm, ListsFiles, is_failed}
-use Rattle.sw_object_machine.specs.Machine.{Machine}
 use Rattle.sw_core.specs.Worlds.{AllNodes, IsSameWorld, Lifts, SetsDown, sight_of}
 use Rattle.sw_outside.specs.declared.errors.NoMemory.{NoMemory}
 use Rattle.sw_pass.specs.declared.outcome.Outcome.{Outcome}
@@ -142,7 +139,7 @@ module _ {V : Type 0} (tells : V → Bool) (files : V → Folders) (faults : V �
 
   -- ---- any request
 
-  -- A reply that may be given: the right one, or want of memory; and what the world is then. Whatever runs of the machines it stood for go on
+  -- A reply that may be given: the right one, or want of memory; and what the world is then. Whatever machine it stood for goes on to it as it is then,
   -- by the lines that it kept of this request.
   pub record MayAnswer (ring : Ring) (w : AllNodes V) (r : Request) (moment : ℕ) (response : Response) (after : AllNodes V) : Type 0 where
     pub answers : MatchBool (is_control r.path) (IsControlled ring w r response after)
@@ -150,8 +147,7 @@ module _ {V : Type 0} (tells : V → Bool) (files : V → Folders) (faults : V �
         (MatchBool (is_for_containers r) (IsContained ring w r response after)
         (IsRight ring w.lines r moment response after.lines ⊎ IsWanting ring w.lines r response after.lines)))
     pub nodes : (sight_of tells files faults after).nodes ≡ (sight_of tells files faults w).nodes
-    pub runs : (start : Machine) → HasRun start (sight_of tells files faults w) → HasRun start (sight_of tells files faults after)
-    pub cont_runs : (start : ContMachine) → HasContRun start (sight_of tells files faults w) → HasContRun start (sight_of tells files faults after)
+    pub runs : RunsOn (sight_of tells files faults w) (sight_of tells files faults after)
 
   -- A restart was asked for, and the device lifted, but its volumes couldn't be started again: it stays out, and no request comes after it
   pub record MayHalt (ring : Ring) (w : AllNodes V) (r : Request) (after : AllNodes V) : Type 0 where

@@ -1,0 +1,130 @@
+-- What steps at the nodes keep that were called for at a device itself: whatever machine the nodes stood for goes on to them as they are then, whether
+-- lines are kept or not, and no line tells of a restart.
+use Rattle.std.proofs.Common.{◌≡◌, ℕ, true, List, [], ◌∷◌, ◌++◌, sym, ◌∙◌, ap, subst, Bool, Result, Ok, refl}
+use Rattle.std.specs.declared.alloc.Global.{Global}
+use Rattle.std.specs.declared.vec.Vec.{Vec}
+use Rattle.sw_container_steps.specs.Reads.{info_of, listing_of}
+use Rattle.sw_container_steps.specs.declared.cont_answer.ContAnswer.{ContAnswer}
+use Rattle.sw_container_steps.specs.declared.cont_change.ContChange.{ContChange}
+use Rattle.sw_container_steps.specs.declared.info.Info.{Info}
+use Rattle.sw_hashpath.specs.declared.name.Name.{Name}
+use Rattle.sw_hashpath.specs.declared.place.Place.{Place}
+use Rattle.sw_listing.specs.declared.entry.Entry.{Entry}
+use Rattle.sw_listing.specs.declared.query.Query.{Query}
+use Rattle.sw_machine.proofs.Doors as doors
+use Rattle.sw_machine.specs.Doors.{RunsOn}
+use Rattle.sw_machine.specs.Machine.{Machine}
+use Rattle.sw_object_steps.specs.declared.answer.Answer.{Answer}
+use Rattle.sw_object_steps.specs.declared.change.Change.{Change}
+use Rattle.sw_object_steps.specs.declared.dir_fault.DirFault.{DirFault}
+use Rattle.sw_object_steps.specs.declared.got.Got.{Got}
+use Rattle.sw_peer.specs.ContSights.{IsContMade, IsLooked}
+use Rattle.sw_peer.specs.Sights.{Calls, Comes, IsFilesRead, IsHashesRead, IsMade, IsRead, IsSame, Sight}
+use Rattle.sw_peer.specs.declared.cont_event.ContEvent.TheVariants as cont_events
+use Rattle.sw_peer.specs.declared.link.Link.TheVariants.{Local}
+use Rattle.sw_suffix.specs.declared.dir_line.DirLine.{DirLine}
+use Rattle.sw_suffix.specs.declared.told.SuffixHash.{SuffixHash}
+use Rattle.sw_nodes.proofs.Calming.{IsCalm, calm-join, calm-same, calm-still, calm-trails}
+
+pub record Keeps (s t : Sight) : Type 0 where
+  pub nodes : t.nodes ≡ s.nodes
+  pub alone : t.alone ≡ true → s.alone ≡ true
+  pub calm : IsCalm s t
+  pub runs : t.alone ≡ true → RunsOn s t
+
+keeps-still : (s t : Sight) → IsSame s t → Keeps s t
+keeps-still s t p = record {
+  nodes = ap (λ (x : Sight). x.nodes) p.same;
+  alone = λ alone. sym (ap (λ (x : Sight). x.alone) p.same) ∙ alone;
+  calm = calm-still s t p;
+  runs = λ alone. doors.same-runs-on s t p;
+}
+
+pub keeps-same : (s t : Sight) → t ≡ s → Keeps s t
+keeps-same s t same = record {
+  nodes = ap (λ (x : Sight). x.nodes) same;
+  alone = λ alone. sym (ap (λ (x : Sight). x.alone) same) ∙ alone;
+  calm = calm-same s t same;
+  runs = λ alone. subst (RunsOn s) (sym same) (doors.runs-on-itself s);
+}
+
+pub keeps-join : (a b c : Sight) → Keeps a b → Keeps b c → Keeps a c
+keeps-join a b c p q = record {
+  nodes = q.nodes ∙ p.nodes;
+  alone = λ alone. p.alone (q.alone alone);
+  calm = calm-join a b c p.calm q.calm;
+  runs = λ alone. doors.runs-on-join a b c (p.runs (q.alone alone)) (q.runs alone);
+}
+
+-- ---- a call at the device itself, by what each of its steps keeps
+
+module _ {A : Type 0} (step : Sight → A → Sight → Type 0) (each : (s : Sight) (x : A) (t : Sight) → step s x t → Keeps s t) where
+  comes-keeps : (s : Sight) (xs : List A) (t : Sight) → Comes step s xs t → Keeps s t
+  comes-keeps s [] t p = keeps-still s t p
+  comes-keeps s (x ∷ xs) t p = keeps-join s p.0 t (each s x p.0 p.1) (comes-keeps p.0 xs t p.2)
+
+  call-keeps : (s : Sight) (x : A) (t : Sight) → Calls step s Local (Ok x) t → Keeps s t
+  call-keeps s x t p = comes-keeps s (p.0 ++ x ∷ []) t p.2
+
+pub change-keeps : (device : ℕ) (name : Name) (change : Change) (s : Sight) (answer : Answer) (t : Sight)
+    → Calls (IsMade Local device name change) s Local (Ok answer) t → Keeps s t
+change-keeps device name change = call-keeps (IsMade Local device name change) (λ s x t made. record {
+  nodes = made.moves.nodes;
+  alone = made.moves.alone;
+  calm = calm-trails s t _ _ refl made.trail;
+  runs = λ alone. doors.change-runs-on device name change s x t alone made;
+})
+
+pub read-keeps : (device : ℕ) (name : Name) (s : Sight) (got : Got) (t : Sight) → Calls (IsRead Local device name) s Local (Ok got) t → Keeps s t
+read-keeps device name = call-keeps (IsRead Local device name) (λ s x t made. record {
+  nodes = made.moves.nodes;
+  alone = made.moves.alone;
+  calm = calm-trails s t _ _ refl made.trail;
+  runs = λ alone. doors.read-runs-on device name s x t alone made;
+})
+
+pub hashes-keeps : (device part : ℕ) (s : Sight) (got : Result (Vec SuffixHash Global) DirFault) (t : Sight)
+    → Calls (IsHashesRead Local device part) s Local (Ok got) t → Keeps s t
+hashes-keeps device part = call-keeps (IsHashesRead Local device part) (λ s x t made. record {
+  nodes = made.moves.nodes;
+  alone = made.moves.alone;
+  calm = calm-trails s t _ _ refl made.trail;
+  runs = λ alone. doors.hashes-runs-on device part s x t alone made;
+})
+
+pub files-keeps : (device part suffix : ℕ) (s : Sight) (got : Result (Vec DirLine Global) DirFault) (t : Sight)
+    → Calls (IsFilesRead Local device part suffix) s Local (Ok got) t → Keeps s t
+files-keeps device part suffix = call-keeps (IsFilesRead Local device part suffix) (λ s x t made. record {
+  nodes = made.moves.nodes;
+  alone = made.moves.alone;
+  calm = calm-trails s t _ _ refl made.trail;
+  runs = λ alone. doors.files-runs-on device part suffix s x t alone made;
+})
+
+pub cont_change-keeps : (device : ℕ) (place : Place) (change : ContChange) (s : Sight) (answer : ContAnswer) (t : Sight)
+    → Calls (IsContMade Local device place change) s Local (Ok answer) t → Keeps s t
+cont_change-keeps device place change = call-keeps (IsContMade Local device place change) (λ s x t made. record {
+  nodes = made.moves.nodes;
+  alone = made.moves.alone;
+  calm = calm-trails s t _ _ refl made.trail;
+  runs = λ alone. doors.cont-change-runs-on device place change s x t alone made;
+})
+
+pub inform-keeps : (device : ℕ) (place : Place) (s : Sight) (told : Result Info ContAnswer) (t : Sight)
+    → Calls (IsLooked Local device place info_of (λ told. cont_events.Informed place told)) s Local (Ok told) t → Keeps s t
+inform-keeps device place = call-keeps (IsLooked Local device place info_of (λ told. cont_events.Informed place told)) (λ s x t made. record {
+  nodes = made.moves.nodes;
+  alone = made.moves.alone;
+  calm = calm-trails s t _ _ refl made.trail;
+  runs = λ alone. doors.info-runs-on device place s x t alone made;
+})
+
+pub list-keeps : (device : ℕ) (place : Place) (query : Query) (s : Sight) (listed : Result (List Entry) ContAnswer) (t : Sight)
+    → Calls (IsLooked Local device place (listing_of query) (λ listed. cont_events.Listed place query listed)) s Local (Ok listed) t → Keeps s t
+list-keeps device place query =
+    call-keeps (IsLooked Local device place (listing_of query) (λ listed. cont_events.Listed place query listed)) (λ s x t made. record {
+      nodes = made.moves.nodes;
+      alone = made.moves.alone;
+      calm = calm-trails s t _ _ refl made.trail;
+      runs = λ alone. doors.listing-runs-on device place query s x t alone made;
+    })
