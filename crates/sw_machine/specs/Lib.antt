@@ -1,0 +1,5 @@
+pub mod Sides
+pub mod Messages
+pub mod Machine
+pub mod Laws
+pub mod Doors

@@ -1,0 +1,36 @@
+-- Messages on their way to a device, and the step that the coming of one is. (This project's own; that a write is sent as its file, and rows as they are, is
+-- OpenStack Swift's.)
+use Rattle.std.specs.Prelude.{◌≡◌, ⊤, ℕ, List, Contains}
+use Rattle.sw_container_steps.specs.declared.cont_change.ContChange.TheVariants.{MergeRow, MergeRows}
+use Rattle.sw_hashpath.specs.declared.name.Name.{Name}
+use Rattle.sw_hashpath.specs.declared.place.Place.{Place}
+use Rattle.sw_object_steps.specs.declared.change.Change.TheVariants.{Receive}
+use Rattle.sw_peer.specs.declared.cont_event.ContEvent.TheVariants as cont_events
+use Rattle.sw_peer.specs.declared.line.Event.{Event}
+use Rattle.sw_peer.specs.declared.line.Event.TheVariants.{AtContainer, Changed, Listed, Read, ReadPart, Restarted}
+use Rattle.sw_peer.specs.declared.link.Link.{Link}
+use Rattle.sw_peer.specs.declared.link.Link.TheVariants.{Sent}
+use Rattle.sw_rows.specs.declared.row.Row.{Row}
+use Rattle.sw_state.specs.declared.write.Write.{Write}
+
+pub data Message : Type 0 where
+  Write_of : (to : ℕ) (name : Name) (write : Write) → Message
+  Row_of : (to : ℕ) (place : Place) (row : Row) → Message
+  Rows_of : (to : ℕ) (place : Place) (rows : List Row) → Message
+
+-- it comes to this device as this step
+abbrev pub Arrives : Message → ℕ → Event → Type 0
+Arrives (Write_of to name write) device (Changed n change answer) = (to ≡ device) × (n ≡ name) × (change ≡ Receive write)
+Arrives (Row_of to place row) device (AtContainer (cont_events.Changed p change answer) entries) = (to ≡ device) × (p ≡ place) × (change ≡ MergeRow row)
+Arrives (Rows_of to place rows) device (AtContainer (cont_events.Changed p change answer) entries) = (to ≡ device) × (p ≡ place) × (change ≡ MergeRows rows)
+Arrives message device event = ⊥
+
+-- it may change something
+abbrev pub MayChange : Event → Type 0
+MayChange (Changed name change answer) = ⊤
+MayChange (AtContainer (cont_events.Changed place change answer) entries) = ⊤
+MayChange event = ⊥
+
+-- What was sent is on its way for good: each step from then on may be its coming, again and again. No other changing step comes in a message
+abbrev pub WasSent : List Message → Link → ℕ → Event → Type 0
+WasSent sent link device event = link ≡ Sent → MayChange event → (message : Message) × Contains sent message × Arrives message device event
