@@ -8,7 +8,7 @@ use Rattle.sw_message.specs.declared.response.Response.{Response}
 use Rattle.sw_object_server.specs.Replies.{bare}
 use Rattle.sw_object_server.specs.Serving as objects
 use Rattle.sw_outside.specs.Readings.{TicksEach}
-use Rattle.sw_peer.specs.Sights.{Nodes, Sight}
+use Rattle.sw_peer.specs.Sights.{Sight}
 use Rattle.sw_replica_server.specs.Serving as replicas
 use Rattle.sw_replica_server.specs.Targets.{is_replication_of}
 use Rattle.sw_ring.specs.declared.ring.Ring.{Ring}
@@ -18,11 +18,10 @@ use Rattle.sw_session.specs.Passages.{Passage}
 use Rattle.sw_session.specs.Session.{IsSession}
 use Rattle.sw_session.specs.declared.server.ServerFault.{ServerFault}
 use Rattle.sw_session.specs.declared.session.SessionFault.{SessionFault}
-use Rattle.sw_nodes.proofs.Comparing.{answered-stays, given_up-stays}
+use Rattle.sw_nodes.proofs.Comparing.{answered-keeps, given_up-keeps}
 use Rattle.sw_nodes.proofs.Controlling.{on_true}
-use Rattle.sw_nodes.proofs.Going.{Goes, goes-join, goes-same}
-use Rattle.sw_nodes.proofs.Readying.{part_hash}
-use Rattle.sw_nodes.proofs.RunningLemmas.{answered_goes, answered_nodes, left_goes, left_nodes}
+use Rattle.sw_nodes.proofs.Keeping.{Keeps, keeps-join, keeps-same}
+use Rattle.sw_nodes.proofs.RunningLemmas.{answered_keeps, left_keeps}
 use Rattle.sw_nodes.proofs.Serving.{on_false}
 use Rattle.sw_nodes.specs.Nodes.{AreNodesOf}
 use Rattle.sw_cluster.specs.Connections.{DoorAnswers, IsConnection, NeverHalts}
@@ -46,20 +45,20 @@ module _ {D : Type 0} (sight : D → Sight) (ring : Ring) where
   -- ---- one request
 
   module _ (old new : D) (r : Request) (moment : ℕ) (response : Response) where
-    -- the nodes are those that were there
-    pub answers-nodes : DoorAnswers sight ring old r moment response new → (sight new).nodes ≡ (sight old).nodes
-    answers-nodes answers = by (is_control r.path) (is_replication_of r) answers
+    -- what every answer keeps of the nodes
+    pub answers-keeps : DoorAnswers sight ring old r moment response new → Keeps (sight old) (sight new)
+    answers-keeps answers = by (is_control r.path) (is_replication_of r) answers
       where
         by : (control replication : Bool) → MatchBool control ((new ≡ old) × ((response ≡ bare 404) ⊎ (response ≡ bare 500)))
             (MatchBool replication
             (replicas.IsAnswered sight old new ring r response ⊎ ((response ≡ bare 500) × replicas.IsGivenUp sight old new ring r))
             (objects.IsAnswered sight old new ring r moment response ⊎ ((response ≡ bare 500) × objects.IsGivenUp sight old new ring r moment)))
-            → (sight new).nodes ≡ (sight old).nodes
-        by true replication same = ap (λ (d : D). (sight d).nodes) same.0
-        by false true (inl answered) = (answered-stays sight ring r old new response answered).nodes
-        by false true (inr left) = (given_up-stays sight ring r old new left.1).nodes
-        by false false (inl answered) = answered_nodes sight ring old new r moment response answered
-        by false false (inr left) = left_nodes sight ring old new r moment left.1
+            → Keeps (sight old) (sight new)
+        by true replication same = keeps-same (sight old) (sight new) (ap sight same.0)
+        by false true (inl answered) = answered-keeps sight ring r old new response answered
+        by false true (inr left) = given_up-keeps sight ring r old new left.1
+        by false false (inl answered) = answered_keeps sight ring old new r moment response answered
+        by false false (inr left) = left_keeps sight ring old new r moment left.1
 
     pub answers-replicas : is_control r.path ≡ false → is_replication_of r ≡ true
         → replicas.IsAnswered sight old new ring r response ⊎ ((response ≡ bare 500) × replicas.IsGivenUp sight old new ring r)
@@ -89,7 +88,7 @@ module _ {D : Type 0} (sight : D → Sight) (ring : Ring) where
 
   pub ready-on : (old new : D) (r : Request) (moment : ℕ) (response : Response) → AreNodesOf ring (sight old).nodes
       → DoorAnswers sight ring old r moment response new → AreNodesOf ring (sight new).nodes
-  ready-on old new r moment response ready answers = subst (AreNodesOf ring) (sym (answers-nodes old new r moment response answers)) ready
+  ready-on old new r moment response ready answers = subst (AreNodesOf ring) (sym (answers-keeps old new r moment response answers).nodes) ready
 
   -- ---- a connection
 
@@ -102,11 +101,14 @@ module _ {D : Type 0} (sight : D → Sight) (ring : Ring) where
         session-keeps asks_to_close_of (DoorAnswers sight ring) NeverHalts P keeps (λ before r m fault after q halt. absurd halt)
         old source sink c.moments new c.ends.ended p c.ends.session
 
-  pub connection-nodes : (moment : ℕ) (old : D) (source sink : Passage) (new : D) (status : ℕ) → IsConnection sight ring moment old source sink new status
-      → (sight new).nodes ≡ (sight old).nodes
-  connection-nodes moment old source sink new status c =
-      connection-keeps (λ (d : D). (sight d).nodes ≡ (sight old).nodes)
-      (λ before r m response after same answers. answers-nodes before after r m response answers ∙ same) moment old source sink new status refl c
+  -- so the nodes are those that were there, and whatever machine they stood for goes on to them as they are then
+  pub connection-goes : (moment : ℕ) (old : D) (source sink : Passage) (new : D) (status : ℕ)
+      → IsConnection sight ring moment old source sink new status → Keeps (sight old) (sight new)
+  connection-goes moment old source sink new status c =
+      connection-keeps (λ (d : D). Keeps (sight old) (sight d))
+      (λ before r m response after so_far answers.
+      keeps-join (sight old) (sight before) (sight after) so_far (answers-keeps before after r m response answers))
+      moment old source sink new status (keeps-same (sight old) (sight old) refl) c
 
   -- the session over a server that has a ring and a door
   module _ {N : Type 0} (ring_of : N → Ring) (door_of : N → MutBor D) where
@@ -143,30 +145,3 @@ module _ {D : Type 0} (sight : D → Sight) (ring : Ring) where
               (λ old r m fault new p halt. halt) start source sink moments after result (same, refl) session;
         };
       }
-
--- ---- a run goes on by a connection
-
-module _ {D : Type 0} (sight : D → Sight) (alone : (d : D) → (sight d).alone ≡ true) (ring : Ring) where
-  answers-go : (old new : D) (r : Request) (moment : ℕ) (response : Response) → (sight old).nodes.power ≡ ring.power
-      → DoorAnswers sight ring old r moment response new → Goes (sight old) (sight new)
-  answers-go old new r moment response power answers = by (is_control r.path) (is_replication_of r) answers
-    where
-      by : (control replication : Bool) → MatchBool control ((new ≡ old) × ((response ≡ bare 404) ⊎ (response ≡ bare 500)))
-          (MatchBool replication
-          (replicas.IsAnswered sight old new ring r response ⊎ ((response ≡ bare 500) × replicas.IsGivenUp sight old new ring r))
-          (objects.IsAnswered sight old new ring r moment response ⊎ ((response ≡ bare 500) × objects.IsGivenUp sight old new ring r moment)))
-          → Goes (sight old) (sight new)
-      by true replication same = goes-same (sight old) (sight new) (ap sight same.0)
-      by false true (inl answered) =
-          (answered-stays sight ring r old new response answered).goes (alone new) (part_hash ring (sight old).nodes.power power)
-      by false true (inr left) = (given_up-stays sight ring r old new left.1).goes (alone new) (part_hash ring (sight old).nodes.power power)
-      by false false (inl answered) = answered_goes sight alone ring old new r moment response answered
-      by false false (inr left) = left_goes sight alone ring old new r moment left.1
-
-  pub connection-goes : (moment : ℕ) (old : D) (source sink : Passage) (new : D) (status : ℕ) → (sight old).nodes.power ≡ ring.power
-      → IsConnection sight ring moment old source sink new status → Goes (sight old) (sight new)
-  connection-goes moment old source sink new status power c =
-      connection-keeps sight ring (λ (d : D). Goes (sight old) (sight d))
-      (λ before r m response after so_far answers. goes-join (sight old) (sight before) (sight after) so_far
-      (answers-go before after r m response (ap (λ (n : Nodes). n.power) so_far.nodes ∙ power) answers))
-      moment old source sink new status (goes-same (sight old) (sight old) refl) c

@@ -4,23 +4,25 @@ use Rattle.std.proofs.Common.{inr}
 use Rattle.std.proofs.Common.{refl, sym, ◌∙◌, ap, subst}
 use Rattle.std.specs.Bool.{⊤}
 use Rattle.std.specs.List.{slice_get}
-use Rattle.std.proofs.lemmas.List.{length-map}
-use Rattle.sw_object_machine.specs.Doors.{StandsFor}
-use Rattle.sw_object_machine.specs.Machine.{Machine, machine_of}
-use Rattle.sw_core.specs.Worlds.{AllNodes, IsWorld, opened, sight_of}
+use Rattle.sw_machine.proofs.Doors.{restart-runs-on, runs-on-itself, runs-on-join}
+use Rattle.sw_machine.specs.Doors.{RunsOn}
+use Rattle.sw_machine.specs.Machine.{Machine, RunLine, Runs, machine_of}
+use Rattle.sw_core.specs.Worlds.{AllNodes, IsWorld, nodes_of, opened, sight_of}
 use Rattle.sw_core.specs.declared.slot.Slot.TheVariants as slots
 use Rattle.sw_objdir.specs.Directories.{Kept}
 use Rattle.sw_object_steps.specs.Journals.{Hash}
-use Rattle.sw_peer.specs.Sights.{Nodes as SightNodes, Sight}
+use Rattle.sw_peer.specs.Sights.{Sight}
 use Rattle.sw_quiet.specs.Quiet.{quiet_sight_of}
 use Rattle.sw_ring.specs.declared.ring.Ring.{Ring}
 use Rattle.sw_stores.specs.Places.{at_place}
 use Rattle.sw_volume.specs.Tree.{Folders}
-use Rattle.sw_cluster.proofs.Connecting.{connection-goes, connection-nodes}
-use Rattle.sw_nodes.proofs.Going.{Goes, goes-join, goes-same, restart-goes}
+use Rattle.sw_quiet.proofs.Trails.{lifting-restarts}
+use Rattle.sw_session.specs.Passages.{Passage}
+use Rattle.sw_cluster.proofs.Connecting.{connection-goes}
 use Rattle.sw_nodes.proofs.Serving.{goes_on}
-use Rattle.sw_cluster.proofs.Storing.{rests-before, stands-begun, stored}
-use Rattle.sw_cluster.specs.Ending.{AllTold, IsStored}
+use Rattle.sw_cluster.proofs.Storing.{rests-before, stored}
+use Rattle.sw_cluster.specs.Ending.{IsStored}
+use Rattle.sw_cluster.specs.Connections.{IsConnection}
 use Rattle.sw_cluster.specs.Leaving.{AreLeft, IsOut}
 use Rattle.sw_nodes.specs.Nodes.{IsReady, out_but, places_at, places_of}
 use Rattle.sw_cluster.specs.Rounds.{EndsServing, HasServed, EndsConnections, RestartsDevice, RestartsFirst, Round, ServesAll, ServesOne}
@@ -35,37 +37,50 @@ module _ {V : Type 0} (tells : V → Bool) (files : V → Folders) (faults : V �
 
   -- ---- a run goes on
 
-  power-on : (w after : AllNodes V) → w.power ≡ ring.power → Goes (see w) (see after) → after.power ≡ ring.power
-  power-on w after power goes = ap (λ (n : SightNodes). n.power) goes.nodes ∙ power
+  -- the nodes are those that were there, and whatever machine they stood for goes on to them as they are then
+  pub record Goes (w after : AllNodes V) : Type 0 where
+    pub nodes : (see after).nodes ≡ (see w).nodes
+    pub runs : RunsOn (see w) (see after)
 
-  restarted-goes : (w after : AllNodes V) (device : ℕ) → RestartsDevice tells files faults ring device w after → Goes (see w) (see after)
-  restarted-goes w after device again = restart-goes tells files faults w again.mid after device again.given again.up again.down
+  goes-same : (w after : AllNodes V) → after ≡ w → Goes w after
+  goes-same w after same = subst (Goes w) (sym same) (record { nodes = refl; runs = runs-on-itself (see w) })
 
-  first-go : (n : ℕ) (w after : AllNodes V) → RestartsFirst tells files faults ring n w after → Goes (see w) (see after)
-  first-go zero w after same = goes-same (see w) (see after) (ap see same)
-  first-go (suc n) w after again = goes-join (see w) (see again.0) (see after) (first-go n w again.0 again.1) (restarted-goes again.0 after n again.2)
+  goes-join : (a b c : AllNodes V) → Goes a b → Goes b c → Goes a c
+  goes-join a b c p q = record { nodes = q.nodes ∙ p.nodes; runs = runs-on-join (see a) (see b) (see c) p.runs q.runs }
 
-  all-go : (w after : AllNodes V) (rounds : List Round) → w.power ≡ ring.power → ServesAll tells files faults ring w rounds after → Goes (see w) (see after)
-  all-go w after [] power same = goes-same (see w) (see after) (ap see same)
-  all-go w after (round ∷ rounds) power serves =
-      let one = connection-goes see (λ w. refl) ring round.moment w _ _ serves.0 _ power serves.2.answered in
-      let round_goes = goes-join (see w) (see serves.0) (see serves.1) one (first-go (length ring.devices) serves.0 serves.1 serves.3) in
-      goes-join (see w) (see serves.1) (see after) round_goes (all-go serves.1 after rounds (power-on w serves.1 power round_goes) serves.4)
+  served-one : (w after : AllNodes V) (moment : ℕ) (source sink : Passage) (status : ℕ) → IsConnection see ring moment w source sink after status → Goes w after
+  served-one w after moment source sink status c =
+      let keeps = connection-goes see ring moment w source sink after status c in
+      record { nodes = keeps.nodes; runs = keeps.runs refl }
 
-  module _ (began after : AllNodes V) (power : began.power ≡ ring.power) (a b : DoorsTold) (t u : Option (List ℕ)) (s x : Counts) (connections : ℕ) where
-    waiting-goes : StopsWaiting tells files faults ring connections began after a b t u s x → Goes (see began) (see after)
-    waiting-goes w = all-go began after w.rounds power w.serves
+  restarted-goes : (w after : AllNodes V) (device : ℕ) → RestartsDevice tells files faults ring device w after → Goes w after
+  restarted-goes w after device again =
+      let restarts = lifting-restarts tells files faults w again.mid after device again.given again.up again.down in
+      record { nodes = restarts.nodes; runs = restart-runs-on device (see w) (see after) refl restarts }
 
-    restarting-goes : StopsRestarting tells files faults ring connections began after a b t u s x → Goes (see began) (see after)
+  first-go : (n : ℕ) (w after : AllNodes V) → RestartsFirst tells files faults ring n w after → Goes w after
+  first-go zero w after same = goes-same w after same
+  first-go (suc n) w after again = goes-join w again.0 after (first-go n w again.0 again.1) (restarted-goes again.0 after n again.2)
+
+  all-go : (w after : AllNodes V) (rounds : List Round) → ServesAll tells files faults ring w rounds after → Goes w after
+  all-go w after [] same = goes-same w after same
+  all-go w after (round ∷ rounds) serves =
+      goes-join w serves.1 after
+      (goes-join w serves.0 serves.1 (served-one w serves.0 round.moment _ _ _ serves.2.answered)
+      (first-go (length ring.devices) serves.0 serves.1 serves.3))
+      (all-go serves.1 after rounds serves.4)
+
+  module _ (began after : AllNodes V) (a b : DoorsTold) (t u : Option (List ℕ)) (s x : Counts) (connections : ℕ) where
+    waiting-goes : StopsWaiting tells files faults ring connections began after a b t u s x → Goes began after
+    waiting-goes w = all-go began after w.rounds w.serves
+
+    restarting-goes : StopsRestarting tells files faults ring connections began after a b t u s x → Goes began after
     restarting-goes w =
-        let first = all-go began w.then w.rounds power w.serves in
-        let one = connection-goes see (λ w. refl) ring w.last.moment w.then _ _ w.served _ (power-on began w.then power first) w.one.answered in
-        goes-join (see began) (see w.then) (see after) first
-        (goes-join (see w.then) (see w.served) (see after) one (first-go w.device w.served after w.restarted))
+        goes-join began w.then after (all-go began w.then w.rounds w.serves)
+        (goes-join w.then w.served after (served-one w.then w.served w.last.moment _ _ _ w.one.answered) (first-go w.device w.served after w.restarted))
 
-    served-goes : (result : Result ⊤ ServeFault) → EndsConnections tells files faults ring connections began after a b t u s x result →
-        Goes (see began) (see after)
-    served-goes (Ok done) served = all-go began after served.rounds power served.serves
+    served-goes : (result : Result ⊤ ServeFault) → EndsConnections tells files faults ring connections began after a b t u s x result → Goes began after
+    served-goes (Ok done) served = all-go began after served.rounds served.serves
     served-goes (Err serve_faults.Door) served = waiting-goes served.0
     served-goes (Err serve_faults.Store) served = restarting-goes served.0
     served-goes (Err serve_faults.NoMemory) (inl waits, d, e) = waiting-goes waits
@@ -73,18 +88,16 @@ module _ {V : Type 0} (tells : V → Bool) (files : V → Folders) (faults : V �
     served-goes (Err serve_faults.Write) served = absurd served
 
   pub ends-go : (port connections : ℕ) (began after : AllNodes V) (a b : DoorsTold) (out : Output) (t u : Option (List ℕ)) (s x : Counts)
-      (ended : Result ⊤ ServeFault) → began.power ≡ ring.power → EndsServing tells files faults ring port connections began after a b out t u s x ended
-      → Goes (see began) (see after)
-  ends-go port connections began after a b out t u s x ended power (inl mute) = goes-same (see began) (see after) (ap see mute.nothing_came)
-  ends-go port connections began after a b out t u s x ended power (inr over) =
-      served-goes began after power _ b t u s x connections over.came over.served
+      (ended : Result ⊤ ServeFault) → EndsServing tells files faults ring port connections began after a b out t u s x ended → Goes began after
+  ends-go port connections began after a b out t u s x ended (inl mute) = goes-same began after mute.nothing_came
+  ends-go port connections began after a b out t u s x ended (inr over) = served-goes began after _ b t u s x connections over.came over.served
 
   -- the nodes are ready for what comes behind a connection
   pub ready-after : {S : Type 0} (out : S → ℕ → ℕ → Bool) (w after : AllNodes V) (stores : S) (round : Round) → IsReady out ring w stores
       → ServesOne tells files faults ring w round after → IsReady out ring after stores
   ready-after out w after stores round ready one =
-      goes_on tells files faults out ring w after stores ready (connection-nodes see ring round.moment w (read_in round) (written_in round) after
-      round.finished.status one.answered)
+      goes_on tells files faults out ring w after stores ready (connection-goes see ring round.moment w (read_in round) (written_in round) after
+      round.finished.status one.answered).nodes
 
   -- ---- how the nodes are left
 
@@ -136,46 +149,39 @@ module _ {V : Type 0} (tells : V → Bool) (files : V → Folders) (faults : V �
 
     -- ---- what rests
 
-    module _ (whole w : AllNodes V) (stores : S) (rests_now : ℕ → ℕ → Option V) (is : IsWorld w)
+    module _ (began whole w : AllNodes V) (stores : S) (rests_now : ℕ → ℕ → Option V) (is : IsWorld w)
         (resting : (l : ℕ) (k : Kept V) → slice_get w.slots l ≡ Some (slots.Open k) → at_place rests_now (2 ^ ring.lock_bits) l ≡ Some k.volume)
         (same_out : (device : ℕ) → w.lifted ≡ Some device → (d s : ℕ) → places_at ring device d s ≡ true → rests_now d s ≡ rests stores d s)
-        (machine : Machine) (stands : StandsFor (see whole) machine) where
+        (lines : List RunLine) (machine : Machine)
+        (run : Runs (nodes_of (length ring.devices) ring.lock_bits ring.power ring.secrets) (machine_of (sight_of tells files faults began)) lines machine)
+        (objects : (sight_of tells files faults whole).objects ≡ machine.objects.half) where
       abbrev AllStored : Type 0
-      AllStored = (device : ℕ) (hash : Hash) → device < length ring.devices → IsStored tells files faults ring machine rests_now device hash
-
-      plainly : StandsFor (sight_of tells files faults whole) machine
-      plainly = record { states = stands.states; seen = stands.seen; told = stands.told }
+      AllStored = (device : ℕ) (hash : Hash) → device < length ring.devices → IsStored tells files faults ring began machine rests_now device hash
 
       pub left-stored : AreLeft tells files faults store_calls rests out ring whole w stores → AllStored
       left-stored (inl (same, ready)) =
-          stored tells files faults ring whole (subst (λ (x : AllNodes V). IsWorld x) same is) ready.whole ready.nodes machine plainly rests_now
+          stored tells files faults ring began whole (subst (λ (x : AllNodes V). IsWorld x) same is) ready.whole ready.nodes lines machine run objects rests_now
           (λ l k at. resting l k (ap (λ (x : AllNodes V). slice_get x.slots l) same ∙ at))
       left-stored (inr gone) =
-          stored tells files faults ring whole gone.fails.up.world gone.fails.up.whole gone.ready.nodes machine plainly rests_now
+          stored tells files faults ring began whole gone.fails.up.world gone.fails.up.whole gone.ready.nodes lines machine run objects rests_now
           (rests-before tells files faults ring whole w gone.ready.lock_bits gone.device gone.fails.given gone.fails.up (rests stores) rests_now
           gone.fails.resting resting same_out)
 
-  -- where all locks tell what they hold, the nodes stand for the machine that holds it, which nothing reached yet
-  pub begun-stands : (volumes : List V) → length volumes ≡ length ring.devices * 2 ^ ring.lock_bits → AllTold tells files faults ring (opened ring volumes)
-      → StandsFor (see (opened ring volumes)) (machine_of (see (opened ring volumes)))
-  begun-stands volumes count told =
-      let stands = stands-begun tells files faults ring (opened ring volumes) refl refl (length-map volumes _ ∙ count) told in
-      record { states = stands.states; seen = stands.seen; told = stands.told }
-
   -- what was served, once the volumes were given back
   module _ {S : Type 0} (store_calls : S → ℕ) (rests : S → ℕ → ℕ → Option V) (out : S → ℕ → ℕ → Bool) (volumes : List V)
-      (count : length volumes ≡ length ring.devices * 2 ^ ring.lock_bits) (whole w : AllNodes V) (stores : S)
-      (left : AreLeft tells files faults store_calls rests out ring whole w stores) (goes : Goes (see (opened ring volumes)) (see whole))
+      (whole w : AllNodes V) (stores : S)
+      (left : AreLeft tells files faults store_calls rests out ring whole w stores) (goes : Goes (opened ring volumes) whole)
       (rests_now : ℕ → ℕ → Option V) (is : IsWorld w)
       (resting : (l : ℕ) (k : Kept V) → slice_get w.slots l ≡ Some (slots.Open k) → at_place rests_now (2 ^ ring.lock_bits) l ≡ Some k.volume)
       (same_out : (device : ℕ) → w.lifted ≡ Some device → (d s : ℕ) → places_at ring device d s ≡ true → rests_now d s ≡ rests stores d s) where
-    pub has-served : AllTold tells files faults ring (opened ring volumes) → HasServed tells files faults ring (opened ring volumes) whole rests_now
-    has-served told =
-        let went = goes.on (machine_of (see (opened ring volumes))) (begun-stands volumes count told) in
+    pub has-served : HasServed tells files faults ring (opened ring volumes) whole rests_now
+    has-served =
+        let went = goes.runs (machine_of (see (opened ring volumes))) (record { objects = refl; containers = refl }) in
         record {
           lines = went.0;
           machine = went.1.after;
           run = went.1.run;
           stands = went.1.stands;
-          stored = left-stored store_calls rests out whole w stores rests_now is resting same_out went.1.after went.1.stands left;
+          stored = left-stored store_calls rests out (opened ring volumes) whole w stores rests_now is resting same_out went.0 went.1.after went.1.run
+              went.1.stands.objects left;
         }

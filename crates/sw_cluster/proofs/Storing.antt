@@ -1,32 +1,35 @@
--- What a world stands for where nothing has happened, and what the files of its volumes stand for where they rest.
+-- What the files of a world's volumes stand for where they rest.
 use Rattle.std.proofs.Common.{◌≡◌, ℕ, ◌+◌, ◌-◌, ◌*◌, ◌/◌, ◌%◌, ◌^◌, ◌<◌, ◌≤◌, Bool, true, List, length, arith, Option, Some, None}
 use Rattle.std.proofs.Common.{refl, sym, ◌∙◌, ap, subst, ◌⊎◌, inl, inr}
 use Rattle.std.specs.List.{slice_get}
 use Rattle.std.proofs.lemmas.Bool.{cases_lt}
 use Rattle.std.proofs.lemmas.Nat.{div-mul-add, mod-mul-add, pow_pos, rows}
-use Rattle.std.proofs.lemmas.Option.{slice_get_past}
 use Rattle.sw_hashpath.specs.HashParts.{partition_of}
 use Rattle.sw_hashdir.specs.Places.{holds}
 use Rattle.sw_objdir.proofs.Looking.{held-told}
-use Rattle.sw_objdir.specs.Directories.{Kept}
+use Rattle.sw_objdir.specs.Directories.{Kept, is_told}
 use Rattle.sw_object_steps.specs.Journals.{Hash}
-use Rattle.sw_peer.specs.Sights.{Nodes as SightNodes}
+use Rattle.sw_peer.specs.Sights.{Nodes as SightNodes, Sight}
 use Rattle.sw_ring.specs.declared.ring.Ring.{Ring}
-use Rattle.sw_state.proofs.StateLaws.{state_of-writes_of}
+use Rattle.sw_state.specs.States.{state_of, writes_of}
+use Rattle.sw_state.specs.declared.state.State.{State}
 use Rattle.sw_stores.proofs.AtPlaces.{resting-at}
 use Rattle.sw_stores.specs.Places.{at_place}
 use Rattle.sw_stores.specs.Volumes.{AreResting}
 use Rattle.sw_volume.specs.Tree.{Folders}
 use Rattle.sw_core.proofs.Placed.{stripe-below}
 use Rattle.sw_core.proofs.Wholes.{open-at}
-use Rattle.sw_object_machine.specs.Doors.{StandsFor}
-use Rattle.sw_object_machine.specs.Machine.{Machine, machine_of, state}
+use Rattle.sw_machine.proofs.Objects.{hashes-stand}
+use Rattle.sw_machine.specs.Machine.{KnownWrite, Machine, RunLine, Runs, machine_of, writes_among, writes_at}
+use Rattle.sw_object_steps.specs.Halves.{ObjHalf}
+use Rattle.sw_object_steps.specs.Rules.{ObjHistory}
+use Rattle.sw_object_steps.specs.Values.{ObjValue}
 use Rattle.sw_core.specs.Worlds.{AllNodes, AreLifted, HasLimits, IsWorld, Lifts, first_of, held_of, lock_of, nodes_of, past_of, seen_of, shown, sight_of}
 use Rattle.sw_core.specs.Worlds.{stripe_at}
 use Rattle.sw_core.specs.declared.slot.Slot.{Slot}
 use Rattle.sw_core.specs.declared.slot.Slot.TheVariants as slots
 use Rattle.sw_cluster.proofs.Resting.{among-place}
-use Rattle.sw_cluster.specs.Ending.{AllTold, IsStored}
+use Rattle.sw_cluster.specs.Ending.{IsStored}
 use Rattle.sw_nodes.specs.Nodes.{places_at}
 
 -- a world none of whose devices is out has as many as are shown
@@ -38,36 +41,19 @@ module _ {V : Type 0} (tells : V → Bool) (files : V → Folders) (faults : V �
       → lock_of w.lock_bits w.power device hash ≡ lock_of ring.lock_bits ring.power device hash
   lock-same w bits power device hash = ap (λ (b : ℕ). lock_of b w.power device hash) bits ∙ ap (λ (p : ℕ). lock_of ring.lock_bits p device hash) power
 
-  -- ---- how a run begins
-
-  -- where all locks tell what they hold, the nodes stand for the machine that holds it
-  pub stands-begun : (w : AllNodes V) → w.lock_bits ≡ ring.lock_bits → w.power ≡ ring.power → length w.slots ≡ length ring.devices * 2 ^ ring.lock_bits
-      → AllTold tells files faults ring w
-      → StandsFor (sight_of tells files faults w) (machine_of (sight_of tells files faults w))
-  stands-begun w bits power count told = record {
-    states = λ device hash. sym (state_of-writes_of (held_of tells files faults (slice_get w.slots (lock_of w.lock_bits w.power device hash)) hash));
-    seen = λ l. refl;
-    told = λ device hash.
-        subst (λ (l : ℕ). (seen_of tells files faults (slice_get w.slots l)).told ≡ true) (sym (lock-same w bits power device hash))
-        (each device hash (cases_lt device (length ring.devices)));
-  }
-    where
-      each : (device : ℕ) (hash : Hash) → (device < length ring.devices) ⊎ (length ring.devices ≤ device)
-          → (seen_of tells files faults (slice_get w.slots (lock_of ring.lock_bits ring.power device hash))).told ≡ true
-      each device hash (inl here) = told device hash here
-      each device hash (inr past) =
-          let beyond : length w.slots ≤ lock_of ring.lock_bits ring.power device hash = rw count (further device (length ring.devices) past) in
-          ap (λ (o : Option (Slot V)). (seen_of tells files faults o).told) (slice_get_past w.slots (lock_of ring.lock_bits ring.power device hash) beyond)
-        where
-          further : (d n : ℕ) → n ≤ d → n * 2 ^ ring.lock_bits ≤ d * 2 ^ ring.lock_bits + stripe_at ring.lock_bits ring.power (partition_of hash ring.power)
-          further d n h = grind (arith, rows)
-
   -- ---- what rests
 
-  -- a world that stands for a machine, none of whose devices is out, and whose volumes came to rest at the places of their locks
-  module _ (w : AllNodes V) (is : IsWorld w) (whole : w.lifted ≡ None)
+  abbrev see : AllNodes V → Sight
+  see w = sight_of tells files faults w
+
+  abbrev ring_nodes : SightNodes
+  ring_nodes = nodes_of (length ring.devices) ring.lock_bits ring.power ring.secrets
+
+  -- a world that stands for a machine after a run from another one, none of whose devices is out, and whose volumes came to rest at the places of their locks
+  module _ (began w : AllNodes V) (is : IsWorld w) (whole : w.lifted ≡ None)
       (nodes : nodes_of (shown w.lifted w.devices) w.lock_bits w.power w.secrets ≡ nodes_of (length ring.devices) ring.lock_bits ring.power ring.secrets)
-      (machine : Machine) (stands : StandsFor (sight_of tells files faults w) machine) (rests : ℕ → ℕ → Option V)
+      (lines : List RunLine) (machine : Machine) (run : Runs ring_nodes (machine_of (see began)) lines machine)
+      (objects : (see w).objects ≡ machine.objects.half) (rests : ℕ → ℕ → Option V)
       (resting : (l : ℕ) (k : Kept V) → slice_get w.slots l ≡ Some (slots.Open k) → at_place rests (2 ^ ring.lock_bits) l ≡ Some k.volume) where
     devices-are : w.devices ≡ length ring.devices
     devices-are = same-devices w.lifted w.devices (length ring.devices) whole (ap (λ (n : SightNodes). n.devices) nodes)
@@ -78,7 +64,20 @@ module _ {V : Type 0} (tells : V → Bool) (files : V → Folders) (faults : V �
     power-are : w.power ≡ ring.power
     power-are = ap (λ (n : SightNodes). n.power) nodes
 
-    pub stored : (device : ℕ) (hash : Hash) → device < length ring.devices → IsStored tells files faults ring machine rests device hash
+    -- what a hash whose lock told its contents stands for in the end
+    hash-stands : (device : ℕ) (hash : Hash) → ((see began).objects.seen (lock_of ring.lock_bits ring.power device hash)).told ≡ true
+        → ((machine.objects.half.seen (lock_of ring.lock_bits ring.power device hash)).told ≡ true)
+        × ((machine.objects.half.holds device hash).state
+        ≡ state_of (writes_of ((see began).objects.holds device hash).state ++ writes_at machine device hash))
+    hash-stands device hash told =
+        let goes = hashes-stand ring_nodes (machine_of (see began)) lines machine run in
+        let one = goes.hash device hash told in (
+          one.told,
+          one.stands ∙ ap (λ (known : List (ℕ × KnownWrite)).
+          state_of (writes_of ((see began).objects.holds device hash).state ++ writes_among known device hash)) (sym goes.known),
+        )
+
+    pub stored : (device : ℕ) (hash : Hash) → device < length ring.devices → IsStored tells files faults ring began machine rests device hash
     stored device hash here = by (open-at w is whole (lock_of ring.lock_bits ring.power device hash) within)
       where
         low : stripe_at ring.lock_bits ring.power (partition_of hash ring.power) < 2 ^ ring.lock_bits
@@ -91,19 +90,20 @@ module _ {V : Type 0} (tells : V → Bool) (files : V → Folders) (faults : V �
             under : (d n s b : ℕ) → d < n → s < b → d * b + s < n * b
             under d n s b h g = grind (arith, rows)
 
+        abbrev Is : State → Type 0
+        Is s = s ≡ state_of (writes_of ((see began).objects.holds device hash).state ++ writes_at machine device hash)
+
         by : (k : Kept V) × (slice_get w.slots (lock_of ring.lock_bits ring.power device hash) ≡ Some (slots.Open k)) × (k.secrets ≡ w.secrets) ×
             (k.power ≡ w.power)
             × HasLimits k
-            → IsStored tells files faults ring machine rests device hash
+            → IsStored tells files faults ring began machine rests device hash
         by there =
-            let told : (seen_of tells files faults (Some (slots.Open there.0))).told ≡ true =
-            subst (λ (o : Option (Slot V)). (seen_of tells files faults o).told ≡ true) there.1
-            (subst (λ (l : ℕ). (seen_of tells files faults (slice_get w.slots l)).told ≡ true) (lock-same w bits-are power-are device hash)
-            (stands.told device hash)) in
-            let held : held_of tells files faults (Some (slots.Open there.0)) hash ≡ state machine device hash =
-            subst (λ (o : Option (Slot V)). held_of tells files faults o hash ≡ state machine device hash) there.1
-            (subst (λ (l : ℕ). held_of tells files faults (slice_get w.slots l) hash ≡ state machine device hash) (lock-same w bits-are power-are device hash)
-            (stands.states device hash)) in
+            let seen : seen_of tells files faults (Some (slots.Open there.0)) ≡ machine.objects.half.seen (lock_of ring.lock_bits ring.power device hash) =
+            sym (ap (seen_of tells files faults) there.1) ∙ ap (λ (o : ObjHalf). o.seen (lock_of ring.lock_bits ring.power device hash)) objects in
+            let held : held_of tells files faults (Some (slots.Open there.0)) hash ≡ machine.objects.half.holds device hash =
+            sym (ap (λ (o : Option (Slot V)). held_of tells files faults o hash) there.1)
+            ∙ (ap (λ (l : ℕ). held_of tells files faults (slice_get w.slots l) hash) (sym (lock-same w bits-are power-are device hash))
+            ∙ ap (λ (o : ObjHalf). o.holds device hash) objects) in
             let secrets : there.0.secrets ≡ ring.secrets = there.2 ∙ ap (λ (n : SightNodes). n.secrets) nodes in
             let power : there.0.power ≡ ring.power = there.3 ∙ ap (λ (n : SightNodes). n.power) nodes in
             record {
@@ -113,11 +113,13 @@ module _ {V : Type 0} (tells : V → Bool) (files : V → Folders) (faults : V �
                   (subst (λ (d : ℕ). rests d (lock_of ring.lock_bits ring.power device hash % 2 ^ ring.lock_bits) ≡ Some there.0.volume)
                   (div-mul-add device (2 ^ ring.lock_bits) (stripe_at ring.lock_bits ring.power (partition_of hash ring.power)) low)
                   (resting (lock_of ring.lock_bits ring.power device hash) there.0 there.1));
-              stands = subst (λ (s : _). holds s ring.power (files there.0.volume) hash ≡ state machine device hash) secrets
-                  (subst (λ (p : ℕ). holds there.0.secrets p (files there.0.volume) hash ≡ state machine device hash) power
-                  (sym (held-told tells files faults there.0 hash told) ∙ held));
-              counts = sym (ap (λ h. h.faults) (stands.seen (lock_of ring.lock_bits ring.power device hash)))
-                  ∙ ap (λ (o : Option (Slot V)). (seen_of tells files faults o).faults) there.1;
+              stands = λ told.
+                  let stands = hash-stands device hash told in
+                  let is_told : is_told tells files faults there.0 ≡ true = ap (λ (h : ObjHistory). h.told) seen ∙ stands.0 in
+                  subst (λ (s : _). Is (holds s ring.power (files there.0.volume) hash)) secrets
+                  (subst (λ (p : ℕ). Is (holds there.0.secrets p (files there.0.volume) hash)) power
+                  (sym (held-told tells files faults there.0 hash is_told) ∙ (ap (λ (v : ObjValue). v.state) held ∙ stands.1)));
+              counts = sym (ap (λ (h : ObjHistory). h.faults) seen);
             }
 
   -- ---- a device that is out

@@ -1,8 +1,7 @@
 -- What a session over the nodes of a ring knows of them, request by request, and what its trail tells at the end.
-use Rattle.std.proofs.Common.{◌≡◌, ℕ, ◌*◌, ◌^◌, ◌<◌, ◌≤◌, ◌==◌, Bool, true, false, ◌&&◌, not, List, length, Option, Some, None}
+use Rattle.std.proofs.Common.{◌≡◌, ℕ, ◌*◌, ◌^◌, ◌<◌, ◌≤◌, ◌==◌, Bool, true, false, ◌&&◌, not, List, [], ◌++◌, length, Option, Some, None}
 use Rattle.std.proofs.Common.{refl, sym, ◌∙◌, ap, subst, Result, Ok, Err, inl, inr, if◌then◌else◌, MutBor}
 use Rattle.std.specs.Bool.{⊤}
-use Rattle.std.proofs.lemmas.List.{length-map}
 use Rattle.std.specs.List.{slice_get}
 use Rattle.sw_objdir.specs.Directories.{Kept}
 use Rattle.sw_message.specs.declared.request.Request.{Request}
@@ -10,7 +9,7 @@ use Rattle.sw_message.specs.declared.response.Response.{Response}
 use Rattle.sw_outside.specs.Counts.{raised}
 use Rattle.sw_outside.specs.Readings.{TicksEach}
 use Rattle.sw_hashpath.specs.declared.place.Place.{Place}
-use Rattle.sw_peer.specs.Sights.{Nodes as SightNodes, Sight, cont_lock}
+use Rattle.sw_peer.specs.Sights.{Nodes as SightNodes, Sight}
 use Rattle.sw_peer.specs.declared.line.Line.{Line}
 use Rattle.sw_ring.specs.declared.ring.Ring.{Ring}
 use Rattle.sw_session.proofs.Mapping.{session-ends, session-mapped}
@@ -28,24 +27,21 @@ use Rattle.sw_nodes.specs.Restarts.{AreCalled, restarts_in}
 use Rattle.sw_nodes.proofs.Exchanging.{exchange_meets}
 use Rattle.sw_nodes.proofs.Readying.{ready-of}
 use Rattle.sw_nodes.proofs.Restarting.{called-on, none-called, out-called, whole-called}
-use Rattle.sw_object_machine.proofs.Sessions.{run-begins}
-use Rattle.sw_container_machine.proofs.Sessions.{cont-run-begins}
 use Rattle.sw_container_steps.specs.Halves.{ContHalf}
-use Rattle.sw_container_machine.specs.Machine.{ContRuns, cont_machine_of}
-use Rattle.sw_container_machine.specs.Standing.{HasContRun}
-use Rattle.sw_core.proofs.Containing.{empty-holds, empty-told}
-use Rattle.sw_object_machine.specs.Doors.{HasRun}
-use Rattle.sw_object_machine.specs.Machine.{Runs, came_in, machine_of}
+use Rattle.sw_core.proofs.Containing.{empty-holds}
+use Rattle.sw_machine.proofs.Doors.{runs-on-itself, runs-on-join}
+use Rattle.sw_machine.specs.Doors.{GoesOn, RunsOn}
+use Rattle.sw_machine.specs.Machine.{RunLine, Runs, came_in, machine_of}
 use Rattle.sw_core.specs.Worlds.{AllNodes, IsWorld, Lifts, first_of, nodes_of}
 use Rattle.sw_core.specs.Worlds.{opened, place_lock, shown, sight_of, without_lines}
 use Rattle.sw_core.specs.declared.slot.Slot.TheVariants as slots
-use Rattle.sw_cluster.specs.Ending.{AllTold, IsContTrail, IsRunOver, IsTrail, status_by}
+use Rattle.sw_cluster.specs.Ending.{IsRunOver, IsTrail, status_by}
 use Rattle.sw_cluster.specs.Told.{Counts, counts, Output}
 use Rattle.sw_nodes.specs.Nodes.{IsReady, NodesAnswer, NodesHalt, faults_by, out_but, places_at, places_of}
 use Rattle.sw_nodes.specs.Server.{MayAnswer, MayHalt}
 use Rattle.sw_cluster.specs.Statuses as statuses
 use Rattle.sw_nodes.specs.declared.server.Nodes.{Nodes}
-use Rattle.sw_cluster.proofs.Storing.{rests-before, same-devices, stands-begun, stored}
+use Rattle.sw_cluster.proofs.Storing.{rests-before, same-devices, stored}
 
 some-is : {A : Type 0} {x y : A} → Some x ≡ Some y → x ≡ y
 some-is is = cc
@@ -71,22 +67,30 @@ module _ {V : Type 0} (tells : V → Bool) (files : V → Folders) (faults : V �
 
   -- ---- what its trail tells
 
-  -- the run of a world none of whose devices is out, whose volumes came to rest at the places of their locks
-  module _ (began w : AllNodes V) (is : IsWorld w) (whole : w.lifted ≡ None)
+  -- a world that a run came to, none of whose devices is out, whose volumes came to rest at the places of their locks; and another one, which has its lines
+  -- and its containers
+  module _ (began w after : AllNodes V) (is : IsWorld w) (whole : w.lifted ≡ None)
       (nodes : nodes_of (shown w.lifted w.devices) w.lock_bits w.power w.secrets ≡ nodes_of (length ring.devices) ring.lock_bits ring.power ring.secrets)
-      (run : HasRun (machine_of (sight_of tells files faults began)) (sight_of tells files faults w)) (rests : ℕ → ℕ → Option V)
+      (lines : List RunLine) (run : GoesOn (see began) (machine_of (see began)) lines (see w)) (rests : ℕ → ℕ → Option V)
+      (none : (device : ℕ) (place : Place) → (see began).containers.holds device place ≡ None) (new : began.lines ≡ []) (kept : after.lines ≡ w.lines)
+      (same : (device : ℕ) (place : Place) → (see after).containers.holds device place ≡ (see w).containers.holds device place)
       (resting : (l : ℕ) (k : Kept V) → slice_get w.slots l ≡ Some (slots.Open k) → at_place rests (2 ^ ring.lock_bits) l ≡ Some k.volume) where
     -- the lines of the run are those of the world
-    lines-are : w.lines ≡ came_in run.lines
-    lines-are = some-is run.kept
+    lines-are : came_in lines ≡ w.lines
+    lines-are = ap (λ (ls : List Line). ls ++ came_in lines) (sym new) ∙ sym (some-is run.kept)
 
-    pub trail-of : (steps : List Line) → steps ≡ w.lines → IsTrail tells files faults ring began rests steps
-    trail-of steps are = record {
-      lines = run.lines;
-      came = sym (are ∙ lines-are);
+    ran : Runs (nodes_of (length ring.devices) ring.lock_bits ring.power ring.secrets) (machine_of (see began)) lines run.after
+    ran = subst (λ (n : SightNodes). Runs n (machine_of (see began)) lines run.after) (sym run.nodes ∙ nodes) run.run
+
+    pub trail-of : IsTrail tells files faults ring began after rests after.lines
+    trail-of = record {
+      lines = lines;
+      came = lines-are ∙ sym kept;
       machine = run.after;
-      run = subst (λ (n : SightNodes). Runs n (machine_of (sight_of tells files faults began)) run.lines run.after) nodes run.run;
-      stored = stored tells files faults ring w is whole nodes run.after run.stands rests resting;
+      run = ran;
+      stored = stored tells files faults ring began w is whole nodes lines run.after ran run.stands.objects rests resting;
+      none = none;
+      holds = λ device place. same device place ∙ ap (λ (c : ContHalf). c.holds device place) run.stands.containers;
     }
 
   -- ---- request by request
@@ -124,9 +128,9 @@ module _ {V : Type 0} (tells : V → Bool) (files : V → Folders) (faults : V �
       pub faults_are : store_faults stores_now.now ≡ store_faults stores.now
       pub calls_are : store_calls stores_now.now ≡ raised_by (restarts_in w.lines * 2 ^ ring.lock_bits) (store_calls stores.now)
       pub same_stores : stores_now.ghost_name ≡ stores.ghost_name
-      pub runs : AllTold tells files faults ring began → HasRun (machine_of (sight_of tells files faults began)) (sight_of tells files faults w)
-      pub none : (device : ℕ) (place : Place) → (sight_of tells files faults began).containers.holds device place ≡ None
-      pub cont_runs : HasContRun (cont_machine_of (sight_of tells files faults began)) (sight_of tells files faults w)
+      pub runs : RunsOn (see began) (see w)
+      pub none : (device : ℕ) (place : Place) → (see began).containers.holds device place ≡ None
+      pub new : began.lines ≡ []
 
     -- then a device couldn't be restarted
     pub record IsHalted (fault : ServerFault) (after : AllNodes V) (stores_now : MutBor S) : Type 0 where
@@ -157,8 +161,7 @@ module _ {V : Type 0} (tells : V → Bool) (files : V → Folders) (faults : V �
       pub tells_trail : (now : ℕ → ℕ → Option V) → IsWorld (without_lines w)
           → ((l : ℕ) (k : Kept V) → slice_get w.slots l ≡ Some (slots.Open k) → at_place now (2 ^ ring.lock_bits) l ≡ Some k.volume)
           → ((device : ℕ) → w.lifted ≡ Some device → (d s : ℕ) → places_at ring device d s ≡ true → now d s ≡ rests stores_now.now d s)
-          → AllTold tells files faults ring began → IsTrail tells files faults ring began now w.lines
-      pub tells_containers : IsContTrail tells files faults ring began w w.lines
+          → IsTrail tells files faults ring began w now w.lines
 
     pub way-begun : (volumes : List V) → length volumes ≡ length ring.devices * 2 ^ ring.lock_bits → began ≡ opened ring volumes
         → ((d s : ℕ) → out stores.now d s ≡ places_of ring d s) → IsUnderWay ring began stores
@@ -170,19 +173,10 @@ module _ {V : Type 0} (tells : V → Bool) (files : V → Folders) (faults : V �
       calls_are = none-called (2 ^ ring.lock_bits) (store_calls stores.now) (store_calls stores.now) refl
           ∙ ap (λ (w : AllNodes V). raised_by (restarts_in w.lines * 2 ^ ring.lock_bits) (store_calls stores.now)) (sym is);
       same_stores = refl;
-      runs = λ told. run-begins (machine_of (sight_of tells files faults began)) (sight_of tells files faults began)
-          (stands-begun tells files faults ring began (ap (λ (w : AllNodes V). w.lock_bits) is) (ap (λ (w : AllNodes V). w.power) is)
-          (ap (λ (w : AllNodes V). length w.slots) is ∙ (simp length-map count)) told)
-          (ap (λ (w : AllNodes V). Some w.lines) is);
+      runs = runs-on-itself (see began);
       none = λ device place. subst (λ (w : AllNodes V). (see w).containers.holds device place ≡ None) (sym is)
           (empty-holds volumes (place_lock ring.lock_bits ring.power device place) place);
-      cont_runs = cont-run-begins (cont_machine_of (see began)) (see began)
-          (record {
-            half = refl;
-            told = λ device place. subst (λ (w : AllNodes V). ((see w).containers.seen (cont_lock (see w).nodes device place)).told ≡ true) (sym is)
-                (empty-told volumes (place_lock ring.lock_bits ring.power device place));
-          })
-          (ap (λ (w : AllNodes V). Some w.lines) is);
+      new = ap (λ (w : AllNodes V). w.lines) is;
     }
 
     module _ (ring_now ring_after : Ring) (w after : AllNodes V) (stores_now stores_after : MutBor S) (request : Request)
@@ -199,9 +193,9 @@ module _ {V : Type 0} (tells : V → Bool) (files : V → Folders) (faults : V �
             (subst (λ (r : Ring). store_calls stores_after.now ≡ raised_by (answer.gained * 2 ^ r.lock_bits) (store_calls stores_now.now))
             way.ring_is answer.calls_are);
         same_stores = answer.same_stores ∙ way.same_stores;
-        runs = λ told. answer.may.runs (machine_of (sight_of tells files faults began)) (way.runs told);
+        runs = runs-on-join (see began) (see w) (see after) way.runs answer.may.runs;
         none = way.none;
-        cont_runs = answer.may.cont_runs (cont_machine_of (sight_of tells files faults began)) way.cont_runs;
+        new = way.new;
       }
 
       halts : (fault : ServerFault)
@@ -237,20 +231,9 @@ module _ {V : Type 0} (tells : V → Bool) (files : V → Folders) (faults : V �
 
     -- ---- the end
 
-    -- the containers of a world under way, as another one has them that has its lines
-    cont-trail-of : (ring_now : Ring) (w after : AllNodes V) (stores_now : MutBor S) → IsUnderWay ring_now w stores_now → after.lines ≡ w.lines
-        → ((device : ℕ) (place : Place) → (see after).containers.holds device place ≡ (see w).containers.holds device place)
-        → IsContTrail tells files faults ring began after after.lines
-    cont-trail-of ring_now w after stores_now way lines same =
-        let r = way.cont_runs in
-        let lines_are : after.lines ≡ r.lines = lines ∙ some-is r.kept in
-        record {
-          none = way.none;
-          machine = r.after;
-          run = subst (λ (n : SightNodes). ContRuns n (cont_machine_of (see began)) after.lines r.after) way.ready.nodes
-              (subst (λ (ls : List Line). ContRuns (see w).nodes (cont_machine_of (see began)) ls r.after) (sym lines_are) r.run);
-          holds = λ device place. same device place ∙ ap (λ (c : ContHalf). c.holds device place) r.stands.half;
-        }
+    -- from what the nodes began with
+    run-of : (w : AllNodes V) → RunsOn (see began) (see w) → (lines : List RunLine) × GoesOn (see began) (machine_of (see began)) lines (see w)
+    run-of w runs = runs (machine_of (see began)) (record { objects = refl; containers = refl })
 
     none-lifted : (device : ℕ) → None ≡ Some device → ⊥
     none-lifted device is = cc
@@ -264,8 +247,9 @@ module _ {V : Type 0} (tells : V → Bool) (files : V → Folders) (faults : V �
       faults_are = way.faults_are;
       calls_are = whole-called ring w.lifted w.lines (store_calls stores.now) (store_calls stores_now.now) way.calls_are;
       same_stores = way.same_stores;
-      tells_trail = λ now is resting same told. trail-of began w (relined w is) way.ready.whole way.ready.nodes (way.runs told) now resting w.lines refl;
-      tells_containers = cont-trail-of ring_now w w stores_now way refl (λ device place. refl);
+      tells_trail = λ now is resting same.
+          let run = run-of w way.runs in
+          trail-of began w w (relined w is) way.ready.whole way.ready.nodes run.0 run.1 now way.none way.new refl (λ device place. refl) resting;
     }
 
     module _ (fault : ServerFault) (after : AllNodes V) (stores_now : MutBor S) (h : IsHalted fault after stores_now) where
@@ -298,10 +282,10 @@ module _ {V : Type 0} (tells : V → Bool) (files : V → Folders) (faults : V �
         calls_are = out-called ring after.lifted h.device after.lines h.w.lines (store_calls stores.now) (store_calls h.stores_then.now)
             (store_calls stores_now.now) h.tried out-is (ap (λ (x : AllNodes V). x.lines) h.up.rest) h.most h.way.calls_are h.calls_are;
         same_stores = h.same_stores;
-        tells_trail = λ now is resting same told. trail-of began h.w h.up.world h.up.whole h.way.ready.nodes (h.way.runs told) now (rests-old now resting same)
-            after.lines (ap (λ (x : AllNodes V). x.lines) h.up.rest);
-        tells_containers = cont-trail-of h.ring_then h.w after h.stores_then h.way (ap (λ (x : AllNodes V). x.lines) h.up.rest)
-            (λ device place. ap (λ (x : AllNodes V). (see x).containers.holds device place) h.up.rest);
+        tells_trail = λ now is resting same.
+            let run = run-of h.w h.way.runs in
+            trail-of began h.w after h.up.world h.up.whole h.way.ready.nodes run.0 run.1 now h.way.none h.way.new (ap (λ (x : AllNodes V). x.lines) h.up.rest)
+            (λ device place. ap (λ (x : AllNodes V). (see x).containers.holds device place) h.up.rest) (rests-old now resting same);
       }
 
     -- the count of faults of the stores at the end
@@ -400,13 +384,10 @@ module _ {V : Type 0} (tells : V → Bool) (files : V → Folders) (faults : V �
           };
           puts = subst (λ (ms : List ℕ). PutsForSession source.before ms calls calls_now result) (sym read_is) puts;
           steps = steps_are;
-          told = λ told. subst (λ (ls : List Line). IsTrail tells files faults ring start.network.door rests_now ls) (sym steps_are)
+          told = subst (λ (ls : List Line). IsTrail tells files faults ring start.network.door after.network.door rests_now ls) (sym steps_are)
               (nodes-ended.tells_trail rests_now (subst (λ (w : AllNodes V). IsWorld w) taken is)
               (λ l k at. resting l k (ap (λ (w : AllNodes V). slice_get w.slots l) taken ∙ at))
-              (λ device lifted. same_out device (ap (λ (w : AllNodes V). w.lifted) taken ∙ lifted))
-              told);
-          containers = subst (λ (ls : List Line). IsContTrail tells files faults ring start.network.door after.network.door ls) (sym steps_are)
-              nodes-ended.tells_containers;
+              (λ device lifted. same_out device (ap (λ (w : AllNodes V). w.lifted) taken ∙ lifted)));
           meets = exchange_meets tells files faults;
           moments = subst (TicksEach clock clock_now) (sym read_is) ticks;
           store_faults_are = faults_are ∙ (nodes-ended.faults_are ∙ ap (faults_at store_faults store_calls rests out start.network.door start.stores)

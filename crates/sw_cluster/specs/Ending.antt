@@ -1,5 +1,5 @@
 -- How a session ends, by its status, and what its trail tells. (This project's own.)
-use Rattle.std.specs.Prelude.{◌≡◌, ⊤, ℕ, ◌*◌, ◌^◌, ◌<◌, ◌≤◌, ◌==◌, Bool, true, false, List, [], length, Option, None, Some, Result, Ok, Err, ◌⊎◌, if◌then◌else◌}
+use Rattle.std.specs.Prelude.{◌≡◌, ⊤, ℕ, ◌*◌, ◌^◌, ◌<◌, ◌≤◌, ◌==◌, Bool, true, false, List, [], ◌++◌, length, Option, None, Some, Result, Ok, Err, ◌⊎◌, if◌then◌else◌}
 use Rattle.sw_outside.specs.Readings.{TicksEach}
 use Rattle.sw_message.specs.declared.request.Request.{Request}
 use Rattle.sw_session.specs.Passages.{Passage}
@@ -7,12 +7,11 @@ use Rattle.sw_session.specs.Replies.{Halts, Serves}
 use Rattle.sw_session.specs.Session.{IsSession, PutsForSession}
 use Rattle.sw_session.specs.declared.session.SessionFault.{SessionFault}
 use Rattle.sw_session.specs.declared.session.SessionFault.TheVariants as faults
-use Rattle.sw_container_machine.specs.Machine.{ContMachine, ContRuns, cont_machine_of}
 use Rattle.sw_hashpath.specs.declared.place.Place.{Place}
 use Rattle.sw_object_steps.specs.Journals.{Hash}
 use Rattle.sw_ring.specs.declared.ring.Ring.{Ring}
-use Rattle.sw_object_machine.specs.Machine.{Machine, RunLine, came_in, machine_of, state}
-use Rattle.sw_object_machine.specs.Machine as machines
+use Rattle.sw_machine.specs.Machine.{Machine, RunLine, Runs, came_in, machine_of, writes_at}
+use Rattle.sw_state.specs.States.{state_of, writes_of}
 use Rattle.sw_core.specs.Worlds.{AllNodes, lock_of, nodes_of, opened, sight_of, stripe_at}
 use Rattle.sw_hashdir.specs.Places.{holds}
 use Rattle.sw_hashpath.specs.HashParts.{partition_of}
@@ -49,37 +48,28 @@ pub record Ends {S : Type 0} (last : Request → Bool) (may : Serves S) (halts :
   pub session : IsSession last may halts start source sink moments after ended
 
 module _ {V : Type 0} (tells : V → Bool) (files : V → Folders) (faults : V → ℕ) where
-  -- each lock tells what it holds
-  abbrev pub AllTold : Ring → AllNodes V → Type 0
-  AllTold ring w = (device : ℕ) (hash : Hash) → device < length ring.devices
-      → ((sight_of tells files faults w).objects.seen (lock_of ring.lock_bits ring.power device hash)).told ≡ true
-
-  -- At the place of each lock rests a volume, whose files stand for the state of what reached there, and whose count of faults is the
-  -- machine's
-  pub record IsStored (ring : Ring) (machine : Machine) (rests : ℕ → ℕ → Option V) (device : ℕ) (hash : Hash) : Type 0 where
+  -- At the place of each lock rests a volume, whose count of faults is the lock's in the machine. Where the lock told its contents as the run began, its
+  -- files stand for what they stood for then, joined with the writes that reached there since, whatever failed there or elsewhere
+  pub record IsStored (ring : Ring) (began : AllNodes V) (machine : Machine) (rests : ℕ → ℕ → Option V) (device : ℕ) (hash : Hash) : Type 0 where
     pub volume : V
     pub resting : rests device (stripe_at ring.lock_bits ring.power (partition_of hash ring.power)) ≡ Some volume
-    pub stands : holds ring.secrets ring.power (files volume) hash ≡ state machine device hash
-    pub counts : (machine.seen (lock_of ring.lock_bits ring.power device hash)).faults ≡ faults volume
+    pub stands : ((sight_of tells files faults began).objects.seen (lock_of ring.lock_bits ring.power device hash)).told ≡ true
+        → holds ring.secrets ring.power (files volume) hash
+        ≡ state_of (writes_of ((sight_of tells files faults began).objects.holds device hash).state ++ writes_at machine device hash)
+    pub counts : (machine.objects.half.seen (lock_of ring.lock_bits ring.power device hash)).faults ≡ faults volume
 
   -- The trail tells what happened: its steps are those that came in a run of the machine from what the nodes began with, so each is answered by
-  -- what had reached its device and hash before, and what came in a message had been sent; and in the end the files stand for what reached.
-  pub record IsTrail (ring : Ring) (began : AllNodes V) (rests : ℕ → ℕ → Option V) (steps : List Line) : Type 0 where
+  -- what had reached its device before, and what came in a message had been sent. In the end the files stand for what reached. No container was there
+  -- when the nodes began, and in the end the devices hold the machine's.
+  pub record IsTrail (ring : Ring) (began after : AllNodes V) (rests : ℕ → ℕ → Option V) (steps : List Line) : Type 0 where
     pub lines : List RunLine
     pub came : came_in lines ≡ steps
     pub machine : Machine
-    pub run : machines.Runs (nodes_of (length ring.devices) ring.lock_bits ring.power ring.secrets)
-        (machine_of (sight_of tells files faults began)) lines machine
-    pub stored : (device : ℕ) (hash : Hash) → device < length ring.devices → IsStored ring machine rests device hash
-
-  -- The trail tells what happened at the containers too: none was there when the nodes began, its steps are those of a run of the machine of containers
-  -- from that, each answered by what stood at its device, and in the end the devices hold what stands there.
-  pub record IsContTrail (ring : Ring) (began after : AllNodes V) (steps : List Line) : Type 0 where
+    pub run : Runs (nodes_of (length ring.devices) ring.lock_bits ring.power ring.secrets) (machine_of (sight_of tells files faults began)) lines machine
+    pub stored : (device : ℕ) (hash : Hash) → device < length ring.devices → IsStored ring began machine rests device hash
     pub none : (device : ℕ) (place : Place) → (sight_of tells files faults began).containers.holds device place ≡ None
-    pub machine : ContMachine
-    pub run : ContRuns (nodes_of (length ring.devices) ring.lock_bits ring.power ring.secrets) (cont_machine_of (sight_of tells files faults began)) steps
-        machine
-    pub holds : (device : ℕ) (place : Place) → (sight_of tells files faults after).containers.holds device place ≡ machine.half.holds device place
+    pub holds : (device : ℕ) (place : Place) → (sight_of tells files faults after).containers.holds device place
+        ≡ machine.containers.half.holds device place
 
   -- A session was run over these nodes of a ring, in which no request is a last one, and then their volumes were given back. Of its requests
   -- two that pushed a partition, there and back, and were told that it is done, meet
@@ -90,8 +80,7 @@ module _ {V : Type 0} (tells : V → Bool) (files : V → Folders) (faults : V �
         (passage_of sink) trail.moments after status
     pub puts : PutsForSession source.before trail.moments sink.calls sink.calls_now ends.ended
     pub steps : trail.steps ≡ after.lines
-    pub told : AllTold ring began → IsTrail ring began rests_now trail.steps
-    pub containers : IsContTrail ring began after trail.steps
+    pub told : IsTrail ring began after rests_now trail.steps
     pub meets : ExchangeMeets tells files faults
     pub moments : TicksEach clock clock_now trail.moments
     pub store_faults_are : stores_now.faults ≡ (if status == statuses.store_fault then raised stores.faults else stores.faults)

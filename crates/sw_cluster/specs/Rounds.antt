@@ -2,9 +2,8 @@
 use Rattle.std.specs.Prelude.{◌≡◌, ⊤, ℕ, zero, suc, ◌+◌, ◌*◌, ◌^◌, ◌<◌, ◌≤◌, Bool, List, [], ◌∷◌, ◌++◌, length, map, codes, decimal, Option, Result, Ok, Err}
 use Rattle.std.specs.Prelude.{◌⊎◌}
 use Rattle.std.specs.Io.KnownBytes.{Appends}
-use Rattle.sw_object_machine.specs.Doors.{StandsFor}
-use Rattle.sw_object_machine.specs.Machine.{Machine, RunLine, machine_of}
-use Rattle.sw_object_machine.specs.Machine as machines
+use Rattle.sw_machine.specs.Doors.{StandsFor}
+use Rattle.sw_machine.specs.Machine.{Machine, RunLine, Runs, machine_of}
 use Rattle.sw_core.specs.Worlds.{AllNodes, Lifts, nodes_of, opened}
 use Rattle.sw_outside.specs.Counts.{raised}
 use Rattle.sw_outside.specs.Doors.{Accepted, Finished}
@@ -20,7 +19,7 @@ use Rattle.sw_stores.specs.Volumes.{AreStarted}
 use Rattle.sw_volume.specs.Tree.{Folders}
 use Rattle.sw_volume.specs.Volume.{raised_by}
 use Rattle.sw_cluster.specs.Connections.{IsConnection, PutsForConnection}
-use Rattle.sw_cluster.specs.Ending.{AllTold, AreUnstarted, IsStored}
+use Rattle.sw_cluster.specs.Ending.{AreUnstarted, IsStored}
 use Rattle.sw_cluster.specs.Statuses as statuses
 use Rattle.sw_cluster.specs.Told.{Counts, DoorsTold, IsSilent, Output}
 use Rattle.sw_cluster.specs.declared.rounds.ServeFault.{ServeFault}
@@ -219,10 +218,10 @@ module _ {V : Type 0} (tells : V → Bool) (files : V → Folders) (faults : V �
   pub record HasServed (began after : AllNodes V) (rests : ℕ → ℕ → Option V) : Type 0 where
     pub lines : List RunLine
     pub machine : Machine
-    pub run : machines.Runs (nodes_of (length ring.devices) ring.lock_bits ring.power ring.secrets)
+    pub run : Runs (nodes_of (length ring.devices) ring.lock_bits ring.power ring.secrets)
         (machine_of (quiet_sight_of tells files faults began)) lines machine
     pub stands : StandsFor (quiet_sight_of tells files faults after) machine
-    pub stored : (device : ℕ) (hash : Hash) → device < length ring.devices → IsStored tells files faults ring machine rests device hash
+    pub stored : (device : ℕ) (hash : Hash) → device < length ring.devices → IsStored tells files faults ring began machine rests device hash
 
   -- over these nodes the connections were served, and then their volumes given back
   pub record IsServedOver (port connections : ℕ) (began : AllNodes V) (rests_now : ℕ → ℕ → Option V) (doors doors_now : DoorsTold) (out : Output)
@@ -231,7 +230,7 @@ module _ {V : Type 0} (tells : V → Bool) (files : V → Folders) (faults : V �
     pub ended : Result ⊤ ServeFault
     pub status_is : status ≡ serve_status ended
     pub ends : EndsServing port connections began after doors doors_now out clock clock_now stores stores_now ended
-    pub told : AllTold tells files faults ring began → HasServed began after rests_now
+    pub served : HasServed began after rests_now
 
   -- the volumes of a ring's nodes were started, by one call of the stores for each, and the connections served over them
   pub record IsServing (first : V → Type 0) (port connections : ℕ) (rests rests_now : ℕ → ℕ → Option V) (doors doors_now : DoorsTold) (out : Output)

@@ -1,6 +1,6 @@
 use Rattle.std.proofs.Common.{◌≡◌, ℕ, refl, sym, subst, rules}
 use Rattle.sw_session.specs.Passages.{Passage, passage}
-use Rattle.sw_cluster.proofs.Connecting.{connection-nodes, connection-of, door_in, ring_in, same-door, still-each}
+use Rattle.sw_cluster.proofs.Connecting.{connection-goes, connection-of, door_in, ring_in, same-door, still-each}
 use Rattle.sw_cluster.specs.Connections.{IsConnection}
 use Rattle.sw_cluster.proofs.connection.serve_connection.Goals as goal
 
@@ -24,4 +24,4 @@ returns-clause-puts g c = (_, c.serve-ended.result, c.status_of.ensures, c.serve
 
 pub returns-clause-nodes : goal.returns-clause-nodes
 returns-clause-nodes g c =
-    connection-nodes g.D.Door.sight c.args.ring.now c.args.now c.args.door.now _ _ _ _ (returns-clause-connection g c)
+    (connection-goes g.D.Door.sight c.args.ring.now c.args.now c.args.door.now _ _ _ _ (returns-clause-connection g c)).nodes

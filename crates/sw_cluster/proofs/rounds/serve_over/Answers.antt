@@ -1,10 +1,8 @@
 use Rattle.std.proofs.Common.{◌∙◌, ℕ, Option, refl, sym, ap, subst}
 use Rattle.sw_core.specs.Worlds.{AllNodes, opened}
-use Rattle.sw_nodes.proofs.Going.{Goes}
 use Rattle.sw_nodes.proofs.Readying.{ready-of}
 use Rattle.sw_cluster.proofs.Rounding.{counts-same}
-use Rattle.sw_cluster.proofs.Served.{ends-go, has-served, left-given, see}
-use Rattle.sw_cluster.specs.Ending.{AllTold}
+use Rattle.sw_cluster.proofs.Served.{Goes, ends-go, has-served, left-given}
 use Rattle.sw_cluster.specs.Leaving.{AreLeft}
 use Rattle.sw_nodes.specs.Nodes.{IsReady, out_but}
 use Rattle.sw_cluster.specs.Rounds.{EndsServing, HasServed}
@@ -55,13 +53,11 @@ returns-clause-over g c =
           (counts s.calls s.faults c.args.stores.now) k c.attend-ended.result)
           (counts-same (counts s.calls s.faults c.attend-ended.new.stores) (counts s.calls s.faults c.give_back.new.stores)
           (sym c.give_back.ensures.calls) (sym c.give_back.ensures.faults)) ended.1;
-      told = subst (λ (w : AllNodes _). AllTold v.tells v.holds v.faults c.args.ring.now w
-          → HasServed v.tells v.holds v.faults c.args.ring.now w ended.0 (s.rests c.give_back.new.stores)) (sym begun.2)
-          (has-served v.tells v.holds v.faults c.args.ring.now s.calls s.rests s.out begun.0 begun.1 ended.0 c.into_world.result c.attend-ended.new.stores
+      served = subst (λ (w : AllNodes _). HasServed v.tells v.holds v.faults c.args.ring.now w ended.0 (s.rests c.give_back.new.stores)) (sym begun.2)
+          (has-served v.tells v.holds v.faults c.args.ring.now s.calls s.rests s.out begun.0 ended.0 c.into_world.result c.attend-ended.new.stores
           (subst (λ (w : AllNodes _). AreLeft v.tells v.holds v.faults s.calls s.rests s.out c.args.ring.now ended.0 w c.attend-ended.new.stores)
           (sym c.into_world.ensures) ended.2)
-          (subst (λ (w : AllNodes _). Goes (see v.tells v.holds v.faults c.args.ring.now w) (see v.tells v.holds v.faults c.args.ring.now ended.0)) begun.2
-          (ends-go v.tells v.holds v.faults c.args.ring.now c.args.port c.args.connections c.args.world ended.0 _ _ _ _ _ _ _ _
-          (ap (λ (w : AllNodes _). w.power) begun.2) ended.1))
+          (subst (λ (w : AllNodes _). Goes v.tells v.holds v.faults c.args.ring.now w ended.0) begun.2
+          (ends-go v.tells v.holds v.faults c.args.ring.now c.args.port c.args.connections c.args.world ended.0 _ _ _ _ _ _ _ _ ended.1))
           (s.rests c.give_back.new.stores) c.give_back.ensures.world c.give_back.ensures.rests c.give_back.ensures.others);
     }
