@@ -22,7 +22,7 @@ use Rattle.sw_ring.specs.declared.ring.Ring.{Ring}
 use Rattle.sw_volume.specs.Tree.{Folders}
 use Rattle.sw_nodes.proofs.Controlling.{on_true}
 use Rattle.sw_nodes.proofs.Keeping.{Keeps, cont_change-keeps, inform-keeps, keeps-join, keeps-same, list-keeps}
-use Rattle.sw_nodes.proofs.Restarting.{none-called, some_is}
+use Rattle.sw_nodes.proofs.Restarting.{none-called, same-restarts}
 use Rattle.sw_nodes.proofs.Serving.{goes_on, on_false}
 use Rattle.sw_nodes.specs.Nodes.{IsReady, NodesAnswer}
 use Rattle.sw_nodes.specs.Restarts.{restarts_in}
@@ -82,7 +82,7 @@ module _ {V S : Type 0} (tells : V → Bool) (files : V → Folders) (faults : V
     };
     faults_are = refl;
     gained = 0;
-    gains = let same : restarts_in after.lines ≡ restarts_in w.lines = some_is keeps.calm in omega (arith, same);
+    gains = same-restarts w.lines after.lines keeps.calm;
     calls_are = none-called (2 ^ ring.lock_bits) (store_calls stores.now) (store_calls stores.now) refl;
     same_stores = refl;
     ready = goes_on tells files faults out ring w after stores.now ready keeps.nodes;

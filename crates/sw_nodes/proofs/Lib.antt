@@ -9,4 +9,3 @@ pub mod Replicating
 pub mod Restarting
 pub mod RunningLemmas
 pub mod Serving
-pub mod ServingLemmas

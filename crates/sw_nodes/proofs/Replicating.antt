@@ -15,11 +15,11 @@ use Rattle.sw_machine.proofs.Doors.{runs-on-itself}
 use Rattle.sw_nodes.proofs.Comparing.{answered-keeps, given_up-keeps}
 use Rattle.sw_nodes.proofs.Controlling.{on_true}
 use Rattle.sw_nodes.proofs.Keeping.{Keeps}
-use Rattle.sw_nodes.proofs.Restarting.{no-line, none-called, some_is}
+use Rattle.sw_nodes.proofs.Restarting.{no-line, none-called, same-restarts}
 use Rattle.sw_nodes.proofs.Serving.{goes_on, on_false}
 use Rattle.sw_nodes.specs.Nodes.{IsReady, NodesAnswer}
 use Rattle.sw_nodes.specs.Restarts.{restarts_in}
-use Rattle.sw_nodes.specs.Server.{IsCompared, IsContained, IsControlled, IsRight, IsWanting}
+use Rattle.sw_nodes.specs.Server.{IsCompared, IsContained, IsControlled, IsServedAt}
 
 module _ {V S : Type 0} (tells : V → Bool) (files : V → Folders) (faults : V → ℕ) (store_faults store_calls : S → ℕ) (out : S → ℕ → ℕ → Bool)
     (ring : Ring) (w after : AllNodes V) (stores : MutBor S) (request : Request) (moment : ℕ) (response : Response)
@@ -40,7 +40,7 @@ module _ {V S : Type 0} (tells : V → Bool) (files : V → Folders) (faults : V
     };
     faults_are = refl;
     gained = 0;
-    gains = let calm : restarts_in after.lines ≡ restarts_in w.lines = some_is keeps.calm in omega (arith, calm);
+    gains = same-restarts w.lines after.lines keeps.calm;
     calls_are = none-called (2 ^ ring.lock_bits) (store_calls stores.now) (store_calls stores.now) refl;
     same_stores = refl;
     ready = goes_on tells files faults out ring w after stores.now ready keeps.nodes;
@@ -65,8 +65,7 @@ module _ {V S : Type 0} (tells : V → Bool) (files : V → Folders) (faults : V
   MayBe control replicas containers =
       MatchBool control (IsControlled tells files faults ring w request response w)
       (MatchBool replicas (IsCompared tells files faults ring w request response w)
-      (MatchBool containers (IsContained tells files faults ring w request response w)
-      (IsRight ring w.lines request moment response w.lines ⊎ IsWanting ring w.lines request response w.lines)))
+      (MatchBool containers (IsContained tells files faults ring w request response w) (IsServedAt tells files faults ring w request moment response w)))
 
   whatever : (control replicas containers : Bool) → MayBe control replicas containers
   whatever true replicas containers = inr (refl, reply)

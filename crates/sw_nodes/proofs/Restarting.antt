@@ -1,18 +1,16 @@
 -- Which requests leave a line that tells of a restart, and how the calls of the stores add up.
-use Rattle.std.proofs.Common.{◌≡◌, ℕ, ◌+◌, ◌*◌, ◌^◌, ◌≤◌, List, [], ◌∷◌, ◌++◌, Option, Some, None, Bool, refl, sym, ap, ◌∙◌, inl, inr, ◌⊎◌, arith}
+use Rattle.std.proofs.Common.{◌≡◌, ℕ, ◌+◌, ◌*◌, ◌^◌, ◌≤◌, List, [], ◌∷◌, ◌++◌, Option, Some, None, refl, sym, ap, ◌∙◌, arith}
 use Rattle.std.proofs.lemmas.Nat.{rows}
+use Rattle.std.specs.Option.{option_map}
 use Rattle.sw_core.specs.Worlds.{AllNodes, restart_line}
-use Rattle.sw_message.specs.declared.request.Request.{Request}
 use Rattle.sw_message.specs.declared.response.Response.{Response}
-use Rattle.sw_object_server.specs.declared.asked.Asked.{Asked}
-use Rattle.sw_object_server.specs.declared.asked.Asked.TheVariants as asks
 use Rattle.sw_peer.specs.declared.line.Line.{Line}
 use Rattle.sw_ring.specs.declared.ring.Ring.{Ring}
 use Rattle.sw_volume.proofs.Counting.{raised_by-plus}
 use Rattle.sw_volume.specs.Tree.{Folders}
 use Rattle.sw_volume.specs.Volume.{raised_by}
 use Rattle.sw_nodes.specs.Restarts.{AreCalled, restarts_in, restarts_of}
-use Rattle.sw_nodes.specs.Server.{IsDone, IsFiled, IsIdle, IsRestarted, IsRight, IsWanting}
+use Rattle.sw_nodes.specs.Server.{IsFiled, IsRestarted}
 
 -- ---- lines
 
@@ -26,31 +24,18 @@ one-line (first ∷ lines) line = let e = one-line lines line in omega (arith, e
 pub no-line : (before after : List Line) → after ≡ before → restarts_in after ≡ restarts_in before + 0
 no-line before after same = let e = ap restarts_in same in omega (arith, e)
 
+-- where a trail that is kept tells as many restarts as it did
+pub same-restarts : (before after : List Line) → option_map restarts_in (Some after) ≡ option_map restarts_in (Some before)
+    → restarts_in after ≡ restarts_in before + 0
+same-restarts before after same = let e : restarts_in after ≡ restarts_in before = some_is same in omega (arith, e)
+
 -- one line more, of an event that is none or a restart
 line-of : (before after : List Line) (line : Line) (n : ℕ) → after ≡ before ++ line ∷ [] → restarts_of line.event ≡ n
     → restarts_in after ≡ restarts_in before + n
 line-of before after line n is event = ap restarts_in is ∙ (one-line before line ∙ ap (λ (k : ℕ). restarts_in before + k) event)
 
--- no request of the nodes leaves a restart's line
-done-lines : (before after : List Line) (moment : ℕ) (asked : Asked) (response : Response) → IsDone before moment asked response after
-    → restarts_in after ≡ restarts_in before + 0
-done-lines before after moment (asks.Refused status) response done = no-line before after done.0
-done-lines before after moment (asks.Change device name change) response done = line-of before after _ 0 done.1.1 refl
-done-lines before after moment (asks.Read device name head_only) response done = line-of before after _ 0 done.1.1 refl
-
-idle-lines : (before after : List Line) (asked : Asked) → IsIdle before asked after → restarts_in after ≡ restarts_in before + 0
-idle-lines before after (asks.Refused status) idle = absurd idle
-idle-lines before after (asks.Change device name change) idle = line-of before after _ 0 idle.1.1 refl
-idle-lines before after (asks.Read device name head_only) idle = line-of before after _ 0 idle.1.1 refl
-
-pub asked-lines : (ring : Ring) (before after : List Line) (request : Request) (moment : ℕ) (response : Response)
-    → IsRight ring before request moment response after ⊎ IsWanting ring before request response after → restarts_in after ≡ restarts_in before + 0
-asked-lines ring before after request moment response (inl right) = done-lines before after moment right.0 response right.2
-asked-lines ring before after request moment response (inr (reply, inl same)) = no-line before after same
-asked-lines ring before after request moment response (inr (reply, inr idle)) = idle-lines before after idle.0 idle.2
-
 module _ {V : Type 0} (tells : V → Bool) (files : V → Folders) (faults : V → ℕ) where
-  -- nor does a listing
+  -- a listing leaves no line of a restart
   pub listed-lines : (w after : AllNodes V) (device : ℕ) (response : Response) → IsFiled tells files faults device w response after
       → restarts_in after.lines ≡ restarts_in w.lines + 0
   listed-lines w after device response filed = line-of w.lines after.lines _ 0 (some_is filed.moves.trail) refl

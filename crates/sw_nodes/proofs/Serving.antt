@@ -1,5 +1,5 @@
 -- What the nodes of a ring answer, and that they can go on.
-use Rattle.std.proofs.Common.{◌≡◌, ℕ, suc, ◌≤◌, ◌^◌, Bool, true, false, List, [], ◌∷◌, length, Option, Some, None, refl, ap, ◌∙◌, inr, MatchBool, nat_eq}
+use Rattle.std.proofs.Common.{◌≡◌, ℕ, suc, ◌≤◌, ◌^◌, Bool, true, false, List, [], ◌∷◌, length, Option, Some, None, refl, ap, ◌∙◌, inl, inr, MatchBool, nat_eq}
 use Rattle.std.proofs.Common.{nat_le, not, ◌&&◌, ◌||◌, arith, MutBor}
 use Rattle.std.proofs.lemmas.Grind.{common_steps}
 use Rattle.std.proofs.lemmas.Nat.{pow_pos}
@@ -17,9 +17,8 @@ use Rattle.sw_ring.specs.Rows.{AreGood, is_good}
 use Rattle.sw_ring.specs.declared.ring.Ring.{Ring}
 use Rattle.sw_volume.specs.Tree.{Folders}
 use Rattle.sw_nodes.proofs.Readying.{ready-of}
-use Rattle.sw_nodes.proofs.Restarting.{asked-lines, none-called}
+use Rattle.sw_nodes.proofs.Restarting.{none-called, same-restarts}
 use Rattle.sw_nodes.proofs.RunningLemmas.{answered_keeps, left_keeps}
-use Rattle.sw_nodes.proofs.ServingLemmas.{request_left, request_served}
 use Rattle.sw_nodes.specs.Nodes.{IsReady, NodesAnswer}
 
 -- ---- a ring has a device
@@ -95,14 +94,13 @@ module _ {V : Type 0} (tells : V → Bool) (files : V → Folders) (faults : V �
       ring_is = refl;
       may = record {
         answers = on_false _ _ (is_control request.path) is (on_false _ _ (is_replication_of request) other (on_false _ _ (is_for_containers request) object
-            (request_served see (λ w. w.lines) (λ w. refl) ring w after request moment response answered)));
+            (inl answered)));
         nodes = (answered_keeps see ring w after request moment response answered).nodes;
         runs = (answered_keeps see ring w after request moment response answered).runs refl;
       };
       faults_are = refl;
       gained = 0;
-      gains = asked-lines ring w.lines after.lines request moment response
-          (request_served see (λ w. w.lines) (λ w. refl) ring w after request moment response answered);
+      gains = same-restarts w.lines after.lines (answered_keeps see ring w after request moment response answered).calm;
       calls_are = none-called (2 ^ ring.lock_bits) (store_calls stores.now) (store_calls stores.now) refl;
       same_stores = refl;
       ready = answered_on out ring w after stores.now request moment response ready answered;
@@ -118,14 +116,13 @@ module _ {V : Type 0} (tells : V → Bool) (files : V → Folders) (faults : V �
       ring_is = refl;
       may = record {
         answers = on_false _ _ (is_control request.path) is (on_false _ _ (is_replication_of request) other (on_false _ _ (is_for_containers request) object
-            (inr (reply, request_left see (λ w. w.lines) (λ w. refl) ring w after request moment left))));
+            (inr (reply, left))));
         nodes = (left_keeps see ring w after request moment left).nodes;
         runs = (left_keeps see ring w after request moment left).runs refl;
       };
       faults_are = refl;
       gained = 0;
-      gains = asked-lines ring w.lines after.lines request moment response
-          (inr (reply, request_left see (λ w. w.lines) (λ w. refl) ring w after request moment left));
+      gains = same-restarts w.lines after.lines (left_keeps see ring w after request moment left).calm;
       calls_are = none-called (2 ^ ring.lock_bits) (store_calls stores.now) (store_calls stores.now) refl;
       same_stores = refl;
       ready = left_on out ring w after stores.now request moment ready left;

@@ -2,24 +2,13 @@
 --
 -- A reply is a relation, since want of memory may be answered in place of any reply. Then no step came, or the one that the request asks
 -- for, which changed nothing.
-use Rattle.std.specs.Prelude.{◌≡◌, ℕ, Bool, true, false, List, ◌∷◌, [], ◌++◌, MatchBool, ◌⊎◌, Result, Ok, Err, IfOk}
+use Rattle.std.specs.Prelude.{◌≡◌, ℕ, Bool, true, false, List, [], MatchBool, ◌⊎◌, Result, Ok, Err, IfOk}
 use Rattle.sw_message.specs.declared.request.Request.{Request}
 use Rattle.sw_message.specs.declared.response.Response.{Response}
 use Rattle.sw_ring.specs.declared.ring.Ring.{Ring}
-use Rattle.sw_object_steps.specs.Steps.{is_entered, write_of}
-use Rattle.sw_object_steps.specs.declared.answer.Answer.{Answer}
-use Rattle.sw_object_steps.specs.declared.entry.ObjEntry.{ObjEntry}
-use Rattle.sw_object_steps.specs.declared.got.Got.{Got}
-use Rattle.sw_peer.specs.declared.line.Event.{Event}
-use Rattle.sw_peer.specs.declared.line.Event.TheVariants.{Changed, Read}
-use Rattle.sw_peer.specs.declared.line.Line.{Line}
-use Rattle.sw_peer.specs.declared.link.Link.TheVariants.{Local}
-use Rattle.sw_object_server.specs.Asking.{IsAsked}
-use Rattle.sw_object_server.specs.Replies.{bare, made_reply, reply_to}
-use Rattle.sw_object_server.specs.Showing.{IsShown}
-use Rattle.sw_object_server.specs.declared.asked.Asked.{Asked}
-use Rattle.sw_object_server.specs.declared.asked.Asked.TheVariants as asks
+use Rattle.sw_object_server.specs.Replies.{bare}
 use Rattle.sw_container_server.specs.Serving as containers
+use Rattle.sw_object_server.specs.Serving as objects
 use Rattle.sw_container_server.specs.Targets.{is_for_containers}
 use Rattle.sw_replica_server.specs.Serving as replicas
 use Rattle.sw_replica_server.specs.Targets.{is_replication_of}
@@ -40,35 +29,6 @@ use Rattle.sw_steps.specs.Passing.{IsPushedOver}
 use Rattle.sw_volume.specs.Tree.{Folders}
 use Rattle.sw_volume.specs.declared.errors.VolumeError.{VolumeError}
 use Rattle.sw_volume.specs.declared.errors.VolumeError.TheVariants as volume_errors
-
--- one step more came to this device, said there itself: its line tells what it asked for, its answer, and the entries that it added
-abbrev pub HasLine : List Line → ℕ → Event → List Line → Type 0
-HasLine before device event after =
-    (added : List ObjEntry) × (after ≡ before ++ record { device = device; link = Local; event = event; added = added } ∷ [])
-
--- what a request asks for was done, and replied to. A refused request makes no step
-abbrev pub IsDone : List Line → ℕ → Asked → Response → List Line → Type 0
-IsDone before moment (asks.Refused status) response after = (after ≡ before) × (response ≡ bare status)
-IsDone before moment (asks.Change device name change) response after =
-    (answer : Answer) × HasLine before device (Changed name change answer) after × (response ≡ reply_to (made_reply (write_of change).kind) answer)
-IsDone before moment (asks.Read device name head_only) response after =
-    (got : Got) × HasLine before device (Read name got) after × IsShown got moment head_only response
-
--- the one right reply to a request of the nodes
-abbrev pub IsRight : Ring → List Line → Request → ℕ → Response → List Line → Type 0
-IsRight ring before r moment response after = (asked : Asked) × IsAsked ring r asked × IsDone before moment asked response after
-
--- the step that was asked for came, and entered no write. A refused request has none
-abbrev pub IsIdle : List Line → Asked → List Line → Type 0
-IsIdle before (asks.Refused status) after = ⊥
-IsIdle before (asks.Change device name change) after =
-    (answer : Answer) × HasLine before device (Changed name change answer) after × (is_entered answer ≡ false)
-IsIdle before (asks.Read device name head_only) after = (got : Got) × HasLine before device (Read name got) after
-
--- want of memory: no step came, or the one that the request asks for, which entered no write
-abbrev pub IsWanting : Ring → List Line → Request → Response → List Line → Type 0
-IsWanting ring before r response after =
-    (response ≡ bare 500) × ((after ≡ before) ⊎ ((asked : Asked) × IsAsked ring r asked × IsIdle before asked after))
 
 -- ---- control requests
 
@@ -119,6 +79,15 @@ module _ {V : Type 0} (tells : V → Bool) (files : V → Folders) (faults : V �
   IsControlled ring w r response after =
       ((asked : Control) × IsControl ring r asked × IsControlDone ring w asked response after) ⊎ ((after ≡ w) × (response ≡ bare 500))
 
+  -- ---- requests for objects
+
+  -- The step that a request for an object asks for came, and what it was answered is replied. Or memory ran out: then no step came, or the one that the
+  -- request asks for, which changed nothing
+  abbrev pub IsServedAt : Ring → AllNodes V → Request → ℕ → Response → AllNodes V → Type 0
+  IsServedAt ring w r moment response after =
+      objects.IsAnswered (sight_of tells files faults) w after ring r moment response
+      ⊎ ((response ≡ bare 500) × objects.IsGivenUp (sight_of tells files faults) w after ring r moment)
+
   -- ---- requests for replicas
 
   -- The reads that a request for replicas asks for were made, and what they told replied. Or memory ran out: then some first ones of them were
@@ -144,8 +113,7 @@ module _ {V : Type 0} (tells : V → Bool) (files : V → Folders) (faults : V �
   pub record MayAnswer (ring : Ring) (w : AllNodes V) (r : Request) (moment : ℕ) (response : Response) (after : AllNodes V) : Type 0 where
     pub answers : MatchBool (is_control r.path) (IsControlled ring w r response after)
         (MatchBool (is_replication_of r) (IsCompared ring w r response after)
-        (MatchBool (is_for_containers r) (IsContained ring w r response after)
-        (IsRight ring w.lines r moment response after.lines ⊎ IsWanting ring w.lines r response after.lines)))
+        (MatchBool (is_for_containers r) (IsContained ring w r response after) (IsServedAt ring w r moment response after)))
     pub nodes : (sight_of tells files faults after).nodes ≡ (sight_of tells files faults w).nodes
     pub runs : RunsOn (sight_of tells files faults w) (sight_of tells files faults after)
 
