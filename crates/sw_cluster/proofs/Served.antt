@@ -4,7 +4,7 @@ use Rattle.std.proofs.Common.{inr}
 use Rattle.std.proofs.Common.{refl, sym, ◌∙◌, ap, subst}
 use Rattle.std.specs.Bool.{⊤}
 use Rattle.std.specs.List.{slice_get}
-use Rattle.sw_machine.proofs.Doors.{restart-runs-on, runs-on-itself, runs-on-join}
+use Rattle.sw_machine.proofs.Doors.{runs-join}
 use Rattle.sw_machine.specs.Doors.{RunsOn}
 use Rattle.sw_machine.specs.Machine.{Machine, RunLine, Runs, machine_of}
 use Rattle.sw_core.specs.Worlds.{AllNodes, IsWorld, nodes_of, opened, sight_of}
@@ -19,6 +19,7 @@ use Rattle.sw_volume.specs.Tree.{Folders}
 use Rattle.sw_quiet.proofs.Trails.{lifting-restarts}
 use Rattle.sw_session.specs.Passages.{Passage}
 use Rattle.sw_cluster.proofs.Connecting.{connection-goes}
+use Rattle.sw_nodes.proofs.Keeping.{restart-runs, runs-itself}
 use Rattle.sw_nodes.proofs.Serving.{goes_on}
 use Rattle.sw_cluster.proofs.Storing.{rests-before, stored}
 use Rattle.sw_cluster.specs.Ending.{IsStored}
@@ -43,10 +44,10 @@ module _ {V : Type 0} (tells : V → Bool) (files : V → Folders) (faults : V �
     pub runs : RunsOn (see w) (see after)
 
   goes-same : (w after : AllNodes V) → after ≡ w → Goes w after
-  goes-same w after same = subst (Goes w) (sym same) (record { nodes = refl; runs = runs-on-itself (see w) })
+  goes-same w after same = subst (Goes w) (sym same) (record { nodes = refl; runs = runs-itself (see w) })
 
   goes-join : (a b c : AllNodes V) → Goes a b → Goes b c → Goes a c
-  goes-join a b c p q = record { nodes = q.nodes ∙ p.nodes; runs = runs-on-join (see a) (see b) (see c) p.runs q.runs }
+  goes-join a b c p q = record { nodes = q.nodes ∙ p.nodes; runs = runs-join (see a) (see b) (see c) p.runs q.runs }
 
   served-one : (w after : AllNodes V) (moment : ℕ) (source sink : Passage) (status : ℕ) → IsConnection see ring moment w source sink after status → Goes w after
   served-one w after moment source sink status c =
@@ -56,7 +57,7 @@ module _ {V : Type 0} (tells : V → Bool) (files : V → Folders) (faults : V �
   restarted-goes : (w after : AllNodes V) (device : ℕ) → RestartsDevice tells files faults ring device w after → Goes w after
   restarted-goes w after device again =
       let restarts = lifting-restarts tells files faults w again.mid after device again.given again.up again.down in
-      record { nodes = restarts.nodes; runs = restart-runs-on device (see w) (see after) refl restarts }
+      record { nodes = restarts.nodes; runs = restart-runs device (see w) (see after) refl restarts }
 
   first-go : (n : ℕ) (w after : AllNodes V) → RestartsFirst tells files faults ring n w after → Goes w after
   first-go zero w after same = goes-same w after same

@@ -19,7 +19,7 @@ use Rattle.sw_stores.specs.Volumes.{AreResting}
 use Rattle.sw_volume.specs.Tree.{Folders}
 use Rattle.sw_core.proofs.Placed.{stripe-below}
 use Rattle.sw_core.proofs.Wholes.{open-at}
-use Rattle.sw_machine.proofs.Objects.{hashes-stand}
+use Rattle.sw_machine.proofs.Runs.{hashes-stand}
 use Rattle.sw_machine.specs.Machine.{KnownWrite, Machine, RunLine, Runs, machine_of, writes_among, writes_at}
 use Rattle.sw_object_steps.specs.Halves.{ObjHalf}
 use Rattle.sw_object_steps.specs.Rules.{ObjHistory}

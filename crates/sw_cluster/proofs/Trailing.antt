@@ -25,11 +25,12 @@ use Rattle.sw_volume.specs.Tree.{Folders}
 use Rattle.sw_volume.specs.Volume.{raised_by}
 use Rattle.sw_nodes.specs.Restarts.{AreCalled, restarts_in}
 use Rattle.sw_nodes.proofs.Exchanging.{exchange_meets}
+use Rattle.sw_nodes.proofs.Keeping.{runs-itself}
 use Rattle.sw_nodes.proofs.Readying.{ready-of}
 use Rattle.sw_nodes.proofs.Restarting.{called-on, none-called, out-called, whole-called}
 use Rattle.sw_container_steps.specs.Halves.{ContHalf}
 use Rattle.sw_core.proofs.Containing.{empty-holds}
-use Rattle.sw_machine.proofs.Doors.{runs-on-itself, runs-on-join}
+use Rattle.sw_machine.proofs.Doors.{runs-join}
 use Rattle.sw_machine.specs.Doors.{GoesOn, RunsOn}
 use Rattle.sw_machine.specs.Machine.{RunLine, Runs, came_in, machine_of}
 use Rattle.sw_core.specs.Worlds.{AllNodes, IsWorld, Lifts, first_of, nodes_of}
@@ -173,7 +174,7 @@ module _ {V : Type 0} (tells : V → Bool) (files : V → Folders) (faults : V �
       calls_are = none-called (2 ^ ring.lock_bits) (store_calls stores.now) (store_calls stores.now) refl
           ∙ ap (λ (w : AllNodes V). raised_by (restarts_in w.lines * 2 ^ ring.lock_bits) (store_calls stores.now)) (sym is);
       same_stores = refl;
-      runs = runs-on-itself (see began);
+      runs = runs-itself (see began);
       none = λ device place. subst (λ (w : AllNodes V). (see w).containers.holds device place ≡ None) (sym is)
           (empty-holds volumes (place_lock ring.lock_bits ring.power device place) place);
       new = ap (λ (w : AllNodes V). w.lines) is;
@@ -193,7 +194,7 @@ module _ {V : Type 0} (tells : V → Bool) (files : V → Folders) (faults : V �
             (subst (λ (r : Ring). store_calls stores_after.now ≡ raised_by (answer.gained * 2 ^ r.lock_bits) (store_calls stores_now.now))
             way.ring_is answer.calls_are);
         same_stores = answer.same_stores ∙ way.same_stores;
-        runs = runs-on-join (see began) (see w) (see after) way.runs answer.may.runs;
+        runs = runs-join (see began) (see w) (see after) way.runs answer.may.runs;
         none = way.none;
         new = way.new;
       }

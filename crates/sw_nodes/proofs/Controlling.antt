@@ -12,7 +12,6 @@ use Rattle.sw_control.specs.Asking.{IsControl, IsPlaced, is_control}
 use Rattle.sw_control.specs.declared.asking.Control.TheVariants as controls
 use Rattle.sw_control.specs.declared.replication.Replication.{Replication}
 use Rattle.sw_core.proofs.Anew.{restarts}
-use Rattle.sw_machine.proofs.Doors.{files-listed-run-on, restart-runs-on, runs-on-itself}
 use Rattle.sw_machine.specs.Doors.{RunsOn}
 use Rattle.sw_core.specs.Listing.{is_failed}
 use Rattle.sw_core.specs.Worlds.{AllNodes, sight_of}
@@ -23,6 +22,7 @@ use Rattle.sw_steps.proofs.Running.{over-nodes, pushing_runs}
 use Rattle.sw_volume.specs.Tree.{Folders}
 use Rattle.sw_volume.specs.Volume.{raised_by}
 use Rattle.sw_nodes.proofs.Calming.{push-calm}
+use Rattle.sw_nodes.proofs.Keeping.{listed-runs, restart-runs, runs-itself}
 use Rattle.sw_nodes.proofs.Readying.{ready-of}
 use Rattle.sw_nodes.proofs.Serving.{goes_on}
 use Rattle.sw_nodes.proofs.Restarting.{listed-lines, no-line, none-called, once-called, restart-lines, some_is}
@@ -55,7 +55,7 @@ module _ {V : Type 0} (tells : V → Bool) (files : V → Folders) (faults : V �
   wanted ring w after request moment response is same reply = record {
     answers = on_true _ _ (is_control request.path) is (inr (same, reply));
     nodes = ap (λ (x : AllNodes V). (see x).nodes) same;
-    runs = subst (λ (x : AllNodes V). RunsOn (see w) (see x)) (sym same) (runs-on-itself (see w));
+    runs = subst (λ (x : AllNodes V). RunsOn (see w) (see x)) (sym same) (runs-itself (see w));
   }
 
   -- the files of a device were listed
@@ -65,7 +65,7 @@ module _ {V : Type 0} (tells : V → Bool) (files : V → Folders) (faults : V �
   may_list ring w after request moment response device is asked (inl filed) = record {
     answers = on_true _ _ (is_control request.path) is (inl (controls.Files device, asked, filed));
     nodes = filed.moves.nodes;
-    runs = files-listed-run-on device (is_failed filed.listed) (see w) (see after) filed.moves;
+    runs = listed-runs device (is_failed filed.listed) (see w) (see after) filed.moves;
   }
   may_list ring w after request moment response device is asked (inr same) = wanted ring w after request moment response is same.0 same.1
 
@@ -81,7 +81,7 @@ module _ {V : Type 0} (tells : V → Bool) (files : V → Folders) (faults : V �
       record {
         answers = on_true _ _ (is_control request.path) is (inl (controls.Restart device, asked, done));
         nodes = begun.nodes;
-        runs = restart-runs-on device (see w) (see after) refl begun;
+        runs = restart-runs device (see w) (see after) refl begun;
       }
   may_restart ring w after request moment response device is asked (inr same) = wanted ring w after request moment response is same.0 same.1
 

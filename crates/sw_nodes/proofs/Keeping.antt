@@ -11,20 +11,37 @@ use Rattle.sw_hashpath.specs.declared.name.Name.{Name}
 use Rattle.sw_hashpath.specs.declared.place.Place.{Place}
 use Rattle.sw_listing.specs.declared.entry.Entry.{Entry}
 use Rattle.sw_listing.specs.declared.query.Query.{Query}
-use Rattle.sw_machine.proofs.Doors as doors
+use Rattle.sw_machine.proofs.Doors.{change-goes, cont-change-goes, files-goes-on, hashes-goes-on, info-goes-on, listed-goes-on, listing-goes-on}
+use Rattle.sw_machine.proofs.Doors.{read-goes-on, restart-goes-on, runs-join, same-goes}
 use Rattle.sw_machine.specs.Doors.{RunsOn}
-use Rattle.sw_machine.specs.Machine.{Machine}
 use Rattle.sw_object_steps.specs.declared.answer.Answer.{Answer}
 use Rattle.sw_object_steps.specs.declared.change.Change.{Change}
 use Rattle.sw_object_steps.specs.declared.dir_fault.DirFault.{DirFault}
 use Rattle.sw_object_steps.specs.declared.got.Got.{Got}
+use Rattle.sw_peer.proofs.Calls.{same-refl}
 use Rattle.sw_peer.specs.ContSights.{IsContMade, IsLooked}
-use Rattle.sw_peer.specs.Sights.{Calls, Comes, IsFilesRead, IsHashesRead, IsMade, IsRead, IsSame, Sight}
+use Rattle.sw_peer.specs.Sights.{Calls, Comes, IsFilesRead, IsHashesRead, IsListed, IsMade, IsRead, IsSame, Restarts, Sight}
 use Rattle.sw_peer.specs.declared.cont_event.ContEvent.TheVariants as cont_events
 use Rattle.sw_peer.specs.declared.link.Link.TheVariants.{Local}
 use Rattle.sw_suffix.specs.declared.dir_line.DirLine.{DirLine}
 use Rattle.sw_suffix.specs.declared.told.SuffixHash.{SuffixHash}
 use Rattle.sw_nodes.proofs.Calming.{IsCalm, calm-join, calm-same, calm-still, calm-trails}
+
+-- ---- running on
+
+pub runs-same : (s t : Sight) → IsSame s t → RunsOn s t
+runs-same s t same m stands = ([], (same-goes s m t stands same).0)
+
+pub runs-itself : (s : Sight) → RunsOn s s
+runs-itself s = runs-same s s (same-refl s)
+
+pub listed-runs : (device : ℕ) (failed : Bool) (s t : Sight) → IsListed device failed s t → RunsOn s t
+listed-runs device failed s t listed m stands = (_, listed-goes-on device failed s t m stands listed)
+
+pub restart-runs : (device : ℕ) (s t : Sight) → t.alone ≡ true → Restarts device s t → RunsOn s t
+restart-runs device s t alone restarts m stands = (_, restart-goes-on device s t m stands alone restarts)
+
+-- ---- what is kept
 
 pub record Keeps (s t : Sight) : Type 0 where
   pub nodes : t.nodes ≡ s.nodes
@@ -37,7 +54,7 @@ keeps-still s t p = record {
   nodes = ap (λ (x : Sight). x.nodes) p.same;
   alone = λ alone. sym (ap (λ (x : Sight). x.alone) p.same) ∙ alone;
   calm = calm-still s t p;
-  runs = λ alone. doors.same-runs-on s t p;
+  runs = λ alone. runs-same s t p;
 }
 
 pub keeps-same : (s t : Sight) → t ≡ s → Keeps s t
@@ -45,7 +62,7 @@ keeps-same s t same = record {
   nodes = ap (λ (x : Sight). x.nodes) same;
   alone = λ alone. sym (ap (λ (x : Sight). x.alone) same) ∙ alone;
   calm = calm-same s t same;
-  runs = λ alone. subst (RunsOn s) (sym same) (doors.runs-on-itself s);
+  runs = λ alone. subst (RunsOn s) (sym same) (runs-itself s);
 }
 
 pub keeps-join : (a b c : Sight) → Keeps a b → Keeps b c → Keeps a c
@@ -53,7 +70,7 @@ keeps-join a b c p q = record {
   nodes = q.nodes ∙ p.nodes;
   alone = λ alone. p.alone (q.alone alone);
   calm = calm-join a b c p.calm q.calm;
-  runs = λ alone. doors.runs-on-join a b c (p.runs (q.alone alone)) (q.runs alone);
+  runs = λ alone. runs-join a b c (p.runs (q.alone alone)) (q.runs alone);
 }
 
 -- ---- a call at the device itself, by what each of its steps keeps
@@ -72,7 +89,7 @@ change-keeps device name change = call-keeps (IsMade Local device name change) (
   nodes = made.moves.nodes;
   alone = made.moves.alone;
   calm = calm-trails s t _ _ refl made.trail;
-  runs = λ alone. doors.change-runs-on device name change s x t alone made;
+  runs = λ alone m stands. let goes = change-goes Local device name change s x t m stands alone (λ is. cc) made in (goes.0, goes.2);
 })
 
 pub read-keeps : (device : ℕ) (name : Name) (s : Sight) (got : Got) (t : Sight) → Calls (IsRead Local device name) s Local (Ok got) t → Keeps s t
@@ -80,7 +97,7 @@ read-keeps device name = call-keeps (IsRead Local device name) (λ s x t made. r
   nodes = made.moves.nodes;
   alone = made.moves.alone;
   calm = calm-trails s t _ _ refl made.trail;
-  runs = λ alone. doors.read-runs-on device name s x t alone made;
+  runs = λ alone m stands. let goes = read-goes-on Local device name s x t m stands alone made in (goes.0, goes.2);
 })
 
 pub hashes-keeps : (device part : ℕ) (s : Sight) (got : Result (Vec SuffixHash Global) DirFault) (t : Sight)
@@ -89,7 +106,7 @@ hashes-keeps device part = call-keeps (IsHashesRead Local device part) (λ s x t
   nodes = made.moves.nodes;
   alone = made.moves.alone;
   calm = calm-trails s t _ _ refl made.trail;
-  runs = λ alone. doors.hashes-runs-on device part s x t alone made;
+  runs = λ alone m stands. let goes = hashes-goes-on Local device part s x t m stands alone made in (goes.0, goes.2);
 })
 
 pub files-keeps : (device part suffix : ℕ) (s : Sight) (got : Result (Vec DirLine Global) DirFault) (t : Sight)
@@ -98,7 +115,7 @@ files-keeps device part suffix = call-keeps (IsFilesRead Local device part suffi
   nodes = made.moves.nodes;
   alone = made.moves.alone;
   calm = calm-trails s t _ _ refl made.trail;
-  runs = λ alone. doors.files-runs-on device part suffix s x t alone made;
+  runs = λ alone m stands. let goes = files-goes-on Local device part suffix s x t m stands alone made in (goes.0, goes.2);
 })
 
 pub cont_change-keeps : (device : ℕ) (place : Place) (change : ContChange) (s : Sight) (answer : ContAnswer) (t : Sight)
@@ -107,7 +124,7 @@ cont_change-keeps device place change = call-keeps (IsContMade Local device plac
   nodes = made.moves.nodes;
   alone = made.moves.alone;
   calm = calm-trails s t _ _ refl made.trail;
-  runs = λ alone. doors.cont-change-runs-on device place change s x t alone made;
+  runs = λ alone m stands. let goes = cont-change-goes Local device place change s x t m stands alone (λ entries is. cc) made in (goes.0, goes.2);
 })
 
 pub inform-keeps : (device : ℕ) (place : Place) (s : Sight) (told : Result Info ContAnswer) (t : Sight)
@@ -116,7 +133,7 @@ inform-keeps device place = call-keeps (IsLooked Local device place info_of (λ 
   nodes = made.moves.nodes;
   alone = made.moves.alone;
   calm = calm-trails s t _ _ refl made.trail;
-  runs = λ alone. doors.info-runs-on device place s x t alone made;
+  runs = λ alone m stands. let goes = info-goes-on Local device place s x t m stands alone made in (goes.0, goes.2);
 })
 
 pub list-keeps : (device : ℕ) (place : Place) (query : Query) (s : Sight) (listed : Result (List Entry) ContAnswer) (t : Sight)
@@ -126,5 +143,5 @@ list-keeps device place query =
       nodes = made.moves.nodes;
       alone = made.moves.alone;
       calm = calm-trails s t _ _ refl made.trail;
-      runs = λ alone. doors.listing-runs-on device place query s x t alone made;
+      runs = λ alone m stands. let goes = listing-goes-on Local device place query s x t m stands alone made in (goes.0, goes.2);
     })

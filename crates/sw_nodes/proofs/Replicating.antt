@@ -11,10 +11,9 @@ use Rattle.sw_replica_server.specs.Targets.{is_replication_of}
 use Rattle.sw_ring.specs.declared.ring.Ring.{Ring}
 use Rattle.sw_volume.specs.Tree.{Folders}
 use Rattle.sw_container_server.specs.Targets.{is_for_containers}
-use Rattle.sw_machine.proofs.Doors.{runs-on-itself}
 use Rattle.sw_nodes.proofs.Comparing.{answered-keeps, given_up-keeps}
 use Rattle.sw_nodes.proofs.Controlling.{on_true}
-use Rattle.sw_nodes.proofs.Keeping.{Keeps}
+use Rattle.sw_nodes.proofs.Keeping.{Keeps, runs-itself}
 use Rattle.sw_nodes.proofs.Restarting.{no-line, none-called, same-restarts}
 use Rattle.sw_nodes.proofs.Serving.{goes_on, on_false}
 use Rattle.sw_nodes.specs.Nodes.{IsReady, NodesAnswer}
@@ -79,7 +78,7 @@ module _ {V S : Type 0} (tells : V → Bool) (files : V → Folders) (faults : V
     may = record {
       answers = whatever (is_control request.path) (is_replication_of request) (is_for_containers request);
       nodes = refl;
-      runs = runs-on-itself (sight_of tells files faults w);
+      runs = runs-itself (sight_of tells files faults w);
     };
     faults_are = refl;
     gained = 0;
