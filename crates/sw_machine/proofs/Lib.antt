@@ -1,0 +1,7 @@
+pub mod Sides
+pub mod Objects
+pub mod Rows
+pub mod Greatest
+pub mod Runs
+pub mod Doors
+pub mod Calls

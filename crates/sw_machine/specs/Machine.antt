@@ -2,10 +2,7 @@
 -- project's own; the answers are those of OpenStack Swift's object and container servers, as `sw_object_steps` and `sw_container_steps` have them.)
 use Rattle.std.specs.Prelude.{◌≡◌, ◌≢◌, ℕ, ◌≤◌, Bool, true, false, List, [], ◌∷◌, ◌++◌, map, Contains, Option, Result, Err, if◌then◌else◌}
 use Rattle.std.specs.List.{All}
-use Rattle.std.specs.Option.{option_map}
 use Rattle.std.specs.Str.{bytes_eq}
-use Rattle.std.specs.declared.alloc.Global.{Global}
-use Rattle.std.specs.declared.vec.Vec.{Vec}
 use Rattle.sw_container_steps.specs.Entries.{is_same_place, rows_of}
 use Rattle.sw_container_steps.specs.Reads.{info_of, listing_of, times_of}
 use Rattle.sw_container_steps.specs.Rules.{cont_ending, cont_look, cont_rules}

@@ -7,7 +7,7 @@ use Rattle.sw_hashpath.specs.declared.place.Place.{Place}
 use Rattle.sw_object_steps.specs.declared.change.Change.TheVariants.{Receive}
 use Rattle.sw_peer.specs.declared.cont_event.ContEvent.TheVariants as cont_events
 use Rattle.sw_peer.specs.declared.line.Event.{Event}
-use Rattle.sw_peer.specs.declared.line.Event.TheVariants.{AtContainer, Changed, Listed, Read, ReadPart, Restarted}
+use Rattle.sw_peer.specs.declared.line.Event.TheVariants.{AtContainer, Changed}
 use Rattle.sw_peer.specs.declared.link.Link.{Link}
 use Rattle.sw_peer.specs.declared.link.Link.TheVariants.{Sent}
 use Rattle.sw_rows.specs.declared.row.Row.{Row}

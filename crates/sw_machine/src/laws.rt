@@ -1,7 +1,10 @@
 //! Laws of runs. Each function does nothing: its clause is the law.
 
-ghost use Rattle.sw_machine.specs.Doors.{ChangeGoesOn, ContChangeGoesOn, FilesListedGoOn, FilesReadGoesOn, GoingOnJoins, HashesReadGoesOn, InfoGoesOn};
-ghost use Rattle.sw_machine.specs.Doors.{ListingGoesOn, ReadGoesOn, RestartGoesOn, RunsOnJoin, SameGoesOn, TimesGoOn, WriteReadGoesOn};
+ghost use Rattle.sw_machine.specs.Doors.{ChangeCallRuns, ChangeCalled, ChangeGoesOn, ContChangeCallRuns, ContChangeCalled, ContChangeGoesOn, FilesCallRuns};
+ghost use Rattle.sw_machine.specs.Doors.{FilesListedGoOn, FilesReadCalled, FilesReadGoesOn, GoingOnJoins, HashesCallRuns, HashesReadCalled};
+ghost use Rattle.sw_machine.specs.Doors.{HashesReadGoesOn, InfoCalled, InfoGoesOn, ListingCalled, ListingGoesOn, LookCallRuns, ReadCallRuns, ReadCalled};
+ghost use Rattle.sw_machine.specs.Doors.{ReadGoesOn, RestartGoesOn, RunsOnJoin, SameGoesOn, SendingGoesOn, TimesCalled, TimesGoOn, WriteCallRuns};
+ghost use Rattle.sw_machine.specs.Doors.{WriteReadCalled, WriteReadGoesOn};
 ghost use Rattle.sw_machine.specs.Laws.{HashesAreTold, HashesMayStand, HashesStand, MessagesWereSent, PlacesAreTold, PlacesMayStand, RowsAreMerged};
 ghost use Rattle.sw_machine.specs.Laws.{RunKeepsTheGreatest, RunSends, RunsJoin};
 
@@ -58,49 +61,59 @@ pub fn same_goes_on()
     ensures { SameGoesOn }
 {}
 
-/// A door that is alone goes on with a run by each step that may change an object.
-pub fn change_goes_on()
-    ensures { ChangeGoesOn }
+/// A door that is alone goes on with a run by each step at an object: one that may change it, a read of it, and a read of a partition, of what is compared,
+/// of the files of a suffix, and of a file.
+pub fn steps_at_objects_go_on()
+    ensures change { ChangeGoesOn }
+    ensures read { ReadGoesOn }
+    ensures hashes { HashesReadGoesOn }
+    ensures files { FilesReadGoesOn }
+    ensures write { WriteReadGoesOn }
 {}
 
-/// By each read of an object.
-pub fn read_goes_on()
-    ensures { ReadGoesOn }
-{}
-
-/// By each read of what is compared of a partition.
-pub fn hashes_read_goes_on()
-    ensures { HashesReadGoesOn }
-{}
-
-/// By each read of the files of a suffix.
-pub fn files_read_goes_on()
-    ensures { FilesReadGoesOn }
-{}
-
-/// By each read of a file.
-pub fn write_read_goes_on()
-    ensures { WriteReadGoesOn }
-{}
-
-/// By each step that may change a container.
-pub fn cont_change_goes_on()
-    ensures { ContChangeGoesOn }
-{}
-
-/// By each read of a container: of its times, of what is told of it, and by each listing.
-pub fn cont_read_goes_on()
+/// By each step at a container: one that may change it, a read of its times or of what is told of it, and a listing.
+pub fn steps_at_containers_go_on()
+    ensures change { ContChangeGoesOn }
     ensures times { TimesGoOn }
     ensures info { InfoGoesOn }
     ensures listing { ListingGoesOn }
 {}
 
-/// By each listing of all files of a device.
-pub fn files_listed_goes_on()
-    ensures { FilesListedGoOn }
+/// By each listing of all files of a device, and by each restart of it.
+pub fn steps_of_devices_go_on()
+    ensures files { FilesListedGoOn }
+    ensures restart { RestartGoesOn }
 {}
 
-/// By each restart of a device.
-pub fn restart_goes_on()
-    ensures { RestartGoesOn }
+/// And by what a device may send as things are.
+pub fn sending_goes_on()
+    ensures { SendingGoesOn }
+{}
+
+/// By each call at an object, at the device itself.
+pub fn calls_at_objects_go_on()
+    ensures change { ChangeCalled }
+    ensures read { ReadCalled }
+    ensures hashes { HashesReadCalled }
+    ensures files { FilesReadCalled }
+    ensures write { WriteReadCalled }
+{}
+
+/// By each call at a container, at the device itself.
+pub fn calls_at_containers_go_on()
+    ensures change { ContChangeCalled }
+    ensures times { TimesCalled }
+    ensures info { InfoCalled }
+    ensures listing { ListingCalled }
+{}
+
+/// By each call over any link, whatever became of its message; one that may change something where such a message was sent.
+pub fn calls_run()
+    ensures change { ChangeCallRuns }
+    ensures cont_change { ContChangeCallRuns }
+    ensures read { ReadCallRuns }
+    ensures hashes { HashesCallRuns }
+    ensures files { FilesCallRuns }
+    ensures write { WriteCallRuns }
+    ensures looks { LookCallRuns }
 {}
