@@ -62,13 +62,12 @@ impl<V: Volume + Drop> ObjDir<V> {
         }
     }
 
-    /// The hash holds what it may stand for: by the entries, and by those of its doubts that were made. It does nothing: its clause tells it.
-    pub fn may_stand(&self, hash: &[u8; 16])
-        ensures { is_told V.tells V.holds V.faults self.now ≡ true → CanStand obj_rules (steps_of V.tells V.holds V.faults self.now) hash.now
-            (values_of V.tells V.holds V.faults self.now hash.now) }
+    /// Each hash holds what it may stand for: by the entries, and by those of its doubts that were made. It does nothing: its clause tells it.
+    pub fn may_stand(&self)
+        ensures { is_told V.tells V.holds V.faults self.now ≡ true → (hash : Hash)
+            → CanStand obj_rules (steps_of V.tells V.holds V.faults self.now) hash (values_of V.tells V.holds V.faults self.now hash) }
     {
-        let _ = &self.journal;
-        let _ = hash;
+        let _ = &self.volume;
     }
 
     /// Ends it, and gives the volume back. A directory that begins anew on it has every write that was entered, and of each that is in
