@@ -1,5 +1,6 @@
 -- A step at one node, as the world tells it.
-use Rattle.std.proofs.Common.{◌≡◌, ◌≢◌, ℕ, ◌-◌, ◌/◌, ◌^◌, ◌<◌, ◌≤◌, Bool, true, false, ◌==◌, List, [], ◌∷◌, ◌++◌, length, refl, sym, ◌∙◌, ap, arith, subst, Option}
+use Rattle.std.proofs.Common.{◌≡◌, ◌≢◌, ℕ, ◌-◌, ◌/◌, ◌^◌, ◌<◌, ◌≤◌, Bool, true, false, ◌==◌, List, [], ◌∷◌, ◌++◌, length, refl, sym, ◌∙◌, ap, arith}
+use Rattle.std.proofs.Common.{subst, Option}
 use Rattle.std.proofs.Common.{Some, inl, inr, Result, Ok, slice_set, length-set}
 use Rattle.std.specs.List.{fold, slice_get}
 use Rattle.std.specs.Str.{bytes_eq}

@@ -1,5 +1,6 @@
 -- A step that wants memory before it is made.
-use Rattle.std.proofs.Common.{◌≡◌, ◌<◌, ◌≤◌, ◌+◌, ℕ, Bool, true, false, List, length, get_or, refl, sym, ◌∙◌, ap, subst, arith, Option, Some, Result, Ok, Err, OnOk, inr}
+use Rattle.std.proofs.Common.{◌≡◌, ◌<◌, ◌≤◌, ◌+◌, ℕ, Bool, true, false, List, length, get_or, refl, sym, ◌∙◌, ap, subst, arith, Option, Some, Result}
+use Rattle.std.proofs.Common.{Ok, Err, OnOk, inr}
 use Rattle.std.specs.Result.{is_err}
 use Rattle.std.specs.List.{slice_get}
 use Rattle.std.specs.Str.{bytes_eq}

@@ -150,7 +150,8 @@ unreachable-requires g c =
     let whole : i.lifted ≡ None = none-out i.lifted c.args.device i.devices (rw (sym c.self.view_is) at c.requires.device) in
     let there = open-at w c.self.invariant.0 whole c.lock-place.result (rw (sym c.self.view_is) at c.lock-place.ensures.within) in
     absurd (c.in_default-index_mut.not-Open there.0 (some-same c.index_mut.result.now (slots.Open there.0)
-    (sym (found i.slots.items c.lock-place.result c.index_mut.result.now (rw (sym c.self.view_is) at c.lock-place.ensures.within) c.index_mut.ensures.value) ∙ there.1)))
+    (sym (found i.slots.items c.lock-place.result c.index_mut.result.now (rw (sym c.self.view_is) at c.lock-place.ensures.within) c.index_mut.ensures.value)
+    ∙ there.1)))
 
 pub change_in-answer-requires-clause-hashed : goal.change_in-answer-requires-clause-hashed
 change_in-answer-requires-clause-hashed g c =
@@ -168,7 +169,8 @@ change_in-answer-requires-clause-hashed g c =
     } in
     let whole : i.lifted ≡ None = none-out i.lifted c.args.device i.devices (rw (sym c.self.view_is) at c.requires.device) in
     let at : slice_get i.slots.items c.lock-place.result ≡ Some (slots.Open c.in-Open.dir) =
-    found i.slots.items c.lock-place.result c.index_mut.result.now (rw (sym c.self.view_is) at c.lock-place.ensures.within) c.index_mut.ensures.value ∙ ap Some c.in-Open.is in
+    found i.slots.items c.lock-place.result c.index_mut.result.now (rw (sym c.self.view_is) at c.lock-place.ensures.within) c.index_mut.ensures.value
+    ∙ ap Some c.in-Open.is in
     let fits : is_hashed i.secrets c.args.name.now ≡ true = rw (sym c.self.view_is) at c.requires.fits in
     rw (open-is w c.self.invariant.0 whole c.lock-place.result c.in-Open.dir at).0 (hashed i.secrets c.args.name.now fits)
 
@@ -188,7 +190,8 @@ invariant_of-self-2 g c =
     } in
     let whole : i.lifted ≡ None = none-out i.lifted c.args.device i.devices (rw (sym c.self.view_is) at c.requires.device) in
     let at : slice_get i.slots.items c.lock-place.result ≡ Some (slots.Open c.in-Open.dir) =
-    found i.slots.items c.lock-place.result c.index_mut.result.now (rw (sym c.self.view_is) at c.lock-place.ensures.within) c.index_mut.ensures.value ∙ ap Some c.in-Open.is in
+    found i.slots.items c.lock-place.result c.index_mut.result.now (rw (sym c.self.view_is) at c.lock-place.ensures.within) c.index_mut.ensures.value
+    ∙ ap Some c.in-Open.is in
     let same = c.change_in-answer.ensures.step.same in let made = c.change_in-answer.ensures.step.changes in (
       stepped w c.self.invariant.0 whole c.lock-place.result c.in-Open.dir c.change_in-answer.new.dir c.push_reserved.new.self.items i.asks at same.secrets
           same.power
@@ -220,7 +223,8 @@ returns-clause-made g c =
     found i.slots.items c.lock-place.result c.index_mut.result.now within c.index_mut.ensures.value ∙ ap Some c.in-Open.is in
     let at : slice_get w.slots (lock_of w.lock_bits w.power c.args.device c.args.name.now.hash) ≡ Some (slots.Open d) =
     ap (slice_get w.slots) (sym lock) ∙ there in
-    let items : c.push_reserved.new.self.items ≡ w.lines ++ c.change_in-answer.result.1 ∷ [] = c.push_reserved.ensures.items ∙ rw c.reserve.ensures.items refl in
+    let items : c.push_reserved.new.self.items ≡ w.lines ++ c.change_in-answer.result.1 ∷ [] =
+    c.push_reserved.ensures.items ∙ rw c.reserve.ensures.items refl in
     rw (sym c.self.view_is, lock)
     (world-made v.tells v.holds v.faults w c.args.device c.args.name.now d x at c.args.link c.change_in-answer.result.1 c.push_reserved.new.self.items items
     c.args.change c.change_in-answer.result.0 c.change_in-answer.ensures)

@@ -109,7 +109,8 @@ unreachable-requires g c =
     let whole : i.lifted ≡ None = none-out i.lifted c.args.device i.devices (rw (sym c.self.view_is) at c.requires.device) in
     let there = open-at w c.self.invariant.0 whole c.lock-place.result (rw (sym c.self.view_is) at c.lock-place.ensures.within) in
     absurd (c.in_default-index_mut.not-Open there.0 (some-same c.index_mut.result.now (slots.Open there.0)
-    (sym (found i.slots.items c.lock-place.result c.index_mut.result.now (rw (sym c.self.view_is) at c.lock-place.ensures.within) c.index_mut.ensures.value) ∙ there.1)))
+    (sym (found i.slots.items c.lock-place.result c.index_mut.result.now (rw (sym c.self.view_is) at c.lock-place.ensures.within) c.index_mut.ensures.value)
+    ∙ there.1)))
 
 pub get_in-got-requires-clause-hashed : goal.get_in-got-requires-clause-hashed
 get_in-got-requires-clause-hashed g c =
@@ -127,7 +128,8 @@ get_in-got-requires-clause-hashed g c =
     } in
     let whole : i.lifted ≡ None = none-out i.lifted c.args.device i.devices (rw (sym c.self.view_is) at c.requires.device) in
     let at : slice_get i.slots.items c.lock-place.result ≡ Some (slots.Open c.in-Open.dir) =
-    found i.slots.items c.lock-place.result c.index_mut.result.now (rw (sym c.self.view_is) at c.lock-place.ensures.within) c.index_mut.ensures.value ∙ ap Some c.in-Open.is in
+    found i.slots.items c.lock-place.result c.index_mut.result.now (rw (sym c.self.view_is) at c.lock-place.ensures.within) c.index_mut.ensures.value
+    ∙ ap Some c.in-Open.is in
     let fits : is_hashed i.secrets c.args.name.now ≡ true = rw (sym c.self.view_is) at c.requires.fits in
     rw (open-is w c.self.invariant.0 whole c.lock-place.result c.in-Open.dir at).0 (hashed i.secrets c.args.name.now fits)
 
@@ -147,7 +149,8 @@ invariant_of-self-2 g c =
     } in
     let whole : i.lifted ≡ None = none-out i.lifted c.args.device i.devices (rw (sym c.self.view_is) at c.requires.device) in
     let at : slice_get i.slots.items c.lock-place.result ≡ Some (slots.Open c.in-Open.dir) =
-    found i.slots.items c.lock-place.result c.index_mut.result.now (rw (sym c.self.view_is) at c.lock-place.ensures.within) c.index_mut.ensures.value ∙ ap Some c.in-Open.is in
+    found i.slots.items c.lock-place.result c.index_mut.result.now (rw (sym c.self.view_is) at c.lock-place.ensures.within) c.index_mut.ensures.value
+    ∙ ap Some c.in-Open.is in
     let same = c.get_in-got.ensures.step.same in let read = c.get_in-got.ensures.step.reads in (
       stepped w c.self.invariant.0 whole c.lock-place.result c.in-Open.dir c.get_in-got.new.dir c.push_reserved.new.self.items i.asks at same.secrets same.power
           read.follows.max_entries read.follows.max_bytes,

@@ -36,7 +36,8 @@ returns-then-is_err-clause-read g c =
     let lock = rw (sym c.self.view_is) at c.lock_of_part-place.ensures.lock in
     let within = rw (sym c.self.view_is) at c.lock_of_part-place.ensures.within in
     rw (sym c.self.view_is) (wants-part v.tells v.holds v.faults w c.reserve.new.self.items c.reserve.ensures.items c.args.link c.args.device c.args.part
-    c.asked_after-self-inside.result (in_suffix c.args.part c.args.suffix) false (λ nodes told s got. AreLines nodes.power c.args.part c.args.suffix told s got.items) (λ got. Files c.args.part c.args.suffix got)
+    c.asked_after-self-inside.result (in_suffix c.args.part c.args.suffix) false
+    (λ nodes told s got. AreLines nodes.power c.args.part c.args.suffix told s got.items) (λ got. Files c.args.part c.args.suffix got)
     (lock-stands v.tells v.holds v.faults i.slots.items (part_lock_of i.lock_bits i.power c.args.device c.args.part) c.lock_of_part-place.result
     c.index.result.now lock within c.index.ensures c.may_stand.ensures)
     (λ key is. eqb-true (partition_of key i.power) c.args.part (and_parts (partition_of key i.power == c.args.part) (suffix_of key == c.args.suffix) is).0))
@@ -58,7 +59,8 @@ unreachable-requires g c =
     let whole : i.lifted ≡ None = none-out i.lifted c.args.device i.devices (rw (sym c.self.view_is) at c.requires.device) in
     let there = open-at w c.self.invariant.0 whole c.lock_of_part-place.result (rw (sym c.self.view_is) at c.lock_of_part-place.ensures.within) in
     absurd (c.in_default.not-Open there.0 (some-same c.index_mut.result.now (slots.Open there.0)
-    (sym (found i.slots.items c.lock_of_part-place.result c.index_mut.result.now (rw (sym c.self.view_is) at c.lock_of_part-place.ensures.within) c.index_mut.ensures.value) ∙ there.1)))
+    (sym (found i.slots.items c.lock_of_part-place.result c.index_mut.result.now (rw (sym c.self.view_is) at c.lock_of_part-place.ensures.within)
+    c.index_mut.ensures.value) ∙ there.1)))
 
 pub files_in-got-requires : goal.files_in-got-requires
 files_in-got-requires g c =
@@ -76,7 +78,8 @@ files_in-got-requires g c =
     } in
     let whole : i.lifted ≡ None = none-out i.lifted c.args.device i.devices (rw (sym c.self.view_is) at c.requires.device) in
     let at : slice_get i.slots.items c.lock_of_part-place.result ≡ Some (slots.Open c.in-Open.dir) =
-    found i.slots.items c.lock_of_part-place.result c.index_mut.result.now (rw (sym c.self.view_is) at c.lock_of_part-place.ensures.within) c.index_mut.ensures.value ∙ ap Some c.in-Open.is
+    found i.slots.items c.lock_of_part-place.result c.index_mut.result.now (rw (sym c.self.view_is) at c.lock_of_part-place.ensures.within)
+    c.index_mut.ensures.value ∙ ap Some c.in-Open.is
     in
     let power : c.in-Open.dir.power ≡ i.power = (open-is w c.self.invariant.0 whole c.lock_of_part-place.result c.in-Open.dir at).1 in
     record { part = subst (λ (n : _). c.args.part < 2 ^ n) (sym power) (rw (sym c.self.view_is) at c.requires.part); suffix = c.requires.suffix }
@@ -97,7 +100,8 @@ invariant_of-self-2 g c =
     } in
     let whole : i.lifted ≡ None = none-out i.lifted c.args.device i.devices (rw (sym c.self.view_is) at c.requires.device) in
     let at : slice_get i.slots.items c.lock_of_part-place.result ≡ Some (slots.Open c.in-Open.dir) =
-    found i.slots.items c.lock_of_part-place.result c.index_mut.result.now (rw (sym c.self.view_is) at c.lock_of_part-place.ensures.within) c.index_mut.ensures.value ∙ ap Some c.in-Open.is
+    found i.slots.items c.lock_of_part-place.result c.index_mut.result.now (rw (sym c.self.view_is) at c.lock_of_part-place.ensures.within)
+    c.index_mut.ensures.value ∙ ap Some c.in-Open.is
     in
     let same = c.files_in-got.ensures.step.same in let read = c.files_in-got.ensures.step.reads in (
       stepped w c.self.invariant.0 whole c.lock_of_part-place.result c.in-Open.dir c.files_in-got.new.dir c.push_reserved.new.self.items
@@ -131,15 +135,22 @@ returns-clause-read g c =
     let here : slice_get w.slots (part_lock_of w.lock_bits w.power c.args.device c.args.part) ≡ Some (slots.Open d) = ap (slice_get w.slots) (sym lock) ∙ at in
     let items : c.push_reserved.new.self.items ≡ w.lines ++ c.files_in-got.result.1 ∷ [] = c.push_reserved.ensures.items ∙ rw c.reserve.ensures.items refl in
     let power : d.power ≡ i.power = (open-is w c.self.invariant.0 whole c.lock_of_part-place.result d at).1 in
-    let made : IsPartIn v.tells v.holds v.faults d c.args.link c.args.device (λ hash. (partition_of hash i.power == c.args.part) && (suffix_of hash == c.args.suffix)) false
-    (λ told s got. AreLines i.power c.args.part c.args.suffix told s got.items) (λ got. Files c.args.part c.args.suffix got) c.files_in-got.result.0 x c.files_in-got.result.1 =
-    subst (λ (p : ℕ). IsPartIn v.tells v.holds v.faults d c.args.link c.args.device (λ hash. (partition_of hash p == c.args.part) && (suffix_of hash == c.args.suffix)) false
-    (λ told s got. AreLines p c.args.part c.args.suffix told s got.items) (λ got. Files c.args.part c.args.suffix got) c.files_in-got.result.0 x c.files_in-got.result.1) power c.files_in-got.ensures in
+    let made : IsPartIn v.tells v.holds v.faults d c.args.link c.args.device
+    (λ hash. (partition_of hash i.power == c.args.part) && (suffix_of hash == c.args.suffix)) false
+    (λ told s got. AreLines i.power c.args.part c.args.suffix told s got.items) (λ got. Files c.args.part c.args.suffix got) c.files_in-got.result.0 x
+    c.files_in-got.result.1 =
+    subst (λ (p : ℕ). IsPartIn v.tells v.holds v.faults d c.args.link c.args.device
+    (λ hash. (partition_of hash p == c.args.part) && (suffix_of hash == c.args.suffix)) false
+    (λ told s got. AreLines p c.args.part c.args.suffix told s got.items) (λ got. Files c.args.part c.args.suffix got) c.files_in-got.result.0 x
+    c.files_in-got.result.1) power c.files_in-got.ensures in
     let below : c.args.part < 2 ^ i.power = rw (sym c.self.view_is) at c.requires.part in
     let hash : Hash = hash_with i.power c.args.part c.args.suffix in
     let of : IsOfPart i.power c.args.part hash = of-part i.power c.args.part c.args.suffix c.self.invariant.0.greatest below in
     let own : (partition_of hash i.power == c.args.part) ≡ true = eq-eqb _ _ of.part_is in
     rw (sym c.self.view_is, lock)
     (world-part v.tells v.holds v.faults w c.args.device c.args.part d x here c.args.link c.files_in-got.result.1 c.push_reserved.new.self.items items
-    c.asked_after-self-inside.result (in_suffix c.args.part c.args.suffix) false (λ nodes told s got. AreLines nodes.power c.args.part c.args.suffix told s got.items) (λ got. Files c.args.part c.args.suffix got) c.files_in-got.result.0 hash of (and_from _ _ own (eq-eqb _ _ (of-suffix i.power c.args.part c.args.suffix c.requires.suffix)))
-    (λ key is. eqb-true (partition_of key i.power) c.args.part (and_parts (partition_of key i.power == c.args.part) (suffix_of key == c.args.suffix) is).0) made)
+    c.asked_after-self-inside.result (in_suffix c.args.part c.args.suffix) false
+    (λ nodes told s got. AreLines nodes.power c.args.part c.args.suffix told s got.items) (λ got. Files c.args.part c.args.suffix got)
+    c.files_in-got.result.0 hash of (and_from _ _ own (eq-eqb _ _ (of-suffix i.power c.args.part c.args.suffix c.requires.suffix)))
+    (λ key is. eqb-true (partition_of key i.power) c.args.part (and_parts (partition_of key i.power == c.args.part) (suffix_of key == c.args.suffix) is).0)
+    made)

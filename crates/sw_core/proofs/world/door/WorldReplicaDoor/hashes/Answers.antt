@@ -35,7 +35,8 @@ returns-then-is_err-clause-read g c =
     let lock = rw (sym c.self.view_is) at c.lock_of_part-place.ensures.lock in
     let within = rw (sym c.self.view_is) at c.lock_of_part-place.ensures.within in
     rw (sym c.self.view_is) (wants-part v.tells v.holds v.faults w c.reserve.new.self.items c.reserve.ensures.items c.args.link c.args.device c.args.part
-    c.asked_after-self-inside.result (in_part c.args.part) false (λ nodes told s got. AreHashes nodes.power c.args.part told s got.items) (λ got. Hashes c.args.part got)
+    c.asked_after-self-inside.result (in_part c.args.part) false (λ nodes told s got. AreHashes nodes.power c.args.part told s got.items)
+    (λ got. Hashes c.args.part got)
     (lock-stands v.tells v.holds v.faults i.slots.items (part_lock_of i.lock_bits i.power c.args.device c.args.part) c.lock_of_part-place.result
     c.index.result.now lock within c.index.ensures c.may_stand.ensures)
     (λ key is. eqb-true (partition_of key i.power) c.args.part is))
@@ -57,7 +58,8 @@ unreachable-requires g c =
     let whole : i.lifted ≡ None = none-out i.lifted c.args.device i.devices (rw (sym c.self.view_is) at c.requires.device) in
     let there = open-at w c.self.invariant.0 whole c.lock_of_part-place.result (rw (sym c.self.view_is) at c.lock_of_part-place.ensures.within) in
     absurd (c.in_default.not-Open there.0 (some-same c.index_mut.result.now (slots.Open there.0)
-    (sym (found i.slots.items c.lock_of_part-place.result c.index_mut.result.now (rw (sym c.self.view_is) at c.lock_of_part-place.ensures.within) c.index_mut.ensures.value) ∙ there.1)))
+    (sym (found i.slots.items c.lock_of_part-place.result c.index_mut.result.now (rw (sym c.self.view_is) at c.lock_of_part-place.ensures.within)
+    c.index_mut.ensures.value) ∙ there.1)))
 
 pub hashes_in-got-requires : goal.hashes_in-got-requires
 hashes_in-got-requires g c =
@@ -75,7 +77,8 @@ hashes_in-got-requires g c =
     } in
     let whole : i.lifted ≡ None = none-out i.lifted c.args.device i.devices (rw (sym c.self.view_is) at c.requires.device) in
     let at : slice_get i.slots.items c.lock_of_part-place.result ≡ Some (slots.Open c.in-Open.dir) =
-    found i.slots.items c.lock_of_part-place.result c.index_mut.result.now (rw (sym c.self.view_is) at c.lock_of_part-place.ensures.within) c.index_mut.ensures.value ∙ ap Some c.in-Open.is
+    found i.slots.items c.lock_of_part-place.result c.index_mut.result.now (rw (sym c.self.view_is) at c.lock_of_part-place.ensures.within)
+    c.index_mut.ensures.value ∙ ap Some c.in-Open.is
     in
     let power : c.in-Open.dir.power ≡ i.power = (open-is w c.self.invariant.0 whole c.lock_of_part-place.result c.in-Open.dir at).1 in
     record { part = subst (λ (n : _). c.args.part < 2 ^ n) (sym power) (rw (sym c.self.view_is) at c.requires.part) }
@@ -96,7 +99,8 @@ invariant_of-self-2 g c =
     } in
     let whole : i.lifted ≡ None = none-out i.lifted c.args.device i.devices (rw (sym c.self.view_is) at c.requires.device) in
     let at : slice_get i.slots.items c.lock_of_part-place.result ≡ Some (slots.Open c.in-Open.dir) =
-    found i.slots.items c.lock_of_part-place.result c.index_mut.result.now (rw (sym c.self.view_is) at c.lock_of_part-place.ensures.within) c.index_mut.ensures.value ∙ ap Some c.in-Open.is
+    found i.slots.items c.lock_of_part-place.result c.index_mut.result.now (rw (sym c.self.view_is) at c.lock_of_part-place.ensures.within)
+    c.index_mut.ensures.value ∙ ap Some c.in-Open.is
     in
     let same = c.hashes_in-got.ensures.step.same in let read = c.hashes_in-got.ensures.step.reads in (
       stepped w c.self.invariant.0 whole c.lock_of_part-place.result c.in-Open.dir c.hashes_in-got.new.dir c.push_reserved.new.self.items
@@ -133,12 +137,14 @@ returns-clause-read g c =
     let made : IsPartIn v.tells v.holds v.faults d c.args.link c.args.device (λ hash. partition_of hash i.power == c.args.part) false
     (λ told s got. AreHashes i.power c.args.part told s got.items) (λ got. Hashes c.args.part got) c.hashes_in-got.result.0 x c.hashes_in-got.result.1 =
     subst (λ (p : ℕ). IsPartIn v.tells v.holds v.faults d c.args.link c.args.device (λ hash. partition_of hash p == c.args.part) false
-    (λ told s got. AreHashes p c.args.part told s got.items) (λ got. Hashes c.args.part got) c.hashes_in-got.result.0 x c.hashes_in-got.result.1) power c.hashes_in-got.ensures in
+    (λ told s got. AreHashes p c.args.part told s got.items) (λ got. Hashes c.args.part got) c.hashes_in-got.result.0 x c.hashes_in-got.result.1) power
+    c.hashes_in-got.ensures in
     let below : c.args.part < 2 ^ i.power = rw (sym c.self.view_is) at c.requires.part in
     let hash : Hash = hash_with i.power c.args.part 0 in
     let of : IsOfPart i.power c.args.part hash = of-part i.power c.args.part 0 c.self.invariant.0.greatest below in
     let own : (partition_of hash i.power == c.args.part) ≡ true = eq-eqb _ _ of.part_is in
     rw (sym c.self.view_is, lock)
     (world-part v.tells v.holds v.faults w c.args.device c.args.part d x here c.args.link c.hashes_in-got.result.1 c.push_reserved.new.self.items items
-    c.asked_after-self-inside.result (in_part c.args.part) false (λ nodes told s got. AreHashes nodes.power c.args.part told s got.items) (λ got. Hashes c.args.part got) c.hashes_in-got.result.0 hash of own
+    c.asked_after-self-inside.result (in_part c.args.part) false (λ nodes told s got. AreHashes nodes.power c.args.part told s got.items)
+    (λ got. Hashes c.args.part got) c.hashes_in-got.result.0 hash of own
     (λ key is. eqb-true (partition_of key i.power) c.args.part is) made)

@@ -37,7 +37,8 @@ returns-then-is_err-clause-read g c =
     let within = rw (sym c.self.view_is) at c.lock_of_part-place.ensures.within in
     let of : IsOfPart i.power c.args.part c.args.hash.now = rw (sym c.self.view_is) at c.requires.within in
     rw (sym c.self.view_is) (wants-part v.tells v.holds v.faults w c.reserve.new.self.items c.reserve.ensures.items c.args.link c.args.device c.args.part
-    i.asks (is_one c.args.hash.now) true (λ nodes told s got. IsFile nodes.fits c.args.hash.now c.args.file.now told s got) (λ got. Write c.args.part c.args.hash.now c.args.file.now got)
+    i.asks (is_one c.args.hash.now) true (λ nodes told s got. IsFile nodes.fits c.args.hash.now c.args.file.now told s got)
+    (λ got. Write c.args.part c.args.hash.now c.args.file.now got)
     (lock-stands v.tells v.holds v.faults i.slots.items (part_lock_of i.lock_bits i.power c.args.device c.args.part) c.lock_of_part-place.result
     c.index.result.now lock within c.index.ensures c.may_stand.ensures)
     (λ key is. ap (λ (h : Hash). partition_of h i.power) (sym (hash-same c.args.hash.now key is)) ∙ of.part_is))
@@ -59,7 +60,8 @@ unreachable-requires g c =
     let whole : i.lifted ≡ None = none-out i.lifted c.args.device i.devices (rw (sym c.self.view_is) at c.requires.device) in
     let there = open-at w c.self.invariant.0 whole c.lock_of_part-place.result (rw (sym c.self.view_is) at c.lock_of_part-place.ensures.within) in
     absurd (c.in_default.not-Open there.0 (some-same c.index_mut.result.now (slots.Open there.0)
-    (sym (found i.slots.items c.lock_of_part-place.result c.index_mut.result.now (rw (sym c.self.view_is) at c.lock_of_part-place.ensures.within) c.index_mut.ensures.value) ∙ there.1)))
+    (sym (found i.slots.items c.lock_of_part-place.result c.index_mut.result.now (rw (sym c.self.view_is) at c.lock_of_part-place.ensures.within)
+    c.index_mut.ensures.value) ∙ there.1)))
 
 pub write_in-got-requires : goal.write_in-got-requires
 write_in-got-requires g c =
@@ -77,7 +79,8 @@ write_in-got-requires g c =
     } in
     let whole : i.lifted ≡ None = none-out i.lifted c.args.device i.devices (rw (sym c.self.view_is) at c.requires.device) in
     let at : slice_get i.slots.items c.lock_of_part-place.result ≡ Some (slots.Open c.in-Open.dir) =
-    found i.slots.items c.lock_of_part-place.result c.index_mut.result.now (rw (sym c.self.view_is) at c.lock_of_part-place.ensures.within) c.index_mut.ensures.value ∙ ap Some c.in-Open.is
+    found i.slots.items c.lock_of_part-place.result c.index_mut.result.now (rw (sym c.self.view_is) at c.lock_of_part-place.ensures.within)
+    c.index_mut.ensures.value ∙ ap Some c.in-Open.is
     in
     let power : c.in-Open.dir.power ≡ i.power = (open-is w c.self.invariant.0 whole c.lock_of_part-place.result c.in-Open.dir at).1 in
     record { within = subst (λ (n : _). IsOfPart n c.args.part c.args.hash.now) (sym power) (rw (sym c.self.view_is) at c.requires.within) }
@@ -98,7 +101,8 @@ invariant_of-self-2 g c =
     } in
     let whole : i.lifted ≡ None = none-out i.lifted c.args.device i.devices (rw (sym c.self.view_is) at c.requires.device) in
     let at : slice_get i.slots.items c.lock_of_part-place.result ≡ Some (slots.Open c.in-Open.dir) =
-    found i.slots.items c.lock_of_part-place.result c.index_mut.result.now (rw (sym c.self.view_is) at c.lock_of_part-place.ensures.within) c.index_mut.ensures.value ∙ ap Some c.in-Open.is
+    found i.slots.items c.lock_of_part-place.result c.index_mut.result.now (rw (sym c.self.view_is) at c.lock_of_part-place.ensures.within)
+    c.index_mut.ensures.value ∙ ap Some c.in-Open.is
     in
     let same = c.write_in-got.ensures.step.same in let read = c.write_in-got.ensures.step.reads in (
       stepped w c.self.invariant.0 whole c.lock_of_part-place.result c.in-Open.dir c.write_in-got.new.dir c.push_reserved.new.self.items i.asks at same.secrets
@@ -141,7 +145,8 @@ returns-clause-read g c =
     c.write_in-got.result.0 x c.write_in-got.result.1) secrets c.write_in-got.ensures in
     rw (sym c.self.view_is, lock)
     (world-part v.tells v.holds v.faults w c.args.device c.args.part d x here c.args.link c.write_in-got.result.1 c.push_reserved.new.self.items items
-    i.asks (is_one c.args.hash.now) true (λ nodes told s got. IsFile nodes.fits c.args.hash.now c.args.file.now told s got) (λ got. Write c.args.part c.args.hash.now c.args.file.now got) c.write_in-got.result.0 c.args.hash.now of (hash-self c.args.hash.now)
+    i.asks (is_one c.args.hash.now) true (λ nodes told s got. IsFile nodes.fits c.args.hash.now c.args.file.now told s got)
+    (λ got. Write c.args.part c.args.hash.now c.args.file.now got) c.write_in-got.result.0 c.args.hash.now of (hash-self c.args.hash.now)
     (λ key is. ap (λ (h : Hash). partition_of h i.power) (sym (hash-same c.args.hash.now key is)) ∙ of.part_is) made)
 
 pub invariant_of-self : goal.invariant_of-self
