@@ -53,59 +53,30 @@ module _ (to : ℕ) (name : Name) (w : Write) where
       (p : ChangesObject alone h s name (Receive w) answer g t) where
     -- what is acknowledged was made, or what stood refused it
     abbrev IsTaken : Answer → Type 0
-    IsTaken a = (p.looked ≡ true) × (IsDone obj_rules p.read p.before.journal name.hash own a p.made g.journal
-        ⊎ IsRefused obj_rules p.read p.before.journal name.hash own a p.made g.journal)
+    IsTaken a = IsDone obj_rules p.read p.before.journal name.hash own a p.made g.journal
+        ⊎ IsRefused obj_rules p.read p.before.journal name.hash own a p.made g.journal
 
-    taken : is_held (Receive w) answer ≡ true → IsTaken answer
+    taken : is_held (Receive w) answer ≡ true → (p.looked ≡ true) × IsTaken answer
     taken held = by answer p.looked refl held p.answered
       where
         by : (a : Answer) (b : Bool) → p.looked ≡ b → is_held (Receive w) a ≡ true
-            → Answers obj_rules b p.read p.before.journal name.hash own a p.made g.journal → IsTaken a
+            → Answers obj_rules b p.read p.before.journal name.hash own a p.made g.journal → (p.looked ≡ true) × IsTaken a
         by (answers.Done front) true looked is q = (looked, inl q)
-        by (answers.Done front) false looked is q = absurd q
         by (answers.Buried front) true looked is q = (looked, inl q)
-        by (answers.Buried front) false looked is q = absurd q
         by (answers.Conflict time) true looked is q = (looked, inr q)
+        by (answers.Done front) false looked is q = absurd q
+        by (answers.Buried front) false looked is q = absurd q
         by (answers.Conflict time) false looked is q = absurd q
-        by (answers.NotFound time) b looked is q = cc
-        by (answers.Mismatch second) b looked is q = cc
-        by answers.Exists b looked is q = cc
-        by answers.JournalFull b looked is q = cc
-        by (answers.Damaged bad) b looked is q = cc
-        by answers.Failed b looked is q = cc
-        by answers.NoMemory b looked is q = cc
-
-    -- so it stands
-    stands_after : is_held (Receive w) answer ≡ true → g.told ≡ true → joined (state_by g name.hash) w ≡ state_by g name.hash
-    stands_after held told = by (taken held).1
-      where
-        told' : p.before.told ≡ true
-        told' = sym p.after.told ∙ told
-
-        by : IsDone obj_rules p.read p.before.journal name.hash own answer p.made g.journal
-            ⊎ IsRefused obj_rules p.read p.before.journal name.hash own answer p.made g.journal → joined (state_by g name.hash) w ≡ state_by g name.hash
-        by (inl done) =
-            let is : stands obj_rules g name.hash ≡ obj_applied (stands obj_rules p.before name.hash) (Wrote name w) =
-            stand-more obj_rules are-rules p.before g name.hash entry p.after.opening (ap (λ (j : ObjJournal). j.entries) done.entered)
-            ∙ ap (fold obj_applied (stands obj_rules p.before name.hash)) (about-own obj_rules are-rules name.hash entry (refl, tt)) in
-            subst (λ (v : ObjValue). joined v.state w ≡ v.state) (sym is) (comes_again (state_by p.before name.hash) w)
-        by (inr refused) =
-            let read : p.read ≡ stands obj_rules p.before name.hash =
-            tell obj_rules p.before name.hash p.read (p.known told' (taken held).0)
-            (none-of (doubts_about obj_rules name.hash p.before.journal.doubts) (p.settled (taken held).0)) in
-            least-keeps (state_by g name.hash) (state_by p.before name.hash) w (grown-least p.before g name.hash p.after)
-            (subst (λ (v : ObjValue). joined v.state w ≡ v.state) read (refused-held p.read.state w answer refused.refused))
+        by a b looked is q = cc
 
     -- of the write all is made, or nothing
     stopped : (failed : Bool) → Stops obj_rules failed p.read p.before.journal name.hash own p.made g.journal → (p.made ≡ []) ⊎ (p.made ≡ entry)
-    stopped failed st = by st.is_made
+    stopped failed st = by (one-list entry st.first st.here st.behind st.cut) st.is_made
       where
-        cut : (st.first ≡ []) × (st.here ≡ entry)
-        cut = let one = one-list entry st.first st.here st.behind st.cut in (one.0, one.1)
-
-        by : (p.made ≡ flat st.first) ⊎ ((st.doubted ≡ true) × (p.made ≡ flat st.first ++ st.here)) → (p.made ≡ []) ⊎ (p.made ≡ entry)
-        by (inl none) = inl (none ∙ ap flat cut.0)
-        by (inr both) = inr (both.1 ∙ (ap (λ (xs : List (List ObjEntry)). flat xs ++ st.here) cut.0 ∙ cut.1))
+        by : (st.first ≡ []) × (st.here ≡ entry) × (st.behind ≡ []) → (p.made ≡ flat st.first) ⊎ ((st.doubted ≡ true) × (p.made ≡ flat st.first ++ st.here))
+            → (p.made ≡ []) ⊎ (p.made ≡ entry)
+        by one (inl none) = inl (none ∙ ap flat one.0)
+        by one (inr both) = inr (both.1 ∙ (ap (λ (xs : List (List ObjEntry)). flat xs ++ st.here) one.0 ∙ one.1))
 
     made_whole : (p.made ≡ []) ⊎ (p.made ≡ entry)
     made_whole = by p.looked p.answered
@@ -122,43 +93,55 @@ module _ (to : ℕ) (name : Name) (w : Write) where
         unseen Fails q = q.not_made
         unseen Wants q = q.not_made
         unseen Damages q = q.not_made
-        unseen Makes q = absurd q
-        unseen Refuses q = absurd q
-        unseen Overflows q = absurd q
+        unseen e q = absurd q
 
         by : (b : Bool) → Answers obj_rules b p.read p.before.journal name.hash own answer p.made g.journal → (p.made ≡ []) ⊎ (p.made ≡ entry)
         by true q = seen (obj_ending answer) q
         by false q = inl (unseen (obj_ending answer) q)
 
-    -- what the device then holds: the write is joined, or nothing changes
-    joins_after : alone ≡ true → g.told ≡ true → (t.state ≡ (s name.hash).state) ⊎ (t.state ≡ joined (s name.hash).state w)
-    joins_after is told = by made_whole
-      where
-        holds : (es : List ObjEntry) → p.made ≡ es → t.state ≡ (fold obj_applied (s name.hash) es).state
-        holds es same =
-            ap (λ (v : ObjValue). v.state) (p.leaves is (sym p.after.told ∙ told) ∙ ap (λ (xs : List ObjEntry). fold obj_applied (s name.hash) xs) same)
+    module _ (told : g.told ≡ true) where
+      told_before : p.before.told ≡ true
+      told_before = sym p.after.told ∙ told
 
-        by : (p.made ≡ []) ⊎ (p.made ≡ entry) → (t.state ≡ (s name.hash).state) ⊎ (t.state ≡ joined (s name.hash).state w)
-        by (inl none) = inl (holds [] none)
-        by (inr all) = inr (holds entry all)
+      -- what is acknowledged stands
+      stands_after : is_held (Receive w) answer ≡ true → joined (state_by g name.hash) w ≡ state_by g name.hash
+      stands_after held = by (taken held).1
+        where
+          by : IsTaken answer → joined (state_by g name.hash) w ≡ state_by g name.hash
+          by (inl done) =
+              let is : stands obj_rules g name.hash ≡ obj_applied (stands obj_rules p.before name.hash) (Wrote name w) =
+              stand-more obj_rules are-rules p.before g name.hash entry p.after.opening (ap (λ (j : ObjJournal). j.entries) done.entered)
+              ∙ ap (fold obj_applied (stands obj_rules p.before name.hash)) (about-own obj_rules are-rules name.hash entry (refl, tt)) in
+              subst (λ (v : ObjValue). joined v.state w ≡ v.state) (sym is) (comes_again (state_by p.before name.hash) w)
+          by (inr refused) =
+              let read : p.read ≡ stands obj_rules p.before name.hash =
+              tell obj_rules p.before name.hash p.read (p.known told_before (taken held).0)
+              (none-of (doubts_about obj_rules name.hash p.before.journal.doubts) (p.settled (taken held).0)) in
+              least-keeps (state_by g name.hash) (state_by p.before name.hash) w (grown-least p.before g name.hash p.after)
+              (subst (λ (v : ObjValue). joined v.state w ≡ v.state) read (refused-held p.read.state w answer refused.refused))
 
-    -- and where it is acknowledged the device holds it
-    holds_after : is_held (Receive w) answer ≡ true → alone ≡ true → g.told ≡ true → joined t.state w ≡ t.state
-    holds_after held is told = by (taken held).1
-      where
-        told' : p.before.told ≡ true
-        told' = sym p.after.told ∙ told
-
+      module _ (is : alone ≡ true) where
         holds : (es : List ObjEntry) → p.made ≡ es → t ≡ fold obj_applied (s name.hash) es
-        holds es same = p.leaves is told' ∙ ap (λ (xs : List ObjEntry). fold obj_applied (s name.hash) xs) same
+        holds es same = p.leaves is told_before ∙ ap (λ (xs : List ObjEntry). fold obj_applied (s name.hash) xs) same
 
-        by : IsDone obj_rules p.read p.before.journal name.hash own answer p.made g.journal
-            ⊎ IsRefused obj_rules p.read p.before.journal name.hash own answer p.made g.journal → joined t.state w ≡ t.state
-        by (inl done) =
-            subst (λ (v : ObjValue). joined v.state w ≡ v.state) (sym (holds entry done.is_made)) (comes_again (s name.hash).state w)
-        by (inr refused) =
-            subst (λ (v : ObjValue). joined v.state w ≡ v.state) (p.held is told' (taken held).0 ∙ sym (holds [] refused.leaves.not_made))
-            (refused-held p.read.state w answer refused.refused)
+        -- what the device then holds: the write is joined, or nothing changes
+        joins_after : (t.state ≡ (s name.hash).state) ⊎ (t.state ≡ joined (s name.hash).state w)
+        joins_after = by made_whole
+          where
+            by : (p.made ≡ []) ⊎ (p.made ≡ entry) → (t.state ≡ (s name.hash).state) ⊎ (t.state ≡ joined (s name.hash).state w)
+            by (inl none) = inl (ap (λ (v : ObjValue). v.state) (holds [] none))
+            by (inr all) = inr (ap (λ (v : ObjValue). v.state) (holds entry all))
+
+        -- and where it is acknowledged the device holds it
+        holds_after : is_held (Receive w) answer ≡ true → joined t.state w ≡ t.state
+        holds_after held = by (taken held).1
+          where
+            by : IsTaken answer → joined t.state w ≡ t.state
+            by (inl done) =
+                subst (λ (v : ObjValue). joined v.state w ≡ v.state) (sym (holds entry done.is_made)) (comes_again (s name.hash).state w)
+            by (inr refused) =
+                subst (λ (v : ObjValue). joined v.state w ≡ v.state) (p.held is told_before (taken held).0 ∙ sym (holds [] refused.leaves.not_made))
+                (refused-held p.read.state w answer refused.refused)
 
   -- ---- a call
 
@@ -176,8 +159,8 @@ module _ (to : ℕ) (name : Name) (w : Write) where
       let P : ObjHistory → Type 0 = λ h. h.told ≡ true → joined (state_by h name.hash) w ≡ state_by h name.hash in
       subst (λ (x : Sight). P (known x to part)) (sym r.4.same)
       (subst (λ (l : ℕ). P (n.objects.seen l)) lock
-      (stands_after n.alone (m.objects.seen (m.nodes.lock to name.hash)) (m.objects.holds to) answer (n.objects.seen (m.nodes.lock to name.hash))
-      (n.objects.holds to name.hash) r.3.step held)) told
+      (λ x. stands_after n.alone (m.objects.seen (m.nodes.lock to name.hash)) (m.objects.holds to) answer (n.objects.seen (m.nodes.lock to name.hash))
+      (n.objects.holds to name.hash) r.3.step x held)) told
 
   -- what the device holds where a copy came: the write is joined, or nothing changes
   abbrev Joins : State → State → Type 0
@@ -198,7 +181,7 @@ module _ (to : ℕ) (name : Name) (w : Write) where
       let rest : Moves (IsAt to name.hash) mid t = comes-moves (Moves (IsAt to name.hash)) Transfers (made-step Sent to name (Receive w)) mid xs t p.2 in
       let told_mid : (mid.objects.seen l).told ≡ true = sym (rest.objects.grows l).told ∙ told in
       joins-trans (state_at s to name.hash) (state_at mid to name.hash) (state_at t to name.hash)
-      (joins_after mid.alone (s.objects.seen l) (s.objects.holds to) x (mid.objects.seen l) (mid.objects.holds to name.hash) p.1.step (rest.alone alone) told_mid)
+      (joins_after mid.alone (s.objects.seen l) (s.objects.holds to) x (mid.objects.seen l) (mid.objects.holds to name.hash) p.1.step told_mid (rest.alone alone))
       (comes-join mid xs t p.2 alone (subst (λ (k : Nodes). (t.objects.seen (k.lock to name.hash)).told ≡ true) (sym p.1.moves.nodes) told))
 
   lock_told : (part : ℕ) (s t : Sight) → IsOfPart s.nodes.power part name.hash → t.nodes ≡ s.nodes → (known t to part).told ≡ true
@@ -227,7 +210,7 @@ module _ (to : ℕ) (name : Name) (w : Write) where
       lock_told part m n (subst (λ (k : Nodes). IsOfPart k.power part name.hash) (sym before) is) r.3.moves.nodes told_n in
       subst (λ (x : Sight). joined (state_at x to name.hash) w ≡ state_at x to name.hash) (sym same)
       (holds_after n.alone (m.objects.seen (m.nodes.lock to name.hash)) (m.objects.holds to) answer (n.objects.seen (m.nodes.lock to name.hash))
-      (n.objects.holds to name.hash) r.3.step held (sym (ap (λ (x : Sight). x.alone) same) ∙ alone) told_l)
+      (n.objects.holds to name.hash) r.3.step told_l (sym (ap (λ (x : Sight). x.alone) same) ∙ alone) held)
 
   -- under other hashes, and at other devices, nothing changes
   pub made-kept : (s : Sight) (answer : Answer) (t : Sight) → Calls Transfers s Sent (Ok answer) t → t.alone ≡ true → (d : ℕ) (hash : Hash)
