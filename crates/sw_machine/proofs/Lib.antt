@@ -3,5 +3,5 @@ pub mod Objects
 pub mod Rows
 pub mod Greatest
 pub mod Runs
+pub mod Going
 pub mod Doors
-pub mod Calls

@@ -270,11 +270,11 @@ sends nodes m (Went from message ∷ lines) after run =
 
 pub were-sent : MessagesWereSent
 were-sent nodes m [] line more after run =
-    subst (λ (xs : List Message). WasSent xs line.link line.device line.event) (sym (append-nil m.sent)) run.1.0
+    subst (λ (xs : List Message). WasSent xs line) (sym (append-nil m.sent)) run.1.0
 were-sent nodes m (Came other ∷ lines) line more after run =
-    subst (λ (xs : List Message). WasSent (xs ++ went_in lines) line.link line.device line.event) run.1.2 (were-sent nodes run.0 lines line more after run.2)
+    subst (λ (xs : List Message). WasSent (xs ++ went_in lines) line) run.1.2 (were-sent nodes run.0 lines line more after run.2)
 were-sent nodes m (Went from message ∷ lines) line more after run =
-    subst (λ (xs : List Message). WasSent xs line.link line.device line.event)
+    subst (λ (xs : List Message). WasSent xs line)
     (ap (λ (x : Machine). x.sent ++ went_in lines) run.1.1 ∙ append_assoc m.sent (message ∷ []) (went_in lines))
     (were-sent nodes run.0 lines line more after run.2)
 

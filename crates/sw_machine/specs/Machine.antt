@@ -215,7 +215,7 @@ module _ (nodes : Nodes) where
   -- a step of the machine, as its line tells it
   abbrev pub Steps : Machine → RunLine → Machine → Type 0
   Steps m (Came line) after =
-      WasSent m.sent line.link line.device line.event × Comes m line.device line.event line.added after × (after.sent ≡ m.sent)
+      WasSent m.sent line × Comes m line.device line.event line.added after × (after.sent ≡ m.sent)
   Steps m (Went from message) after = Carries m from message × (after ≡ record m { sent = m.sent ++ message ∷ [] })
 
   -- the steps of these lines, one after another
