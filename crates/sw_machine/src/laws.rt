@@ -2,6 +2,7 @@
 
 ghost use Rattle.sw_machine.specs.Doors.{ContainerChangesGoOn, DeviceListingsGoOn, FilesReadsGoOn, GoingOnJoins, HashesReadsGoOn, InfosGoOn, ListingsGoOn};
 ghost use Rattle.sw_machine.specs.Doors.{ObjectChangesGoOn, ObjectReadsGoOn, RestartsGoOn, RunsOnJoin, SameGoesOn, SendingGoesOn, TimesGoOn, WriteReadsGoOn};
+ghost use Rattle.sw_machine.specs.Entering.{JournalsGrow, LinesTellHashes, LinesTellPlaces};
 ghost use Rattle.sw_machine.specs.Laws.{HashesAreTold, HashesMayStand, HashesStand, MessagesWereSent, PlacesAreTold, PlacesMayStand, RowsAreMerged};
 ghost use Rattle.sw_machine.specs.Laws.{RunKeepsTheGreatest, RunSends, RunsJoin};
 
@@ -30,6 +31,17 @@ pub fn locks_may_stand()
 pub fn without_doubts_told()
     ensures objects { HashesAreTold }
     ensures containers { PlacesAreTold }
+{}
+
+/// Where a device isn't restarted, its journals grow by the entries that the lines added to them, failed steps or not: so a front is the number of those.
+pub fn journals_grow()
+    ensures { JournalsGrow }
+{}
+
+/// So where no doubt of it is left at the end, a device holds what it held and what the entries of the lines leave: of objects, and of containers.
+pub fn lines_tell()
+    ensures objects { LinesTellHashes }
+    ensures containers { LinesTellPlaces }
 {}
 
 /// What came in a message had been sent.
