@@ -9,8 +9,8 @@ use std::alloc::Global;
 use sw_container_steps::ContEntry;
 use sw_hashpath::{Name, Place};
 use sw_metafile::push_escaped;
-use sw_outside::{Bytes, BytesList, NoMemory};
 use sw_object_steps::{Answer, Brief, StepKind};
+use sw_outside::{Bytes, BytesList, NoMemory};
 use sw_peer::{Event, KeptLine};
 use sw_timestamp::{Tag, Timestamp};
 

@@ -6,7 +6,7 @@ use Rattle.sw_peer.proofs.Calls.{IsStep, calls-again, calls-around, calls-moves,
 use Rattle.sw_peer.proofs.Calls.{wanting-on}
 use Rattle.sw_peer.specs.Carriage.{Carriage, Carries, Delivery, IsNext, faithful}
 use Rattle.sw_hashpath.specs.declared.name.Name.{Name}
-use Rattle.sw_peer.specs.Sights.{Calls, IsAt, IsMade, Moves, Sight}
+use Rattle.sw_peer.specs.Sights.{Calls, IsAt, IsMade, MayStand, Moves, Sight}
 use Rattle.sw_object_steps.specs.declared.answer.Answer.TheVariants as answers
 use Rattle.sw_object_steps.specs.declared.change.Change.{Change}
 use Rattle.sw_peer.specs.declared.link.Link.{Link}
@@ -157,14 +157,17 @@ Made device name change s t = Calls (IsMade Sent device name change) s Sent (Ok 
 -- a change that is to come twice, and wants memory for its copy
 pub uncopied : (link : Link) (device : ℕ) (name : Name) (change : Change) (s t : Sight) (acts acts' : Acts) (messages messages' f f' k k' : ℕ)
     → fate_of acts link messages ≡ ComesTwice → t ≡ s → acts' ≡ acts → messages' ≡ messages_after link messages → f' ≡ f → k' ≡ k
+    → MayStand device name.hash t
     → Calls (IsMade link device name change) (around s acts messages f k) link (Ok answers.NoMemory) (around t acts' messages' f' k')
-uncopied Local device name change s t acts acts' messages messages' f f' k k' fate same acts_are messages_are faults asks = cc
-uncopied Sent device name change s t acts acts' messages messages' f f' k k' fate same acts_are messages_are faults asks =
+uncopied Local device name change s t acts acts' messages messages' f f' k k' fate same acts_are messages_are faults asks may = cc
+uncopied Sent device name change s t acts acts' messages messages' f f' k k' fate same acts_are messages_are faults asks may =
     let old : Sight = around s acts messages f k in
     let new : Sight = around s acts (raised messages) f k in
+    let may_stand : MayStand device name.hash s = subst (λ (x : Sight). MayStand device name.hash x) same may in
     let made : Made device name change old new =
     calls-again (Moves (IsAt device name.hash)) (IsMade Sent device name change) (made-step Sent device name change) old old new answers.NoMemory
-    (refl, ap delivered fate) (wanting Sent device name change old) (wanting-on Sent device name change old (carried_by acts (raised messages))) in
+    (refl, ap delivered fate) (wanting Sent device name change old may_stand)
+    (wanting-on Sent device name change old (carried_by acts (raised messages)) may_stand) in
     subst (λ (x : Sight). Made device name change old (around x acts' messages' f' k')) (sym same)
     (subst (λ (a : Acts). Made device name change old (around s a messages' f' k')) (sym acts_are)
     (subst (λ (n : ℕ). Made device name change old (around s acts n f' k')) (sym messages_are)

@@ -2,7 +2,7 @@ ghost use Rattle.std.specs.Prelude.{◌≡◌, ◌<◌, ◌≤◌, ◌^◌, true
 ghost use Rattle.sw_outside.specs.Faults.{HasRisen};
 ghost use Rattle.sw_outside.specs.Counts.{raised};
 ghost use Rattle.sw_object_steps.specs.Parts.{IsOfPart};
-ghost use Rattle.sw_peer.specs.Sights.{Calls, IsFilesRead, IsHashesRead, IsMade, IsRead, IsWriteRead, asked};
+ghost use Rattle.sw_peer.specs.Sights.{Calls, IsFilesRead, IsHashesRead, IsMade, IsRead, IsWriteRead, MayStand, asked};
 ghost use Rattle.sw_lossy.specs.Losses.{Happens, IsUncopied, around, asked_inside, fate_of, faults_after, is_loss, messages_after};
 
 mod containers;
@@ -11,8 +11,8 @@ use crate::acts::{Acts, Fate};
 use std::alloc::Global;
 use sw_diskfile::FileName;
 use sw_hashpath::Name;
-use sw_outside::NoMemory;
 use sw_object_steps::{Answer, Change, DirFault, Got, Stored};
+use sw_outside::NoMemory;
 use sw_peer::{Door, FaithfulDoor, Link, Lost, ObjectDoor, ReplicaDoor};
 use sw_suffix::{DirLine, SuffixHash};
 
@@ -142,6 +142,13 @@ impl<D: Door + Drop> Door for Lossy<D> {
 }
 
 impl<D: ObjectDoor + FaithfulDoor + Drop> ObjectDoor for Lossy<D> {
+    fn may_stand(&self, device: u8, hash: &[u8; 16])
+        requires device { device < (D.sight self.now.door).nodes.devices }
+        ensures { MayStand device hash.now (around (D.sight self.now.door) self.now.acts self.now.messages self.now.faults self.now.asks) }
+    {
+        self.door.may_stand(device, hash)
+    }
+
     /// A message that is to come twice is copied first. Where the copy finds no memory the answer is [`Answer::NoMemory`], and none is sent.
     fn change(
         &mut self,
@@ -176,7 +183,10 @@ impl<D: ObjectDoor + FaithfulDoor + Drop> ObjectDoor for Lossy<D> {
                     let _ = self.door.change(alloc, link, device, name, copy);
                     self.door.change(alloc, link, device, name, change)
                 }
-                Err(NoMemory) => Ok(Answer::NoMemory),
+                Err(NoMemory) => {
+                    self.door.may_stand(device, &name.hash);
+                    Ok(Answer::NoMemory)
+                }
             },
         }
     }

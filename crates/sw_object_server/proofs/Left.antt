@@ -2,33 +2,33 @@
 use Rattle.std.proofs.Common.{◌≡◌, ◌==◌, ℕ, Bool, true, false, List, [], ◌∷◌, ◌++◌, bytes_eq, refl, sym, ap, ◌∙◌, subst, true≢false}
 use Rattle.std.proofs.lemmas.Bool.{eqb-false, eqb-true}
 use Rattle.std.proofs.lemmas.Slice.Eq.{bytes_eq-Decides}
+use Rattle.std.specs.List.{fold}
 use Rattle.sw_hashpath.specs.declared.name.Name.{Name}
-use Rattle.sw_object_steps.specs.Flat.{stands}
-use Rattle.sw_object_steps.specs.Journals.{Hash, Journal}
-use Rattle.sw_object_steps.specs.Flat.{Answers, left_by}
-use Rattle.sw_peer.specs.Sights.{Comes, IsMade, IsRead, IsSame, Sight}
+use Rattle.sw_object_steps.specs.Journals.{Hash}
+use Rattle.sw_object_steps.specs.Rules.{ObjChange, ObjJournal, Writes, obj_applied, obj_rules}
+use Rattle.sw_object_steps.specs.Values.{ObjValue}
 use Rattle.sw_object_steps.specs.declared.answer.Answer.{Answer}
 use Rattle.sw_object_steps.specs.declared.answer.Answer.TheVariants as answers
 use Rattle.sw_object_steps.specs.declared.change.Change.{Change}
+use Rattle.sw_object_steps.specs.declared.entry.ObjEntry.{ObjEntry}
 use Rattle.sw_object_steps.specs.declared.got.Got.{Got}
+use Rattle.sw_peer.specs.Sights.{Comes, IsMade, IsRead, IsSame, Sight}
 use Rattle.sw_peer.specs.declared.link.Link.TheVariants.{Local}
-use Rattle.sw_state.specs.declared.state.State.{State}
+use Rattle.sw_step.specs.Steps.{Answers}
 use Rattle.sw_object_server.specs.Laws.{LeavesHeld}
 use Rattle.sw_object_server.specs.Replies.{shows_field}
 use Rattle.sw_object_server.specs.declared.asked.Asked.TheVariants as asks
 
-unmade : (told : Bool) (s : State) (j : Journal) (name : Name) (change : Change) (a : Answer) (made : Bool) (after : Journal)
-    → shows_field a ≡ true → Answers told s j name change a made after → made ≡ false
-unmade told s j name change (answers.Conflict time) made after shows p = p.leaves.not_made
-unmade told s j name change (answers.NotFound time) made after shows p = p.leaves.not_made
-unmade told s j name change (answers.Damaged bad) made after shows p = p.1.not_made
-unmade told s j name change (answers.Done front) made after shows p = cc
-unmade told s j name change (answers.Buried front) made after shows p = cc
-unmade told s j name change (answers.Mismatch second) made after shows p = cc
-unmade told s j name change answers.Exists made after shows p = cc
-unmade told s j name change answers.JournalFull made after shows p = cc
-unmade told s j name change answers.Failed made after shows p = cc
-unmade told s j name change answers.NoMemory made after shows p = cc
+-- a step whose reply tells of what stood made nothing
+unmade : (read : ObjValue) (j : ObjJournal) (hash : Hash) (change : ObjChange) (looked : Bool) (a : Answer) (made : List ObjEntry) (after : ObjJournal)
+    → shows_field a ≡ true → Answers obj_rules looked read j hash change a made after → made ≡ []
+unmade read j hash change true (answers.Conflict time) made after shows p = p.leaves.not_made
+unmade read j hash change true (answers.NotFound time) made after shows p = p.leaves.not_made
+unmade read j hash change false (answers.Damaged bad) made after shows p = p.not_made
+unmade read j hash change true (answers.Damaged bad) made after shows p = absurd p
+unmade read j hash change false (answers.Conflict time) made after shows p = absurd p
+unmade read j hash change false (answers.NotFound time) made after shows p = absurd p
+unmade read j hash change looked a made after shows p = cc
 
 -- the devices hold what they held
 abbrev Keeps : Sight → Sight → Type 0
@@ -42,15 +42,15 @@ change-keeps device name change old a mid p shows alone d hash told = by (d == d
     l : ℕ
     l = old.nodes.lock device name.hash
 
-    not_made : p.step.made ≡ false
-    not_made = unmade p.step.before.told (stands p.step.before name.hash) p.step.before.journal name change a p.step.made (mid.objects.seen l).journal shows
+    not_made : p.step.made ≡ []
+    not_made = unmade p.step.read p.step.before.journal name.hash (Writes name change) p.step.looked a p.step.made (mid.objects.seen l).journal shows
         p.step.answered
 
     here : (mid.objects.seen (mid.nodes.lock device name.hash)).told ≡ true → mid.objects.holds device name.hash ≡ old.objects.holds device name.hash
     here is =
         let told_after : (mid.objects.seen l).told ≡ true = subst (λ n. (mid.objects.seen (n.lock device name.hash)).told ≡ true) p.moves.nodes is in
         let told_before : p.step.before.told ≡ true = sym p.step.after.told ∙ told_after in
-        p.step.leaves alone told_before ∙ ap (λ (b : Bool). left_by (old.objects.holds device name.hash) change b) not_made
+        p.step.leaves alone told_before ∙ ap (λ (es : List ObjEntry). fold obj_applied (old.objects.holds device name.hash) es) not_made
 
     by : (same_device same_hash : Bool) → (d == device) ≡ same_device → bytes_eq hash name.hash ≡ same_hash
         → mid.objects.holds d hash ≡ old.objects.holds d hash

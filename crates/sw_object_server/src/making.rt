@@ -6,8 +6,8 @@ use crate::showing::shown;
 use std::alloc::Global;
 use sw_hashpath::Name;
 use sw_message::Response;
-use sw_outside::NoMemory;
 use sw_object_steps::Change;
+use sw_outside::NoMemory;
 use sw_peer::{Link, Lost, ObjectDoor};
 
 /// Makes a change at the device, and replies to its answer. What the reply to a write that is made needs is taken before.

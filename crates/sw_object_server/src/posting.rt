@@ -7,8 +7,8 @@ use std::alloc::Global;
 use sw_fields::{heads_of, is_replicated};
 use sw_hashpath::Name;
 use sw_message::{FieldList, Request};
-use sw_outside::NoMemory;
 use sw_object_steps::Change;
+use sw_outside::NoMemory;
 use sw_state::{Heads, Kind, Write};
 use sw_timestamp::Timestamp;
 

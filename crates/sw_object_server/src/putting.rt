@@ -9,8 +9,8 @@ use std::alloc::Global;
 use sw_fields::{agrees_with, asks_for_none, heads_of, is_replicated, type_of};
 use sw_hashpath::Name;
 use sw_message::{Body, FieldList, Request};
-use sw_outside::{Bytes, NoMemory};
 use sw_object_steps::Change;
+use sw_outside::{Bytes, NoMemory};
 use sw_state::{Content, Heads, Kind, Write};
 use sw_timestamp::Timestamp;
 

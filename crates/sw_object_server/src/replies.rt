@@ -11,8 +11,8 @@ use itoa::Buffer;
 use std::alloc::Global;
 use sw_hashpath::{BadFile, hex_text};
 use sw_message::{Field, FieldList, ReplyBody, Response};
-use sw_outside::{Bytes, NoMemory};
 use sw_object_steps::{Answer, Change};
+use sw_outside::{Bytes, NoMemory};
 use sw_state::Kind;
 use sw_timestamp::Timestamp;
 

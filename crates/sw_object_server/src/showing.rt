@@ -9,8 +9,8 @@ use std::alloc::Global;
 use sw_fields::{UNITS_PER_SECOND, is_expired};
 use sw_hashpath::hex_text;
 use sw_message::{Field, FieldList, ReplyBody, Response};
-use sw_outside::{Bytes, NoMemory};
 use sw_object_steps::Got;
+use sw_outside::{Bytes, NoMemory};
 use sw_state::{Content, Head, Heads};
 use sw_timestamp::Timestamp;
 

@@ -1,14 +1,12 @@
 -- A request for replicas leaves the devices what they held.
 use Rattle.std.proofs.Common.{◌≡◌, ℕ, Bool, true, false, List, [], ◌∷◌, ◌++◌, refl, sym, ◌∙◌, ap, subst, inl, inr, Result, Ok, Err}
-use Rattle.std.specs.Bool.{⊤}
 use Rattle.std.specs.declared.alloc.Global.{Global}
 use Rattle.std.specs.declared.vec.Vec.{Vec}
-use Rattle.sw_hashpath.specs.HashParts.{suffix_of}
 use Rattle.sw_object_server.specs.Serving.{IsStepped}
-use Rattle.sw_peer.proofs.Calls.{calls-moves, part-step}
+use Rattle.sw_peer.proofs.Calls.{PartFrame, calls-moves, part-step}
 use Rattle.sw_object_steps.specs.Journals.{Hash}
 use Rattle.sw_object_steps.specs.Parts.{AreHashes, AreLines}
-use Rattle.sw_peer.specs.Sights.{Comes, HoldsAll, IsFilesRead, IsHashesRead, IsPartRead, Nodes, PartMoves, Sight}
+use Rattle.sw_peer.specs.Sights.{Comes, HoldsAll, IsFilesRead, IsHashesRead, IsPartRead, Nodes, Sight, in_part, in_suffix}
 use Rattle.sw_object_steps.specs.declared.dir_fault.DirFault.{DirFault}
 use Rattle.sw_peer.specs.declared.link.Link.TheVariants.{Local}
 use Rattle.sw_peer.specs.declared.part_read.PartRead.{PartRead}
@@ -33,7 +31,7 @@ keeps-trans a b c p q = record { alone = λ x. p.alone (q.alone x); held = λ x 
 
 -- ---- a read at the device itself
 
-module _ {A : Type 0} (device part : ℕ) (at : Hash → Type 0) (reading : Nodes → Bool → (Hash → State) → A → Type 0) (read : Result A DirFault → PartRead) where
+module _ {A : Type 0} (device part : ℕ) (at : Nodes → Hash → Bool) (reading : Nodes → Bool → (Hash → State) → A → Type 0) (read : Result A DirFault → PartRead) where
   abbrev Step : Sight → Result A DirFault → Sight → Type 0
   Step = IsPartRead Local device part at false reading read
 
@@ -42,7 +40,7 @@ module _ {A : Type 0} (device part : ℕ) (at : Hash → Type 0) (reading : Node
       let comes : Comes Step s (got ∷ []) t =
       subst (λ (earlier : List (Result A DirFault)). Comes Step s (earlier ++ got ∷ []) t) (p.called.1 refl) p.called.2 in
       record {
-        alone = (calls-moves (PartMoves device part at) Step (part-step Local device part at false reading read) s Local (Ok got) t p.called).alone;
+        alone = (calls-moves (PartFrame device part at) Step (part-step Local device part at false reading read) s Local (Ok got) t p.called).alone;
         held = λ alone d hash. ap (λ (x : Sight). x.objects.holds d hash) (comes.2).same
             ∙ (comes.1).holds_all (sym (ap (λ (x : Sight). x.alone) (comes.2).same) ∙ alone) d hash;
       }
@@ -51,13 +49,13 @@ module _ {A : Type 0} (device part : ℕ) (at : Hash → Type 0) (reading : Node
 hashes-keep : (device part : ℕ) (s : Sight) (got : Result (Vec SuffixHash Global) DirFault) (t : Sight)
     → IsStepped (IsHashesRead Local device part) s got t → Keeps s t
 hashes-keep device part =
-    step-keeps device part (λ hash. ⊤) (λ nodes told s got. AreHashes nodes.power part told s got.items) (λ got. reads.Hashes part got)
+    step-keeps device part (in_part part) (λ nodes told s got. AreHashes nodes.power part told s got.items) (λ got. reads.Hashes part got)
 
 -- and of files
 files-keep : (device part suffix : ℕ) (s : Sight) (got : Result (Vec DirLine Global) DirFault) (t : Sight)
     → IsStepped (IsFilesRead Local device part suffix) s got t → Keeps s t
 files-keep device part suffix =
-    step-keeps device part (λ hash. suffix_of hash ≡ suffix) (λ nodes told s got. AreLines nodes.power part suffix told s got.items)
+    step-keeps device part (in_suffix part suffix) (λ nodes told s got. AreLines nodes.power part suffix told s got.items)
     (λ got. reads.Files part suffix got)
 
 several-keep : (device part : ℕ) (suffixes : List ℕ) (s : Sight) (found : List DirLine) (t : Sight) → AreFilesRead device part suffixes s found t → Keeps s t

@@ -4,10 +4,9 @@ use Rattle.std.proofs.Common.{Ok, Err, OnErr}
 use Rattle.std.proofs.lemmas.List.{take-append-drop, take_more}
 use Rattle.std.specs.declared.alloc.Global.{Global}
 use Rattle.std.specs.declared.vec.Vec.{Vec}
-use Rattle.sw_hashpath.specs.HashParts.{suffix_of}
 use Rattle.sw_object_server.specs.Serving.{IsStepped}
-use Rattle.sw_peer.proofs.Calls.{calls-moves, files-step}
-use Rattle.sw_peer.specs.Sights.{IsFilesRead, PartMoves, Sight}
+use Rattle.sw_peer.proofs.Calls.{PartFrame, calls-moves, files-step}
+use Rattle.sw_peer.specs.Sights.{IsFilesRead, Sight, in_suffix}
 use Rattle.sw_object_steps.specs.declared.dir_fault.DirFault.{DirFault}
 use Rattle.sw_peer.specs.declared.link.Link.TheVariants.{Local}
 use Rattle.sw_suffix.specs.declared.dir_line.DirLine.{DirLine}
@@ -20,7 +19,7 @@ module _ (device part : ℕ) where
 
   read-nodes : (suffix : ℕ) (s : Sight) (got : Result (Vec DirLine Global) DirFault) (t : Sight) → Reads suffix s got t → t.nodes ≡ s.nodes
   read-nodes suffix s got t p =
-      (calls-moves (PartMoves device part (λ hash. suffix_of hash ≡ suffix)) (IsFilesRead Local device part suffix) (files-step Local device part suffix)
+      (calls-moves (PartFrame device part (in_suffix part suffix)) (IsFilesRead Local device part suffix) (files-step Local device part suffix)
       s Local (Ok got) t p.called).nodes
 
   -- so what never changes is what it was before

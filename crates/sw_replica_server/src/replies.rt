@@ -6,8 +6,8 @@ use crate::texts::{files_text, hashes_text};
 use std::alloc::Global;
 use sw_message::{Field, FieldList, ReplyBody, Response};
 use sw_object_server::{bare, damaged};
-use sw_outside::{Bytes, NoMemory};
 use sw_object_steps::DirFault;
+use sw_outside::{Bytes, NoMemory};
 use sw_suffix::{DirLine, SuffixHash};
 
 /// The reply that tells what is compared of a partition's suffixes, or why that couldn't be read. Only a reply that tells something needs

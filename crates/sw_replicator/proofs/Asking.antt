@@ -8,13 +8,12 @@ use Rattle.sw_outside.specs.Counts.{raised}
 use Rattle.sw_pass.specs.Outcomes.{asking, finished, nothing_yet}
 use Rattle.sw_pass.specs.declared.hindrance.Hindrance.{Hindrance}
 use Rattle.sw_pass.specs.declared.outcome.Outcome.{Outcome}
-use Rattle.sw_object_steps.specs.Flat.{stands}
 use Rattle.sw_object_steps.specs.Parts.{AreHashes}
 use Rattle.sw_peer.specs.Sights.{Calls, IsHashesRead, Nodes, Sight}
 use Rattle.sw_peer.specs.declared.link.Link.TheVariants.{Local, Sent}
 use Rattle.sw_replicator.proofs.Reading.{hashes-pair, hashes-told, later, pair-trans}
 use Rattle.sw_replicator.specs.Causes.{AsksEach, AsksOnce}
-use Rattle.sw_replicator.specs.Meeting.{PairMoves, known}
+use Rattle.sw_replicator.specs.Meeting.{PairMoves, known, state_by}
 use Rattle.sw_replicator.specs.Pushing.{Hinders, differing}
 use Rattle.sw_suffix.specs.declared.told.SuffixHash.{SuffixHash}
 
@@ -56,7 +55,7 @@ asks-each (Ok done) from to part s a b t ours theirs xs ys o p read asked moves 
       ours_were = record { after = later from to part from s a first; before = later from to part from a t (pair-trans from to part a b t second moves) };
       theirs_were = record { after = later from to part to s b (pair-trans from to part s a b first second); before = later from to part to b t moves };
       ours_are = hashes-told Local from part s ours a read;
-      theirs_are = subst (λ (n : Nodes). AreHashes n.power part (known b to part).told (stands (known b to part)) theirs.items) first.nodes
+      theirs_are = subst (λ (n : Nodes). AreHashes n.power part (known b to part).told (state_by (known b to part)) theirs.items) first.nodes
           (hashes-told Sent to part a theirs b asked);
       asked_is = omega (arith, lengths, one, count);
       asks = omega (arith, lengths, kept, rose, asks);

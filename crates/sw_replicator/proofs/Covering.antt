@@ -6,7 +6,6 @@ use Rattle.sw_diskfile.specs.StateFiles.{picked_of}
 use Rattle.sw_diskfile.specs.declared.file_name.FileName.{FileName}
 use Rattle.sw_diskfile.specs.declared.picking.Picked.{Picked}
 use Rattle.sw_hashpath.specs.HashParts.{partition_of, suffix_of}
-use Rattle.sw_object_steps.specs.Flat.{stands}
 use Rattle.sw_object_steps.specs.Journals.{Hash}
 use Rattle.sw_object_steps.specs.Parts.{AreHashes, AreLines, Counts, IsOfPart, md5_in, picked_in, suffix_md5}
 use Rattle.sw_peer.specs.Sights.{HoldsAll, Nodes, Sight}
@@ -15,7 +14,7 @@ use Rattle.sw_replicator.proofs.Compared.{Among, IsPicked, Verdict, all-both, al
 use Rattle.sw_replicator.proofs.Going.{AllGo, FileGoes, LineGoes, Passes, RunGoes, SuffixGoes}
 use Rattle.sw_replicator.proofs.Reading.{IsOne, files-held, files-hold, files-pair, files-told, hashes-held, hashes-hold, hashes-pair, hashes-told, later}
 use Rattle.sw_replicator.proofs.Taking.{Covers, alike-least, files-least, least-keeps, unwanted-keeps}
-use Rattle.sw_replicator.specs.Meeting.{Collides, PairMoves, known}
+use Rattle.sw_replicator.specs.Meeting.{Collides, PairMoves, known, state_at, state_by}
 use Rattle.sw_replicator.specs.Pushing.{differing, is_wanted}
 use Rattle.sw_state.proofs.JoinLaws.{at_least_transitive}
 use Rattle.sw_state.specs.States.{IsAtLeast}
@@ -36,7 +35,7 @@ pub record Watches (from to part : ℕ) (hash : Hash) (Sure : Sight → Type 0) 
   pub up : (a b : Sight) (d : ℕ) → IsOne from to d → R a b → Sure b → IsAtLeast (V d b) (V d a)
   pub reads : (a b : Sight) → PairMoves from to part a b → HoldsAll a b → R a b
   pub tells : (a : Sight) (d : ℕ) → IsOne from to d → Sure a
-      → (a.alone ≡ true → (known a d part).told ≡ true → stands (known a d part) hash ≡ a.objects.holds d hash) → stands (known a d part) hash ≡ V d a
+      → (a.alone ≡ true → (known a d part).told ≡ true → state_by (known a d part) hash ≡ state_at a d hash) → state_by (known a d part) hash ≡ V d a
   pub passes : (n a c : Sight) (h : Hash) (file : FileName) → R n a → IsOfPart a.nodes.power part h → (h ≡ hash → Sure n → Counts (V from n) file)
       → Passes from to part h file a c → R a c × (h ≡ hash → Sure c → Covers (V to c) file)
 
@@ -118,10 +117,10 @@ module _ (from to part : ℕ) (hash : Hash) (Sure : Sight → Type 0) (V : ℕ �
         w.reads g.asked g.read (files-pair Local from part one.suffix from to first g.asked (Ok (Ok g.ours)) g.read g.reads)
         (files-hold Local from part one.suffix g.asked g.ours g.read g.reads)
 
-    theirs-are : AreLines a.nodes.power part one.suffix (known g.asked to part).told (stands (known g.asked to part)) g.theirs.items
+    theirs-are : AreLines a.nodes.power part one.suffix (known g.asked to part).told (state_by (known g.asked to part)) g.theirs.items
     theirs-are = files-told Sent to part one.suffix a g.theirs g.asked g.asks
 
-    ours-are : AreLines g.asked.nodes.power part one.suffix (known g.read from part).told (stands (known g.read from part)) g.ours.items
+    ours-are : AreLines g.asked.nodes.power part one.suffix (known g.read from part).told (state_by (known g.read from part)) g.ours.items
     ours-are = files-told Local from part one.suffix g.asked g.ours g.read g.reads
 
     theirs-picked : Sure g.asked → IsOfPart a.nodes.power part hash → IsOurs hash → picked_in g.theirs.items hash ≡ picked_of (V to g.asked)
@@ -235,10 +234,10 @@ module _ (from to part : ℕ) (hash : Hash) (Sure : Sight → Type 0) (V : ℕ �
         w.reads g.read g.asked (hashes-pair Sent to part from to second g.read (Ok (Ok g.theirs)) g.asked g.asks)
         (hashes-hold Sent to part g.read g.theirs g.asked g.asks)
 
-    ours-hashes : AreHashes s.nodes.power part (known g.read from part).told (stands (known g.read from part)) g.ours.items
+    ours-hashes : AreHashes s.nodes.power part (known g.read from part).told (state_by (known g.read from part)) g.ours.items
     ours-hashes = hashes-told Local from part s g.ours g.read g.reads
 
-    theirs-hashes : AreHashes g.read.nodes.power part (known g.asked to part).told (stands (known g.asked to part)) g.theirs.items
+    theirs-hashes : AreHashes g.read.nodes.power part (known g.asked to part).told (state_by (known g.asked to part)) g.theirs.items
     theirs-hashes = hashes-told Sent to part g.read g.theirs g.asked g.asks
 
     both-r : R s g.asked
@@ -265,10 +264,10 @@ module _ (from to part : ℕ) (hash : Hash) (Sure : Sight → Type 0) (V : ℕ �
         sure_read : Sure g.read
         sure_read = w.sure g.read g.asked hashes-asked-r sure_asked
 
-        own : HasLines s.nodes.power suffix (stands (known g.read from part)) g.ours.items
+        own : HasLines s.nodes.power suffix (state_by (known g.read from part)) g.ours.items
         own = ours-hashes.shown (w.told g.read from first sure_read) suffix below
 
-        other : HasLines g.read.nodes.power suffix (stands (known g.asked to part)) g.theirs.items
+        other : HasLines g.read.nodes.power suffix (state_by (known g.asked to part)) g.theirs.items
         other = theirs-hashes.shown (w.told g.asked to second sure_asked) suffix below
 
         lines : List DirLine
@@ -277,12 +276,12 @@ module _ (from to part : ℕ) (hash : Hash) (Sure : Sight → Type 0) (V : ℕ �
         others : List DirLine
         others = other.0
 
-        lines-are : AreLines s.nodes.power part suffix true (stands (known g.read from part)) lines
+        lines-are : AreLines s.nodes.power part suffix true (state_by (known g.read from part)) lines
         lines-are = own.1
 
-        others-are : AreLines s.nodes.power part suffix true (stands (known g.asked to part)) others
+        others-are : AreLines s.nodes.power part suffix true (state_by (known g.asked to part)) others
         others-are =
-            subst (λ (k : Nodes). AreLines k.power part suffix true (stands (known g.asked to part)) others) (w.moves s g.read hashes-read-r).nodes other.1
+            subst (λ (k : Nodes). AreLines k.power part suffix true (state_by (known g.asked to part)) others) (w.moves s g.read hashes-read-r).nodes other.1
 
         -- what the sender had at the start it has at its reading
         since-start : IsAtLeast (V from g.read) (V from s)

@@ -157,7 +157,7 @@ module _ (from to part : ℕ) where
       → IsOfPart t.nodes.power part stored.name.hash
   stored-within hash file s got t within call stored same =
       let is = write-told from part hash file s (Some stored) t
-      (subst (λ (x : Result (Option Stored) DirFault). Calls (IsWriteRead Local from part hash file) s Local (Ok x) t) same call) in
+      (subst (λ (x : Result (Option Stored) DirFault). Calls (IsWriteRead Local from part hash file) s Local (Ok x) t) same call) within in
       subst (λ (n : Nodes). IsOfPart n.power part stored.name.hash) (sym (write-move from part hash file s (Ok got) t call).nodes)
       (subst (λ (h : Hash). IsOfPart s.nodes.power part h) (sym is.hash_is) within)
 

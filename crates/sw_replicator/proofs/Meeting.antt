@@ -8,9 +8,9 @@ use Rattle.sw_hashpath.specs.HashParts.{suffix_of}
 use Rattle.sw_pass.specs.declared.outcome.Outcome.{Outcome}
 use Rattle.sw_peer.proofs.Calls.{moves-refl}
 use Rattle.sw_object_steps.proofs.Hashes.{hash-apart, hash-same}
-use Rattle.sw_object_steps.specs.Flat.{stands}
 use Rattle.sw_object_steps.specs.Journals.{Hash}
 use Rattle.sw_object_steps.specs.Parts.{Counts, IsOfPart}
+use Rattle.sw_object_steps.specs.Values.{ObjValue}
 use Rattle.sw_peer.specs.Sights.{HoldsAll, IsAt, Sight}
 use Rattle.sw_replicator.proofs.Covering.{Watches, run-covers}
 use Rattle.sw_replicator.proofs.Going.{Passes}
@@ -20,7 +20,7 @@ use Rattle.sw_replicator.proofs.Passing.{pass-made, pass-moves, pass-part, pass-
 use Rattle.sw_replicator.proofs.Reaching.{Told, done-goes, told-of}
 use Rattle.sw_replicator.proofs.Reading.{IsOne, later, pair-trans, told-before, write-held, write-holds}
 use Rattle.sw_replicator.proofs.Taking.{Covers, file-alike, keeps-all}
-use Rattle.sw_replicator.specs.Meeting.{Collides, IsOfPair, Meets, PairMoves, known}
+use Rattle.sw_replicator.specs.Meeting.{Collides, IsOfPair, Meets, PairMoves, known, state_at, state_by}
 use Rattle.sw_replicator.specs.Pushing.{IsPush}
 use Rattle.sw_state.proofs.JoinLaws.{join_is_at_least, joined-together}
 use Rattle.sw_state.proofs.StateLaws.{associates, idempotent, joins_lists}
@@ -34,11 +34,17 @@ module _ (from to part : ℕ) (hash : Hash) where
   Alone s = Told from to part hash s × (s.alone ≡ true)
 
   abbrev Holds : ℕ → Sight → State
-  Holds d s = s.objects.holds d hash
+  Holds d s = state_at s d hash
+
+  abbrev Value : ℕ → Sight → ObjValue
+  Value d s = s.objects.holds d hash
+
+  same_state : (v u : ObjValue) → v ≡ u → v.state ≡ u.state
+  same_state v u same = ap (λ (x : ObjValue). x.state) same
 
   -- the sender holds what it held, and only writes of it came to the receiver
   pub record IsSent (a b : Sight) : Type 0 where
-    pub kept : Holds from b ≡ Holds from a
+    pub kept : Value from b ≡ Value from a
     pub writes : List Write
     pub are : AreOf (Holds from a) writes
     pub joins : Holds to b ≡ together (Holds to a) (state_of writes)
@@ -46,7 +52,7 @@ module _ (from to part : ℕ) (hash : Hash) where
   abbrev Follows : Sight → Sight → Type 0
   Follows a b = PairMoves from to part a b × (Alone b → IsSent a b)
 
-  nothing-sent : (a b : Sight) → Holds from b ≡ Holds from a → Holds to b ≡ Holds to a → IsSent a b
+  nothing-sent : (a b : Sight) → Value from b ≡ Value from a → Holds to b ≡ Holds to a → IsSent a b
   nothing-sent a b from_same to_same = record {
     kept = from_same;
     writes = [];
@@ -61,7 +67,7 @@ module _ (from to part : ℕ) (hash : Hash) where
   sent-trans a b c p q = record {
     kept = q.kept ∙ p.kept;
     writes = p.writes ++ q.writes;
-    are = All-append (Contains (writes_of (Holds from a))) p.writes q.writes p.are (subst (λ (s : State). AreOf s q.writes) p.kept q.are);
+    are = All-append (Contains (writes_of (Holds from a))) p.writes q.writes p.are (subst (λ (v : ObjValue). AreOf v.state q.writes) p.kept q.are);
     joins =
         q.joins
         ∙ (ap (λ (s : State). together s (state_of q.writes)) p.joins
@@ -73,7 +79,8 @@ module _ (from to part : ℕ) (hash : Hash) where
 
   holds-up : (a b : Sight) (d : ℕ) → IsOne from to d → Follows a b → Alone b → IsAtLeast (Holds d b) (Holds d a)
   holds-up a b d (inl is) r sure =
-      let same : Holds d b ≡ Holds d a = subst (λ (k : ℕ). Holds k b ≡ Holds k a) (sym is) (r.1 sure).kept in
+      let same : Holds d b ≡ Holds d a =
+      subst (λ (k : ℕ). Holds k b ≡ Holds k a) (sym is) (same_state (Value from b) (Value from a) (r.1 sure).kept) in
       subst (λ (s : State). IsAtLeast s (Holds d a)) (sym same) (idempotent (Holds d a))
   holds-up a b d (inr is) r sure =
       subst (λ (k : ℕ). IsAtLeast (Holds k b) (Holds k a)) (sym is)
@@ -99,10 +106,10 @@ module _ (from to part : ℕ) (hash : Hash) where
     alone-a sure = alone-before a c moves sure
 
     name-is : p.stored.name.hash ≡ h
-    name-is = (pass-stored from to part h file a c p).hash_is
+    name-is = (pass-stored from to part h file a c p is).hash_is
 
     -- what the sender holds stays, and what the receiver holds under another hash
-    others-same : Alone c → (d : ℕ) → (d ≢ to) ⊎ (h ≢ hash) → Holds d c ≡ Holds d a
+    others-same : Alone c → (d : ℕ) → (d ≢ to) ⊎ (h ≢ hash) → Value d c ≡ Value d a
     others-same sure d away =
         made-kept to p.stored.name p.stored.write p.mid p.answer c p.made sure.1 d hash (other away) ∙ read-keeps (alone-mid sure).1 d hash
       where
@@ -114,16 +121,16 @@ module _ (from to part : ℕ) (hash : Hash) where
     is-own : Alone c → h ≡ hash → Contains (writes_of (Holds from a)) p.stored.write
     is-own sure same =
         subst (λ (s : State). Contains (writes_of s) p.stored.write) stood
-        ((pass-stored from to part h file a c p).counts (alone-mid sure).0.0 (subst (λ (s : State). Counts s file) (sym stood) still))
+        ((pass-stored from to part h file a c p is).counts (alone-mid sure).0.0 (subst (λ (s : State). Counts s file) (sym stood) still))
       where
-        stood : stands (known p.mid from part) h ≡ Holds from a
+        stood : state_by (known p.mid from part) h ≡ Holds from a
         stood =
-            write-held from part h file a (Some p.stored) p.mid p.read is (alone-mid sure).1 (alone-mid sure).0.0
-            ∙ (ap (p.mid.objects.holds from) same ∙ read-keeps (alone-mid sure).1 from hash)
+            write-held from part h file a (Some p.stored) p.mid p.read (alone-mid sure).1 (alone-mid sure).0.0
+            ∙ (ap (state_at p.mid from) same ∙ same_state (Value from p.mid) (Value from a) (read-keeps (alone-mid sure).1 from hash))
 
         still : Counts (Holds from a) file
         still =
-            subst (λ (s : State). Counts s file) (sym (r.1 (alone-a sure)).kept)
+            subst (λ (v : ObjValue). Counts v.state file) (sym (r.1 (alone-a sure)).kept)
             (counts same (alone-before n a r.0 (alone-a sure)))
 
     sent-here : Alone c → h ≡ hash → IsSent a c
@@ -135,18 +142,21 @@ module _ (from to part : ℕ) (hash : Hash) where
         named : p.stored.name.hash ≡ hash
         named = name-is ∙ same
 
-        by : (c.objects.holds to p.stored.name.hash ≡ p.mid.objects.holds to p.stored.name.hash)
-            ⊎ (c.objects.holds to p.stored.name.hash ≡ joined (p.mid.objects.holds to p.stored.name.hash) w) → IsSent a c
+        read-same : Holds to p.mid ≡ Holds to a
+        read-same = same_state (Value to p.mid) (Value to a) (read-keeps (alone-mid sure).1 to hash)
+
+        by : (state_at c to p.stored.name.hash ≡ state_at p.mid to p.stored.name.hash)
+            ⊎ (state_at c to p.stored.name.hash ≡ joined (state_at p.mid to p.stored.name.hash) w) → IsSent a c
         by (inl stays) =
             nothing-sent a c (others-same sure from (inl apart))
-            (subst (λ (x : Hash). c.objects.holds to x ≡ p.mid.objects.holds to x) named stays ∙ read-keeps (alone-mid sure).1 to hash)
+            (subst (λ (x : Hash). state_at c to x ≡ state_at p.mid to x) named stays ∙ read-same)
         by (inr joins) = record {
           kept = others-same sure from (inl apart);
           writes = w ∷ [];
           are = All-cons (Contains (writes_of (Holds from a))) w [] (is-own sure same) (All-nil (Contains (writes_of (Holds from a))));
           joins =
-              subst (λ (x : Hash). c.objects.holds to x ≡ joined (p.mid.objects.holds to x) w) named joins
-              ∙ (ap (λ (s : State). joined s w) (read-keeps (alone-mid sure).1 to hash) ∙ joined-together (Holds to a) w);
+              subst (λ (x : Hash). state_at c to x ≡ joined (state_at p.mid to x) w) named joins
+              ∙ (ap (λ (s : State). joined s w) read-same ∙ joined-together (Holds to a) w);
         }
 
     passed-sent : Alone c → IsSent a c
@@ -155,12 +165,12 @@ module _ (from to part : ℕ) (hash : Hash) where
         by : (b : Bool) → bytes_eq h hash ≡ b → IsSent a c
         by true here = sent-here sure (hash-same h hash here)
         by false away =
-            nothing-sent a c (others-same sure from (inl apart)) (others-same sure to (inr (hash-apart h hash away)))
+            nothing-sent a c (others-same sure from (inl apart)) (same_state (Value to c) (Value to a) (others-same sure to (inr (hash-apart h hash away))))
 
     passed-covers : h ≡ hash → Alone c → Covers (Holds to c) file
     passed-covers same sure v named =
-        file-alike (Holds to c) p.stored.write v ((pass-stored from to part h file a c p).named ∙ sym named)
-        (subst (λ (x : Hash). joined (c.objects.holds to x) p.stored.write ≡ c.objects.holds to x) (name-is ∙ same)
+        file-alike (Holds to c) p.stored.write v ((pass-stored from to part h file a c p is).named ∙ sym named)
+        (subst (λ (x : Hash). joined (state_at c to x) p.stored.write ≡ state_at c to x) (name-is ∙ same)
         (made-holds to p.stored.name p.stored.write part p.mid p.answer c (pass-part from to part h file a c p is) p.made p.held sure.1 sure.0.1))
 
   holds-watched : from ≢ to → Watches from to part hash Alone Holds Follows
@@ -171,7 +181,7 @@ module _ (from to part : ℕ) (hash : Hash) where
     sure = λ a b r sure. alone-before a b r.0 sure;
     told = λ a d one sure. told-of from to part hash a d one sure.0;
     up = holds-up;
-    reads = λ a b r holds. (r, λ sure. nothing-sent a b (holds sure.1 from hash) (holds sure.1 to hash));
+    reads = λ a b r holds. (r, λ sure. nothing-sent a b (holds sure.1 from hash) (same_state (Value to b) (Value to a) (holds sure.1 to hash)));
     tells = λ a d one sure held. held sure.1 (told-of from to part hash a d one sure.0);
     passes = λ n a c h file r is counts p. (
       (moves apart n a c h file r is counts p, passed-sent apart n a c h file r is counts p),
@@ -184,7 +194,7 @@ pub push-meets : (from to part : ℕ) (s t : Sight) (outcome : Outcome) → from
 push-meets from to part s t outcome apart push done alone told told' hash is = (sent.kept, by (r.1 sure is))
   where
     r : Follows from to part hash s t × (Alone from to part hash t → IsOfPart s.nodes.power part hash
-        → IsAtLeast (t.objects.holds to hash) (s.objects.holds from hash) ⊎ Collides from to part (suffix_of hash) s t)
+        → IsAtLeast (state_at t to hash) (state_at s from hash) ⊎ Collides from to part (suffix_of hash) s t)
     r =
         run-covers from to part hash (Alone from to part hash) (Holds from to part hash) (Follows from to part hash) (holds-watched from to part hash apart) s t
         (done-goes from to part s t outcome push done)
@@ -195,7 +205,7 @@ push-meets from to part s t outcome apart push done alone told told' hash is = (
     sent : IsSent from to part hash s t
     sent = r.0.1 sure
 
-    by : IsAtLeast (t.objects.holds to hash) (s.objects.holds from hash) ⊎ Collides from to part (suffix_of hash) s t
-        → (t.objects.holds to hash ≡ together (s.objects.holds to hash) (s.objects.holds from hash)) ⊎ Collides from to part (suffix_of hash) s t
-    by (inl least) = inl (joined-exactly (s.objects.holds to hash) (t.objects.holds to hash) (s.objects.holds from hash) sent.writes sent.are sent.joins least)
+    by : IsAtLeast (state_at t to hash) (state_at s from hash) ⊎ Collides from to part (suffix_of hash) s t
+        → (state_at t to hash ≡ together (state_at s to hash) (state_at s from hash)) ⊎ Collides from to part (suffix_of hash) s t
+    by (inl least) = inl (joined-exactly (state_at s to hash) (state_at t to hash) (state_at s from hash) sent.writes sent.are sent.joins least)
     by (inr collides) = inr collides

@@ -2,7 +2,6 @@
 use Rattle.std.proofs.Common.{◌≡◌, ℕ, ◌==◌, true, refl, sym, ◌∙◌, ap, subst, inl, inr, Ok}
 use Rattle.std.proofs.lemmas.Bool.Decides.{Decides-eqb}
 use Rattle.sw_pass.specs.declared.outcome.Outcome.{Outcome}
-use Rattle.sw_object_steps.specs.Flat.{stands}
 use Rattle.sw_object_steps.specs.Journals.{Hash}
 use Rattle.sw_peer.specs.Sights.{Sight}
 use Rattle.sw_peer.proofs.Calls.{moves-refl}
@@ -11,7 +10,7 @@ use Rattle.sw_replicator.proofs.Going.{RunGoes, run-goes}
 use Rattle.sw_replicator.proofs.Reading.{IsOne, known-least, later, pair-trans, told-before}
 use Rattle.sw_replicator.proofs.Passing.{pass-moves, pass-stands}
 use Rattle.sw_replicator.proofs.Taking.{Covers}
-use Rattle.sw_replicator.specs.Meeting.{IsOfPair, PairMoves, Reaches, known}
+use Rattle.sw_replicator.specs.Meeting.{IsOfPair, PairMoves, Reaches, known, state_by}
 use Rattle.sw_replicator.specs.Pushing.{IsPush}
 use Rattle.sw_state.specs.declared.state.State.{State}
 
@@ -28,7 +27,7 @@ module _ (from to part : ℕ) (hash : Hash) where
   Told s = ((known s from part).told ≡ true) × ((known s to part).told ≡ true)
 
   abbrev Stands : ℕ → Sight → State
-  Stands d s = stands (known s d part) hash
+  Stands d s = state_by (known s d part) hash
 
   pub told-of : (a : Sight) (d : ℕ) → IsOne from to d → Told a → (known a d part).told ≡ true
   told-of a d (inl is) told = subst (λ (k : ℕ). (known a k part).told ≡ true) (sym is) told.0
@@ -46,7 +45,7 @@ module _ (from to part : ℕ) (hash : Hash) where
     tells = λ a d one told held. refl;
     passes = λ n a c h file r is counts p. (
       pass-moves from to part h file a c p is,
-      λ same told. subst (λ (x : Hash). Covers (stands (known c to part) x) file) same (pass-stands from to part h file a c p is told.1),
+      λ same told. subst (λ (x : Hash). Covers (state_by (known c to part) x) file) same (pass-stands from to part h file a c p is told.1),
     );
   }
 

@@ -1,32 +1,40 @@
 -- What the reads of a push tell, and where its calls move.
 use Rattle.std.proofs.Common.{◌≡◌, ℕ, Bool, true, false, List, [], ◌∷◌, ◌++◌, get_or, refl, sym, ◌∙◌, ap, subst, ◌⊎◌, inl, inr, Option, Result, Ok, Err, IsOk}
-use Rattle.std.proofs.Common.{rules}
-use Rattle.std.specs.Bool.{⊤}
+use Rattle.std.proofs.Common.{arith, rules}
+use Rattle.std.proofs.lemmas.Bool.Decides.{nat_tests}
 use Rattle.std.specs.List.{All}
 use Rattle.std.specs.declared.alloc.Global.{Global}
 use Rattle.std.specs.declared.vec.Vec.{Vec}
 use Rattle.sw_diskfile.specs.declared.file_name.FileName.{FileName}
 use Rattle.sw_hashpath.specs.HashParts.{suffix_of}
 use Rattle.sw_hashpath.specs.declared.name.Name.{Name}
-use Rattle.sw_peer.proofs.Calls.{IsStep, calls-moves, comes-moves, made-step, moves-refl, moves-trans, moves-wider, part-step, same-refl}
-use Rattle.sw_object_steps.specs.Flat.{Grows, History, stands}
+use Rattle.sw_history.specs.Halves.{GrowsOf}
+use Rattle.sw_object_steps.proofs.Hashes.{hash-self}
+use Rattle.sw_object_steps.proofs.Parts.{file-by, hashes-as, lines-as}
+use Rattle.sw_object_steps.proofs.Words.{none-of}
+use Rattle.sw_object_steps.specs.Histories.{ReadsPart}
 use Rattle.sw_object_steps.specs.Journals.{Hash}
 use Rattle.sw_object_steps.specs.Parts.{AreHashes, AreLines, IsFile, IsOfPart}
-use Rattle.sw_peer.specs.Sights.{Calls, Comes, HoldsAll, IsAt, IsFilesRead, IsHashesRead, IsInPart, IsMade, IsPartRead, IsSame, IsWriteRead, Moves}
-use Rattle.sw_peer.specs.Sights.{Nodes, PartMoves, Sight}
+use Rattle.sw_object_steps.specs.Rules.{ObjHistory, obj_rules}
+use Rattle.sw_object_steps.specs.Values.{ObjValue}
 use Rattle.sw_object_steps.specs.declared.answer.Answer.{Answer}
 use Rattle.sw_object_steps.specs.declared.change.Change.{Change}
 use Rattle.sw_object_steps.specs.declared.dir_fault.DirFault.{DirFault}
+use Rattle.sw_object_steps.specs.declared.stored.Stored.{Stored}
+use Rattle.sw_peer.proofs.Calls.{IsStep, PartFrame, calls-moves, comes-moves, made-step, moves-refl, moves-trans, moves-wider, part-step, same-refl}
+use Rattle.sw_peer.specs.Sights.{Calls, Comes, HoldsAll, IsAt, IsFilesRead, IsHashesRead, IsInPart, IsMade, IsPartRead, IsSame, IsWriteRead, Moves}
+use Rattle.sw_peer.specs.Sights.{Nodes, PartMoves, Sight, in_part, in_suffix, is_one}
 use Rattle.sw_peer.specs.declared.link.Link.{Link}
 use Rattle.sw_peer.specs.declared.link.Link.TheVariants.{Local, Sent}
 use Rattle.sw_peer.specs.declared.link.Lost.{Lost}
 use Rattle.sw_peer.specs.declared.part_read.PartRead.{PartRead}
 use Rattle.sw_peer.specs.declared.part_read.PartRead.TheVariants.{Files, Hashes, Write}
-use Rattle.sw_object_steps.specs.declared.stored.Stored.{Stored}
 use Rattle.sw_replicator.proofs.Taking.{grown-least}
-use Rattle.sw_replicator.specs.Meeting.{IsOfPair, PairMoves, known}
+use Rattle.sw_replicator.specs.Meeting.{IsOfPair, PairMoves, known, state_at, state_by}
 use Rattle.sw_state.specs.States.{IsAtLeast}
 use Rattle.sw_state.specs.declared.state.State.{State}
+use Rattle.sw_step.proofs.Settled.{tell}
+use Rattle.sw_step.specs.Rules.{doubts_about}
 use Rattle.sw_suffix.specs.declared.dir_line.DirLine.{DirLine}
 use Rattle.sw_suffix.specs.declared.told.SuffixHash.{SuffixHash}
 
@@ -59,7 +67,7 @@ pair-trans from to part a b c p q =
     moves-trans (IsOfPair a.nodes.power from to part) a b c p (subst (λ (n : Nodes). Moves (IsOfPair n.power from to part) b c) p.nodes q)
 
 -- a read at one of the two devices
-part-pair : (from to part device : ℕ) (at : Hash → Type 0) (s t : Sight) → IsOne from to device → PartMoves device part at s t → PairMoves from to part s t
+part-pair : (from to part device : ℕ) (at : Hash → Bool) (s t : Sight) → IsOne from to device → PartMoves device part at s t → PairMoves from to part s t
 part-pair from to part device at s t one p =
     moves-wider (IsInPart s.nodes.power device part at) (IsOfPair s.nodes.power from to part) s t (λ d hash is. (is.1, side d is.0 one)) p
   where
@@ -68,13 +76,13 @@ part-pair from to part device at s t one p =
     side d same (inr their) = inr (same ∙ their)
 
 -- what is known of a device only grows
-pub later : (from to part device : ℕ) (a b : Sight) → PairMoves from to part a b → Grows (known a device part) (known b device part)
+pub later : (from to part device : ℕ) (a b : Sight) → PairMoves from to part a b → GrowsOf (known a device part) (known b device part)
 later from to part device a b p =
-    subst (λ (n : Nodes). Grows (known a device part) (b.objects.seen (n.part_lock device part))) (sym p.nodes)
+    subst (λ (n : Nodes). GrowsOf (known a device part) (b.objects.seen (n.part_lock device part))) (sym p.nodes)
     (p.objects.grows (a.nodes.part_lock device part))
 
 pub known-least : (from to part device : ℕ) (a b : Sight) (hash : Hash) → PairMoves from to part a b
-    → IsAtLeast (stands (known b device part) hash) (stands (known a device part) hash)
+    → IsAtLeast (state_by (known b device part) hash) (state_by (known a device part) hash)
 known-least from to part device a b hash p = grown-least (known a device part) (known b device part) hash (later from to part device a b p)
 
 pub told-before : (from to part device : ℕ) (a b : Sight) → PairMoves from to part a b → (known b device part).told ≡ true → (known a device part).told ≡ true
@@ -97,13 +105,13 @@ module _ {A : Type 0} (step : Sight → A → Sight → Type 0) where
 
 -- ---- reads of the partition
 
-module _ {A : Type 0} (link : Link) (device part : ℕ) (at : Hash → Type 0) (damages : Bool) (reading : Nodes → Bool → (Hash → State) → A → Type 0)
+module _ {A : Type 0} (link : Link) (device part : ℕ) (at : Nodes → Hash → Bool) (damages : Bool) (reading : Nodes → Bool → (Hash → State) → A → Type 0)
     (read : Result A DirFault → PartRead) where
   abbrev Reads : Sight → Result A DirFault → Sight → Type 0
   Reads = IsPartRead link device part at damages reading read
 
   abbrev Frame : Sight → Sight → Type 0
-  Frame = PartMoves device part at
+  Frame = PartFrame device part at
 
   is_step : IsStep Frame Reads
   is_step = part-step link device part at damages reading read
@@ -122,70 +130,77 @@ module _ {A : Type 0} (link : Link) (device part : ℕ) (at : Hash → Type 0) (
   read-holds : (s : Sight) (got : Result A DirFault) (t : Sight) → Calls Reads s link (Ok got) t → HoldsAll s t
   read-holds s got t p = came-holds s (p.0 ++ got ∷ []) t p.2
 
-  abbrev Shown : Nodes → History → A → Type 0
-  Shown nodes h got = reading nodes h.told (stands h) got
+  -- What is answered is right of one state for each hash that was read. No doubt of it is left, so that is what stands by the entries, and where the door
+  -- is alone what the device holds
+  record Tells (nodes : Nodes) (got : A) (alone : Bool) (g : ObjHistory) (holds : Hash → ObjValue) : Type 0 where
+    states : Hash → State
+    shown : reading nodes g.told states got
+    by : g.told ≡ true → (hash : Hash) → at nodes hash ≡ true → states hash ≡ state_by g hash
+    held : alone ≡ true → g.told ≡ true → (hash : Hash) → at nodes hash ≡ true → states hash ≡ (holds hash).state
 
-  -- what is read is told of what is known after it
-  read-told : (s : Sight) (got : A) (t : Sight) → Calls Reads s link (Ok (Ok got)) t
-      → reading s.nodes (known t device part).told (stands (known t device part)) got
-  read-told s got t p =
+  one-tells : (nodes : Nodes) (alone : Bool) (h g : ObjHistory) (got : A) (holds : Hash → ObjValue)
+      → ReadsPart alone h (at nodes) (reading nodes g.told) (Ok got) g holds → Tells nodes got alone g holds
+  one-tells nodes alone h g got holds p = record {
+    states = λ hash. (p.read hash).state;
+    shown = p.shown refl;
+    by = λ told hash is.
+        ap (λ (v : ObjValue). v.state)
+        (tell obj_rules g hash (p.read hash) (p.known told refl hash is) (none-of (doubts_about obj_rules hash g.journal.doubts) (p.settled refl hash is)));
+    held = λ alone told hash is. ap (λ (v : ObjValue). v.state) (p.held alone told refl hash is);
+  }
+
+  read-tells : (s : Sight) (got : A) (t : Sight) → Calls Reads s link (Ok (Ok got)) t
+      → Tells s.nodes got t.alone (known t device part) (t.objects.holds device)
+  read-tells s got t p =
       let r = last Reads s p.0 (Ok got) t p.2 in
       let m : Sight = r.0 in
       let n : Sight = r.1 in
       let before : m.nodes ≡ s.nodes = came-nodes s p.0 m r.2 in
       let after : n.nodes ≡ m.nodes = r.3.moves.nodes in
-      subst (λ (x : Sight). Shown s.nodes (known x device part) got) (sym r.4.same)
-      (subst (λ (k : Nodes). Shown s.nodes (n.objects.seen (k.part_lock device part)) got) (sym after)
-      (subst (λ (k : Nodes). Shown k (n.objects.seen (m.nodes.part_lock device part)) got) before r.3.step.shown))
+      subst (λ (x : Sight). Tells s.nodes got x.alone (known x device part) (x.objects.holds device)) (sym r.4.same)
+      (subst (λ (k : Nodes). Tells s.nodes got n.alone (n.objects.seen (k.part_lock device part)) (n.objects.holds device)) (sym after)
+      (subst (λ (k : Nodes). Tells k got n.alone (n.objects.seen (m.nodes.part_lock device part)) (n.objects.holds device)) before
+      (one-tells m.nodes n.alone (m.objects.seen (m.nodes.part_lock device part)) (n.objects.seen (m.nodes.part_lock device part)) got
+      (n.objects.holds device) r.3.step)))
 
-  -- and what is known is what the device holds
+  -- what is known is what the device holds
   read-held : (s : Sight) (got : A) (t : Sight) → Calls Reads s link (Ok (Ok got)) t → t.alone ≡ true → (known t device part).told ≡ true
-      → (hash : Hash) → IsOfPart s.nodes.power part hash → at hash → stands (known t device part) hash ≡ t.objects.holds device hash
-  read-held s got t p alone told hash is at_is =
-      let r = last Reads s p.0 (Ok got) t p.2 in
-      let m : Sight = r.0 in
-      let n : Sight = r.1 in
-      let before : m.nodes ≡ s.nodes = came-nodes s p.0 m r.2 in
-      let after : n.nodes ≡ m.nodes = r.3.moves.nodes in
-      let same : t ≡ record n { faults = t.faults; asks = t.asks; carriage = t.carriage } = r.4.same in
-      let alone_n : n.alone ≡ true = sym (ap (λ (x : Sight). x.alone) same) ∙ alone in
-      let told_n : (n.objects.seen (m.nodes.part_lock device part)).told ≡ true =
-      subst (λ (k : Nodes). (n.objects.seen (k.part_lock device part)).told ≡ true) after
-      (sym (ap (λ (x : Sight). (known x device part).told) same) ∙ told) in
-      ap (λ (x : Sight). stands (known x device part) hash) same
-      ∙ (ap (λ (k : Nodes). stands (n.objects.seen (k.part_lock device part)) hash) after
-      ∙ (r.3.step.held alone_n told_n refl hash (subst (λ (k : Nodes). IsOfPart k.power part hash) (sym before) is, at_is)
-      ∙ ap (λ (x : Sight). x.objects.holds device hash) (sym same)))
+      → (hash : Hash) → at s.nodes hash ≡ true → state_by (known t device part) hash ≡ state_at t device hash
+  read-held s got t p alone told hash is = let r = read-tells s got t p in sym (r.by told hash is) ∙ r.held alone told hash is
 
 -- those of the files of a suffix
 module _ (link : Link) (device part suffix : ℕ) where
-  abbrev IsThere : Hash → Type 0
-  IsThere hash = suffix_of hash ≡ suffix
-
   abbrev AreThere : Nodes → Bool → (Hash → State) → Vec DirLine Global → Type 0
   AreThere nodes told s got = AreLines nodes.power part suffix told s got.items
 
   abbrev as_files : Result (Vec DirLine Global) DirFault → PartRead
   as_files got = Files part suffix got
 
+  is-there : (nodes : Nodes) (hash : Hash) → IsOfPart nodes.power part hash → suffix_of hash ≡ suffix → in_suffix part suffix nodes hash ≡ true
+  is-there nodes hash is there = let own = is.part_is in grind (arith, nat_tests)
+
   pub files-move : (s : Sight) (r : Result (Result (Vec DirLine Global) DirFault) Lost) (t : Sight) → Calls (IsFilesRead link device part suffix) s link r t
-      → PartMoves device part IsThere s t
-  files-move = read-moves link device part IsThere false AreThere as_files
+      → PartFrame device part (in_suffix part suffix) s t
+  files-move = read-moves link device part (in_suffix part suffix) false AreThere as_files
 
   pub files-pair : (from to : ℕ) → IsOne from to device → (s : Sight) (r : Result (Result (Vec DirLine Global) DirFault) Lost) (t : Sight)
       → Calls (IsFilesRead link device part suffix) s link r t → PairMoves from to part s t
-  files-pair from to one s r t p = part-pair from to part device IsThere s t one (files-move s r t p)
+  files-pair from to one s r t p = part-pair from to part device (in_suffix part suffix s.nodes) s t one (files-move s r t p)
 
   module _ (s : Sight) (v : Vec DirLine Global) (t : Sight) (p : Calls (IsFilesRead link device part suffix) s link (Ok (Ok v)) t) where
     pub files-hold : HoldsAll s t
-    files-hold = read-holds link device part IsThere false AreThere as_files s (Ok v) t p
+    files-hold = read-holds link device part (in_suffix part suffix) false AreThere as_files s (Ok v) t p
 
-    pub files-told : AreLines s.nodes.power part suffix (known t device part).told (stands (known t device part)) v.items
-    files-told = read-told link device part IsThere false AreThere as_files s v t p
+    pub files-told : AreLines s.nodes.power part suffix (known t device part).told (state_by (known t device part)) v.items
+    files-told =
+        let r = read-tells link device part (in_suffix part suffix) false AreThere as_files s v t p in
+        lines-as s.nodes.power part suffix (known t device part).told (known t device part).told r.states (state_by (known t device part)) v.items (λ e. e)
+        (λ told hash is there. r.by told hash (is-there s.nodes hash is there)) r.shown
 
     pub files-held : (hash : Hash) → IsOfPart s.nodes.power part hash → suffix_of hash ≡ suffix → t.alone ≡ true → (known t device part).told ≡ true
-        → stands (known t device part) hash ≡ t.objects.holds device hash
-    files-held hash is there alone told = read-held link device part IsThere false AreThere as_files s v t p alone told hash is there
+        → state_by (known t device part) hash ≡ state_at t device hash
+    files-held hash is there alone told =
+        read-held link device part (in_suffix part suffix) false AreThere as_files s v t p alone told hash (is-there s.nodes hash is there)
 
     -- the lines are of hashes of the partition
     pub lines-within : All (λ line. IsOfPart t.nodes.power part line.hash) v.items
@@ -195,39 +210,40 @@ module _ (link : Link) (device part suffix : ℕ) where
 
 -- and those of the hashes of all suffixes
 module _ (link : Link) (device part : ℕ) where
-  abbrev IsAny : Hash → Type 0
-  IsAny hash = ⊤
-
   abbrev AreSuch : Nodes → Bool → (Hash → State) → Vec SuffixHash Global → Type 0
   AreSuch nodes told s got = AreHashes nodes.power part told s got.items
 
   abbrev as_hashes : Result (Vec SuffixHash Global) DirFault → PartRead
   as_hashes got = Hashes part got
 
+  is-in : (nodes : Nodes) (hash : Hash) → IsOfPart nodes.power part hash → in_part part nodes hash ≡ true
+  is-in nodes hash is = let own = is.part_is in grind (arith, nat_tests)
+
   pub hashes-move : (s : Sight) (r : Result (Result (Vec SuffixHash Global) DirFault) Lost) (t : Sight) → Calls (IsHashesRead link device part) s link r t
-      → PartMoves device part IsAny s t
-  hashes-move = read-moves link device part IsAny false AreSuch as_hashes
+      → PartFrame device part (in_part part) s t
+  hashes-move = read-moves link device part (in_part part) false AreSuch as_hashes
 
   pub hashes-pair : (from to : ℕ) → IsOne from to device → (s : Sight) (r : Result (Result (Vec SuffixHash Global) DirFault) Lost) (t : Sight)
       → Calls (IsHashesRead link device part) s link r t → PairMoves from to part s t
-  hashes-pair from to one s r t p = part-pair from to part device IsAny s t one (hashes-move s r t p)
+  hashes-pair from to one s r t p = part-pair from to part device (in_part part s.nodes) s t one (hashes-move s r t p)
 
   module _ (s : Sight) (v : Vec SuffixHash Global) (t : Sight) (p : Calls (IsHashesRead link device part) s link (Ok (Ok v)) t) where
     pub hashes-hold : HoldsAll s t
-    hashes-hold = read-holds link device part IsAny false AreSuch as_hashes s (Ok v) t p
+    hashes-hold = read-holds link device part (in_part part) false AreSuch as_hashes s (Ok v) t p
 
-    pub hashes-told : AreHashes s.nodes.power part (known t device part).told (stands (known t device part)) v.items
-    hashes-told = read-told link device part IsAny false AreSuch as_hashes s v t p
+    pub hashes-told : AreHashes s.nodes.power part (known t device part).told (state_by (known t device part)) v.items
+    hashes-told =
+        let r = read-tells link device part (in_part part) false AreSuch as_hashes s v t p in
+        hashes-as s.nodes.power part (known t device part).told (known t device part).told r.states (state_by (known t device part)) v.items (λ e. e)
+        (λ told hash is. r.by told hash (is-in s.nodes hash is)) r.shown
 
     pub hashes-held : (hash : Hash) → IsOfPart s.nodes.power part hash → t.alone ≡ true → (known t device part).told ≡ true
-        → stands (known t device part) hash ≡ t.objects.holds device hash
-    hashes-held hash is alone told = read-held link device part IsAny false AreSuch as_hashes s v t p alone told hash is tt
+        → state_by (known t device part) hash ≡ state_at t device hash
+    hashes-held hash is alone told =
+        read-held link device part (in_part part) false AreSuch as_hashes s v t p alone told hash (is-in s.nodes hash is)
 
 -- and that of a file
 module _ (device part : ℕ) (hash : Hash) (file : FileName) where
-  abbrev IsIt : Hash → Type 0
-  IsIt other = other ≡ hash
-
   abbrev AsStored : Nodes → Bool → (Hash → State) → Option Stored → Type 0
   AsStored nodes told s got = IsFile nodes.fits hash file told s got
 
@@ -235,23 +251,25 @@ module _ (device part : ℕ) (hash : Hash) (file : FileName) where
   as_write got = Write part hash file got
 
   pub write-move : (s : Sight) (r : Result (Result (Option Stored) DirFault) Lost) (t : Sight) → Calls (IsWriteRead Local device part hash file) s Local r t
-      → PartMoves device part IsIt s t
-  write-move = read-moves Local device part IsIt true AsStored as_write
+      → PartFrame device part (is_one hash) s t
+  write-move = read-moves Local device part (is_one hash) true AsStored as_write
 
   pub write-pair : (from to : ℕ) → IsOne from to device → (s : Sight) (r : Result (Result (Option Stored) DirFault) Lost) (t : Sight)
       → Calls (IsWriteRead Local device part hash file) s Local r t → PairMoves from to part s t
-  write-pair from to one s r t p = part-pair from to part device IsIt s t one (write-move s r t p)
+  write-pair from to one s r t p = part-pair from to part device (is_one hash s.nodes) s t one (write-move s r t p)
 
   module _ (s : Sight) (got : Option Stored) (t : Sight) (p : Calls (IsWriteRead Local device part hash file) s Local (Ok (Ok got)) t) where
     pub write-holds : HoldsAll s t
-    write-holds = read-holds Local device part IsIt true AsStored as_write s (Ok got) t p
+    write-holds = read-holds Local device part (is_one hash) true AsStored as_write s (Ok got) t p
 
-    pub write-told : IsFile s.nodes.fits hash file (known t device part).told (stands (known t device part)) got
-    write-told = read-told Local device part IsIt true AsStored as_write s got t p
+    pub write-told : IsOfPart s.nodes.power part hash → IsFile s.nodes.fits hash file (known t device part).told (state_by (known t device part)) got
+    write-told is =
+        let r = read-tells Local device part (is_one hash) true AsStored as_write s got t p in
+        file-by s.nodes.power part s.nodes.fits hash file is (known t device part).told r.states (state_by (known t device part)) got
+        (λ told other among. r.by told other (subst (λ (x : Hash). is_one hash s.nodes x ≡ true) (sym among.1) (hash-self hash))) r.shown
 
-    pub write-held : IsOfPart s.nodes.power part hash → t.alone ≡ true → (known t device part).told ≡ true
-        → stands (known t device part) hash ≡ t.objects.holds device hash
-    write-held is alone told = read-held Local device part IsIt true AsStored as_write s got t p alone told hash is refl
+    pub write-held : t.alone ≡ true → (known t device part).told ≡ true → state_by (known t device part) hash ≡ state_at t device hash
+    write-held alone told = read-held Local device part (is_one hash) true AsStored as_write s got t p alone told hash (hash-self hash)
 
 -- ---- a write at the receiver
 

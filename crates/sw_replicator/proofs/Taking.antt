@@ -2,21 +2,25 @@
 use Rattle.std.proofs.Common.{◌≡◌, Bool, true, false, ◌&&◌, nat_lt, List, [], ◌∷◌, ◌++◌, refl, sym, ◌∙◌, ap, subst, append_assoc, arith, Option, Some, None}
 use Rattle.std.proofs.lemmas.Bool.Decides.{nat_tests}
 use Rattle.std.proofs.lemmas.List.{append-nil}
-use Rattle.std.specs.List.{AllByRecursion}
+use Rattle.std.specs.List.{AllByRecursion, fold}
 use Rattle.std.specs.Option.{option_map, option_to_list}
 use Rattle.sw_diskfile.specs.StateFiles.{name_of, picked_of}
 use Rattle.sw_diskfile.specs.declared.file_name.FileName.{FileName}
 use Rattle.sw_diskfile.specs.declared.picking.Picked.{Picked}
+use Rattle.sw_history.specs.Halves.{GrowsOf}
 use Rattle.sw_object_steps.proofs.Answering.{outline-new}
-use Rattle.sw_object_steps.proofs.Hashes.{written-append}
-use Rattle.sw_object_steps.specs.Flat.{Grows, History, stands}
-use Rattle.sw_object_steps.specs.Journals.{Hash, written}
+use Rattle.sw_object_steps.proofs.Flat.{are-rules}
+use Rattle.sw_object_steps.specs.Journals.{Hash}
 use Rattle.sw_object_steps.specs.Outlines.{file_mark, is_new_to, mark_of, outline_of, picked_outline}
+use Rattle.sw_object_steps.specs.Rules.{ObjHistory, obj_applied, obj_rules}
+use Rattle.sw_object_steps.specs.Values.{ObjValue}
 use Rattle.sw_object_steps.specs.declared.entry.ObjEntry.{ObjEntry}
+use Rattle.sw_object_steps.specs.declared.entry.ObjEntry.TheVariants.{Wrote}
 use Rattle.sw_object_steps.specs.declared.outline.Outline.{Outline}
+use Rattle.sw_replicator.specs.Meeting.{state_by}
 use Rattle.sw_replicator.specs.Pushing.{is_wanted}
-use Rattle.sw_state.proofs.JoinLaws.{at_least_one_write, at_least_transitive, join_is_at_least}
-use Rattle.sw_state.proofs.StateLaws.{joins_lists, state_of-writes_of}
+use Rattle.sw_state.proofs.JoinLaws.{at_least_one_write, at_least_transitive, join_is_at_least, joined-together}
+use Rattle.sw_state.proofs.StateLaws.{idempotent, joins_lists, state_of-writes_of}
 use Rattle.sw_state.proofs.StateTests.{new_changes}
 use Rattle.sw_state.proofs.BaseOrder.{above-itself}
 use Rattle.sw_state.specs.Bases.{base_tag, base_time, is_deletion, is_new_base}
@@ -28,23 +32,27 @@ use Rattle.sw_state.specs.declared.base.Base.TheVariants as bases
 use Rattle.sw_state.specs.declared.state.State.{State}
 use Rattle.sw_state.specs.declared.write.Kind.TheVariants as kinds
 use Rattle.sw_state.specs.declared.write.Write.{Write}
+use Rattle.sw_step.proofs.Keeping.{stand-more}
+use Rattle.sw_step.specs.Rules.{about, stands}
 use Rattle.sw_suffix.specs.SuffixTexts.{files}
 use Rattle.sw_timestamp.specs.declared.tag.Tag.TheVariants as tags
 
 -- ---- growth
 
--- a later history stands for what the earlier did, and more
-grown : (h g : History) (hash : Hash) (p : Grows h g) → stands g hash ≡ together (stands h hash) (state_of (written hash p.entries.0))
-grown h g hash p =
-    ap (λ (es : List ObjEntry). state_of (writes_of (g.opening hash) ++ written hash es)) p.entries.1
-    ∙ (ap (λ (ws : List Write). state_of (writes_of (g.opening hash) ++ ws)) (written-append hash h.journal.entries p.entries.0)
-    ∙ (ap (λ (o : State). state_of (writes_of o ++ (written hash h.journal.entries ++ written hash p.entries.0))) (p.opening hash)
-    ∙ (ap state_of (sym (append_assoc (writes_of (h.opening hash)) (written hash h.journal.entries) (written hash p.entries.0)))
-    ∙ sym (joins_lists (writes_of (h.opening hash) ++ written hash h.journal.entries) (written hash p.entries.0)))))
+-- entries only add
+entries-least : (v : ObjValue) (es : List ObjEntry) → IsAtLeast (fold obj_applied v es).state v.state
+entries-least v [] = idempotent v.state
+entries-least v (Wrote name w ∷ es) =
+    let next : ObjValue = obj_applied v (Wrote name w) in
+    at_least_transitive (fold obj_applied next es).state next.state v.state (entries-least next es)
+    (subst (λ (x : State). IsAtLeast x v.state) (sym (joined-together v.state w)) (join_is_at_least v.state (state_of (w ∷ []))).0)
 
-pub grown-least : (h g : History) (hash : Hash) → Grows h g → IsAtLeast (stands g hash) (stands h hash)
+-- so a later history stands for at least what the earlier did
+pub grown-least : (h g : ObjHistory) (hash : Hash) → GrowsOf h g → IsAtLeast (state_by g hash) (state_by h hash)
 grown-least h g hash p =
-    subst (λ (x : State). IsAtLeast x (stands h hash)) (sym (grown h g hash p)) (join_is_at_least (stands h hash) (state_of (written hash p.entries.0))).0
+    subst (λ (v : ObjValue). IsAtLeast v.state (state_by h hash))
+    (sym (stand-more obj_rules are-rules h g hash p.entries.0 p.opening p.entries.1))
+    (entries-least (stands obj_rules h hash) (about obj_rules hash p.entries.0))
 
 -- what is at least a state that a write doesn't change isn't changed by it
 pub least-keeps : (v s : State) (w : Write) → IsAtLeast v s → joined s w ≡ s → joined v w ≡ v

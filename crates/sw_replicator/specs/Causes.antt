@@ -3,10 +3,10 @@ use Rattle.std.specs.Prelude.{◌≡◌, ◌≢◌, ◌==◌, ℕ, ◌+◌, ◌-
 use Rattle.sw_outside.specs.Faults.{HasRisen}
 use Rattle.sw_pass.specs.declared.hindrance.Hindrance.{Hindrance}
 use Rattle.sw_pass.specs.declared.outcome.Outcome.{Outcome}
-use Rattle.sw_object_steps.specs.Flat.{History, stands}
 use Rattle.sw_object_steps.specs.Parts.{AreHashes}
+use Rattle.sw_object_steps.specs.Rules.{ObjHistory}
 use Rattle.sw_peer.specs.Sights.{Sight}
-use Rattle.sw_replicator.specs.Meeting.{Between}
+use Rattle.sw_replicator.specs.Meeting.{Between, state_by}
 use Rattle.sw_replicator.specs.Pushing.{differing}
 use Rattle.sw_suffix.specs.declared.told.SuffixHash.{SuffixHash}
 
@@ -14,12 +14,12 @@ use Rattle.sw_suffix.specs.declared.told.SuffixHash.{SuffixHash}
 pub record AsksEach (from to part : ℕ) (old new : Sight) (o : Outcome) : Type 0 where
   pub ours : List SuffixHash
   pub theirs : List SuffixHash
-  pub our_history : History
-  pub their_history : History
+  pub our_history : ObjHistory
+  pub their_history : ObjHistory
   pub ours_were : Between from part old new our_history
   pub theirs_were : Between to part old new their_history
-  pub ours_are : AreHashes old.nodes.power part our_history.told (stands our_history) ours
-  pub theirs_are : AreHashes old.nodes.power part their_history.told (stands their_history) theirs
+  pub ours_are : AreHashes old.nodes.power part our_history.told (state_by our_history) ours
+  pub theirs_are : AreHashes old.nodes.power part their_history.told (state_by their_history) theirs
   pub asked_is : o.asked ≡ min (1 + length (differing ours theirs)) (2 ^ 64 - 1)
   pub asks : new.asks ≡ min (old.asks + (1 + length (differing ours theirs))) (2 ^ 64 - 1)
 

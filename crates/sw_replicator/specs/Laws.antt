@@ -5,7 +5,7 @@ use Rattle.sw_pass.specs.declared.outcome.Outcome.{Outcome}
 use Rattle.sw_object_steps.specs.Journals.{Hash}
 use Rattle.sw_object_steps.specs.Parts.{IsOfPart}
 use Rattle.sw_peer.specs.Sights.{Sight}
-use Rattle.sw_replicator.specs.Meeting.{Collides, known}
+use Rattle.sw_replicator.specs.Meeting.{Collides, known, state_at}
 use Rattle.sw_replicator.specs.Pushing.{IsPush}
 use Rattle.sw_state.specs.States.{Agree, state_of, together, writes_of}
 
@@ -31,7 +31,7 @@ pub record IsExchange (a b part : ℕ) (s m n t : Sight) : Type 0 where
 
 -- what both hold of the hash is the same at both sights
 abbrev pub HoldSame : ℕ → ℕ → Hash → Sight → Sight → Type 0
-HoldSame a b hash m n = (n.objects.holds a hash ≡ m.objects.holds a hash) × (n.objects.holds b hash ≡ m.objects.holds b hash)
+HoldSame a b hash m n = (state_at n a hash ≡ state_at m a hash) × (state_at n b hash ≡ state_at m b hash)
 
 -- the texts of the hash's suffix collided in one of the two pushes
 abbrev pub CollidesOnce : ℕ → ℕ → ℕ → Hash → Sight → Sight → Sight → Sight → Type 0
@@ -40,14 +40,14 @@ CollidesOnce a b part hash s m n t = Collides a b part (suffix_of hash) s m ⊎ 
 -- Where nothing else changed a hash of the partition in between, both then hold the join of what both held
 abbrev pub ExchangeMeets : Type 0
 ExchangeMeets = (a b part : ℕ) (s m n t : Sight) → IsExchange a b part s m n t → (hash : Hash) → IsOfPart s.nodes.power part hash → HoldSame a b hash m n
-    → ((t.objects.holds b hash ≡ together (s.objects.holds b hash) (s.objects.holds a hash))
-    × (t.objects.holds a hash ≡ together (s.objects.holds a hash) (t.objects.holds b hash)))
+    → ((state_at t b hash ≡ together (state_at s b hash) (state_at s a hash))
+    × (state_at t a hash ≡ together (state_at s a hash) (state_at t b hash)))
     ⊎ CollidesOnce a b part hash s m n t
 
 -- Where moreover the writes of what both held at the start agree, both then hold one state: that of the writes of both
 abbrev pub ExchangeAgrees : Type 0
 ExchangeAgrees = (a b part : ℕ) (s m n t : Sight) → IsExchange a b part s m n t → (hash : Hash) → IsOfPart s.nodes.power part hash → HoldSame a b hash m n
-    → Agree (writes_of (s.objects.holds a hash) ++ writes_of (s.objects.holds b hash))
-    → ((t.objects.holds a hash ≡ state_of (writes_of (s.objects.holds a hash) ++ writes_of (s.objects.holds b hash)))
-    × (t.objects.holds b hash ≡ state_of (writes_of (s.objects.holds a hash) ++ writes_of (s.objects.holds b hash))))
+    → Agree (writes_of (state_at s a hash) ++ writes_of (state_at s b hash))
+    → ((state_at t a hash ≡ state_of (writes_of (state_at s a hash) ++ writes_of (state_at s b hash)))
+    × (state_at t b hash ≡ state_of (writes_of (state_at s a hash) ++ writes_of (state_at s b hash))))
     ⊎ CollidesOnce a b part hash s m n t

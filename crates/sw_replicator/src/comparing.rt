@@ -2,7 +2,7 @@ ghost use Rattle.std.specs.Prelude.{◌≡◌, map, not};
 ghost use Rattle.std.specs.Cmp.Lexicographic.{slice_cmp};
 ghost use Rattle.std.specs.List.Sorted.{IsStrictlySortedBy};
 ghost use Rattle.std.specs.Ordering.{nat_cmp};
-ghost use Rattle.sw_peer.specs.Parts as parts;
+ghost use Rattle.sw_object_steps.specs.Parts as parts;
 ghost use Rattle.sw_replicator.specs.Pushing as pushing;
 
 use sw_diskfile::{FileName, Picked};

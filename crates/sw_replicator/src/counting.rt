@@ -4,9 +4,9 @@ ghost use Rattle.sw_object_steps.specs.declared.change.Change.TheVariants.{Recei
 ghost use Rattle.sw_replicator.specs.Pushing.{CountsFor, Hinders};
 ghost use Rattle.sw_state.specs.declared.write.Write.{Write};
 
+use sw_object_steps::Answer;
 use sw_outside::NoMemory;
 use sw_pass::{Hindrance, Outcome};
-use sw_object_steps::Answer;
 
 /// Counts an answer that gave nothing. Want of memory is none of these: it ends the push.
 pub(crate) fn hinder(hindrance: Option<Hindrance>, outcome: &mut Outcome) -> Result<(), NoMemory>

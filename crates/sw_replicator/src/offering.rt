@@ -14,9 +14,9 @@ use crate::counting::{count_answer, hinder};
 use crate::route::Route;
 use std::alloc::Global;
 use sw_diskfile::{FileName, Picked};
+use sw_object_steps::{Change, Stored};
 use sw_outside::NoMemory;
 use sw_pass::{Hindrance, Outcome};
-use sw_object_steps::{Change, Stored};
 use sw_peer::{Link, Lost, ReplicaDoor};
 use sw_suffix::DirLine;
 

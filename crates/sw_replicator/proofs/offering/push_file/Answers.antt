@@ -31,7 +31,7 @@ transfer-requires-clause-fits g c =
     let is = write-told c.args.route.from c.args.route.part c.args.hash.now c.args.file.now (s c.args.door.now) (Some c.in-Ok-Some.stored)
     (s c.read_write-read.new.self)
     (heard step (s c.args.door.now) Local c.read_write-read.result (Ok (Ok (Some c.in-Ok-Some.stored))) (s c.read_write-read.new.self)
-    (cc) c.read_write-read.ensures.read) in
+    (cc) c.read_write-read.ensures.read) c.requires.within in
     ap (λ (n : Nodes). n.fits c.in-Ok-Some.stored.name) moves.nodes ∙ is.fits_is
 
 pub returns-in-Ok-Some-clause-pushes : goal.returns-in-Ok-Some-clause-pushes

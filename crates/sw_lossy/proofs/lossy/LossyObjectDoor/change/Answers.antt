@@ -83,4 +83,4 @@ returns-in-Err-clause-made g c =
     let same = kept (fate_of now.acts c.args.link now.messages) now.faults next.faults is_twice c.next.ensures.faults in
     uncopied c.args.link c.args.device c.args.name.now c.args.change (g.D.Door.sight now.door) (g.D.Door.sight next.door) now.acts next.acts now.messages
     next.messages now.faults next.faults
-    now.asks next.asks is_twice (ap g.D.Door.sight c.next.ensures.door) c.next.ensures.acts c.next.ensures.messages same c.next.ensures.asks
+    now.asks next.asks is_twice (ap g.D.Door.sight c.next.ensures.door) c.next.ensures.acts c.next.ensures.messages same c.next.ensures.asks c.may_stand.ensures
