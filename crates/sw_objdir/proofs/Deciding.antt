@@ -23,7 +23,7 @@ use Rattle.sw_object_steps.specs.Histories.{single_journal}
 use Rattle.sw_object_steps.specs.Rules.{Writes as Changes, obj_ending, obj_rules}
 use Rattle.sw_object_steps.specs.Values.{bare}
 use Rattle.sw_objdir.proofs.Journaling.{seen-step}
-use Rattle.sw_objdir.proofs.Looking.{held-same, looks-trans, order-same, step-of, tells-now, told-same}
+use Rattle.sw_objdir.proofs.Looking.{held-same, looks-trans, order-same, tells-now, told-same}
 use Rattle.sw_objdir.specs.Calling.{Called, Looked, NoListing, WritesFile, Written, Wrote, read_calls, reads_of}
 use Rattle.sw_objdir.specs.Directories.{IsDir, Kept, held, history_of, is_told, steps_of}
 use Rattle.sw_objdir.specs.Stepping.{IsSeenAs, IsStep, LooksAt}
@@ -166,11 +166,13 @@ module _ {V : Type 0} (tells : V → Bool) (files : V → Folders) (faults calls
         → (seen : IsSeenAs tells files faults n name.hash o change refused)
         → EndsSeen obj_rules e (bare seen.state) (single_journal n.journal) name.hash (Changes name change) answer [] (single_journal n.journal)
         → IsStep tells files faults n name change answer n
-    unmade answer e ends never refused seen so = step-of tells files faults n n name change answer
-        (record { began = refl; secrets = refl; power = refl; told = refl }) (λ hash apart. refl)
-        (seen-step (history_of tells files faults n) (held tells files faults n) dir.kept name change answer n.journal (faults n.volume)
-        (record { entries = ([], sym (append-nil n.journal.entries)); max_entries = refl; max_bytes = refl }) (omega arith) e ends
-        (λ is. absurd (never is)) settled seen.state seen.held_is [] so (held tells files faults n name.hash) (λ told. refl))
+    unmade answer e ends never refused seen so = record {
+      same = record { began = refl; secrets = refl; power = refl; told = refl };
+      others = λ hash apart. refl;
+      changes = seen-step (history_of tells files faults n) (held tells files faults n) dir.kept name change answer n.journal (faults n.volume)
+          (record { entries = ([], sym (append-nil n.journal.entries)); max_entries = refl; max_bytes = refl }) (omega arith) e ends
+          (λ is. absurd (never is)) settled seen.state seen.held_is [] so (held tells files faults n name.hash) (λ told. refl);
+    }
 
     pub step-refused : (answer : Answer) → is_refusal answer ≡ true → IsSeenAs tells files faults n name.hash o change (Some answer)
         → IsStep tells files faults n name change answer n

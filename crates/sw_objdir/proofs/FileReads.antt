@@ -14,25 +14,26 @@ use Rattle.sw_hashdir.specs.declared.reading.ReadFault.{ReadFault}
 use Rattle.sw_hashdir.specs.declared.reading.ReadFault.TheVariants as reads
 use Rattle.sw_hashpath.specs.declared.decode_error.BadFile.{BadFile}
 use Rattle.sw_hashpath.specs.declared.secrets.Secrets.{Secrets}
-use Rattle.sw_object_steps.proofs.Parts.{file-reads}
-use Rattle.sw_objdir.proofs.Looking.{all-held, dir-moved, held-told, looks-moved, looks-trans, part-of, part-reads, tells-now}
+use Rattle.sw_objdir.proofs.Looking.{all-held, dir-moved, held-told, looks-moved, looks-trans, part-reads, tells-now}
 use Rattle.sw_objdir.proofs.OneFile.{IsReadIn, damaged-never, is-file}
 use Rattle.sw_objdir.proofs.Reading.{found-still, risen-once}
 use Rattle.sw_objdir.specs.Comparing.{HasDoubt, IfDamagedPart, Looks, ReadsOnce, SettlesDoubt, fault_of_read, fault_of_volume, listings_of}
 use Rattle.sw_objdir.specs.Directories.{IsDir, Kept, held, is_told}
-use Rattle.sw_objdir.specs.Stepping.{IsPartStep, LooksAt, ReadsHashes, SameFiles}
+use Rattle.sw_objdir.specs.Stepping.{IsPartStep, LooksAt, SameFiles}
 use Rattle.sw_objdir.specs.declared.comparing.Scope.TheVariants as scopes
 use Rattle.sw_outside.specs.Counts.{raised}
 use Rattle.sw_outside.specs.Faults.{HasRisen}
 use Rattle.sw_object_steps.proofs.Hashes.{hash-same, hash-self}
 use Rattle.sw_object_steps.specs.Journals.{Hash, Journal, written}
-use Rattle.sw_object_steps.specs.Parts.{IsFile, IsOfPart}
-use Rattle.sw_object_steps.specs.Flat.{ShowsPart}
+use Rattle.sw_object_steps.specs.Parts.{IsFile}
+use Rattle.sw_object_steps.specs.Histories.{IsGiven, part_look}
+use Rattle.sw_object_steps.specs.Values.{bare}
 use Rattle.sw_object_steps.specs.declared.dir_fault.DirFault.{DirFault}
 use Rattle.sw_object_steps.specs.declared.dir_fault.DirFault.TheVariants as faulted
 use Rattle.sw_object_steps.specs.declared.entry.ObjEntry.{ObjEntry}
 use Rattle.sw_object_steps.specs.declared.stored.Stored.{Stored}
 use Rattle.sw_state.specs.declared.write.Write.{Write}
+use Rattle.sw_step.specs.Steps.{IsDamaged as IsFoundDamaged, IsLost, Tells}
 use Rattle.sw_volume.specs.Tree.{Folders, contents}
 use Rattle.sw_volume.specs.declared.errors.VolumeError.{VolumeError}
 use Rattle.sw_volume.specs.declared.errors.VolumeError.TheVariants as volumes
@@ -108,17 +109,6 @@ damaged-as A B (reads.Damaged bad) e P Q is f there = subst (λ (x : DirFault). 
 damaged-as A B reads.Failed e P Q is f there = subst (λ (x : DirFault). IfDamagedPart {A = B} (Err x) Q) (sym is) tt
 damaged-as A B reads.NoMemory e P Q is f there = subst (λ (x : DirFault). IfDamagedPart {A = B} (Err x) Q) (sym is) tt
 
--- a read of a file by the rules is one of flat histories
-pub file-part : {V : Type 0} (tells : V → Bool) (files : V → Folders) (faults : V → ℕ) (k n : Kept V) (part : ℕ) (hash : Hash) (file : FileName)
-    → IsOfPart k.power part hash → (got : Result (Option Stored) DirFault) → LooksAt tells files faults (bytes_eq hash) k n → IsDir tells files faults n
-    → ReadsHashes tells files faults k (bytes_eq hash) (λ told s got. IsFile (is_hashed k.secrets) hash file told s got) got n
-    → IsPartStep tells files faults k (λ other. IsOfPart k.power part other × (other ≡ hash)) true
-    (λ told s got. IsFile (is_hashed k.secrets) hash file told s got) got n
-file-part tells files faults k n part hash file of got looks after reads =
-    part-of tells files faults k n (bytes_eq hash) (λ other. IsOfPart k.power part other × (other ≡ hash)) true
-    (λ told s got. IsFile (is_hashed k.secrets) hash file told s got) got looks after
-    (file-reads k.power part (is_hashed k.secrets) hash file of) (λ bad is. refl) reads
-
 module _ {V : Type 0} (tells : V → Bool) (files : V → Folders) (faults : V → ℕ) (k m : Kept V) (hash : Hash)
     (looks : LooksAt tells files faults (bytes_eq hash) k m)
     (after : IsDir tells files faults m) (fine : faults m.volume ≡ faults k.volume) (v : V) (told_is : tells v ≡ tells m.volume)
@@ -138,15 +128,18 @@ module _ {V : Type 0} (tells : V → Bool) (files : V → Folders) (faults : V �
   file-dir = dir-moved tells files faults m v after told_is stay
 
   abbrev Reads : Result (Option Stored) DirFault → Type 0
-  Reads got = ReadsHashes tells files faults k (bytes_eq hash) (λ told s got. IsFile (is_hashed k.secrets) hash file told s got) got moved
+  Reads got = IsPartStep tells files faults k (bytes_eq hash) true (λ told s got. IsFile (is_hashed k.secrets) hash file told s got) got moved
 
   -- what was told of the file is what a read of the hash gives
   read-so : (got : Result (Option Stored) DirFault)
-      → ShowsPart (is_told tells files faults m) true (held tells files faults m) (λ told s got. IsFile (is_hashed k.secrets) hash file told s got) got
-      → (got ≡ Err faulted.Failed → HasRisen (faults k.volume) (faults v)) → Reads got
-  read-so got shown cause = part-reads tells files faults k moved (bytes_eq hash) (λ told s got. IsFile (is_hashed k.secrets) hash file told s got) got
+      → (part_look got ≡ Tells → IsGiven (λ s x. IsFile (is_hashed k.secrets) hash file (is_told tells files faults m) s x)
+      (λ other. bare (held tells files faults m other)) got)
+      → (part_look got ≡ IsFoundDamaged → is_told tells files faults m ≡ false)
+      → (part_look got ≡ IsLost → HasRisen (faults k.volume) (faults v)) → Reads got
+  read-so got shown orderly cause = part-reads tells files faults k moved (bytes_eq hash) true
+      (λ told s got. IsFile (is_hashed k.secrets) hash file told s got) got
       file-looks file-dir (λ given other is. subst (λ (h : Hash). written h m.journal.doubts ≡ []) (hash-same hash other is) none)
-      (held tells files faults m) (λ other. sym (all-held tells files faults (bytes_eq hash) m moved moves after other)) shown cause
+      (held tells files faults m) (λ other. sym (all-held tells files faults (bytes_eq hash) m moved moves after other)) shown orderly (λ bad is. refl) cause
 
   read-in : is_told tells files faults m ≡ true
       → IsReadIn m.secrets m.power (files m.volume) hash (held tells files faults m hash)
@@ -155,15 +148,15 @@ module _ {V : Type 0} (tells : V → Bool) (files : V → Folders) (faults : V �
   pub file-given : (found : Option Stored)
       → (tells m.volume ≡ true → IsFound m.secrets hash file (contents (files m.volume) path (name_text file)) (option_map (λ x. x.write) found))
       → IfSome found (λ x. name_of x.write ≡ file) → IfSome found (λ x. (x.name.hash ≡ hash) × IsHashed m.secrets x.name)
-      → ReadsHashes tells files faults k (bytes_eq hash) (λ told s got. IsFile (is_hashed k.secrets) hash file told s got) (Ok found) (record m { volume = v })
-  file-given found is named hashed =
+      → IsPartStep tells files faults k (bytes_eq hash) true (λ told s got. IsFile (is_hashed k.secrets) hash file told s got) (Ok found) (record m { volume = v })
+  file-given found there named hashed =
       read-so (Ok found)
-      (subst (λ (x : Secrets). IsFile (is_hashed x) hash file (is_told tells files faults m) (held tells files faults m) found)
+      (λ is. subst (λ (x : Secrets). IsFile (is_hashed x) hash file (is_told tells files faults m) (held tells files faults m) found)
       looks.same.secrets
       (is-file m.secrets m.power (files m.volume) hash (held tells files faults m) file (is_told tells files faults m) found le read-in
       (λ told. subst (λ (p : List ℕ). IsFound m.secrets hash file (contents (files m.volume) p (name_text file)) (option_map (λ x. x.write) found)) path_is
-      (is (tells-now tells files faults m after told))) named hashed))
-      (λ e. cc)
+      (there (tells-now tells files faults m after told))) named hashed))
+      (λ e. cc) (λ e. cc)
 
   never : (bad : BadFile) → (tells m.volume ≡ true → IsDamaged m.secrets hash file (contents (files m.volume) path (name_text file)) bad)
       → is_told tells files faults m ≡ false
@@ -178,14 +171,14 @@ module _ {V : Type 0} (tells : V → Bool) (files : V → Folders) (faults : V �
       → IfDamaged {T = Option Stored} (Err fault)
       (λ bad. tells m.volume ≡ true → IsDamaged m.secrets hash file (contents (files m.volume) path (name_text file)) bad)
       → OnFailedRead {T = Option Stored} (Err fault) (faults v ≡ raised (faults m.volume))
-      → ReadsHashes tells files faults k (bytes_eq hash) (λ told s got. IsFile (is_hashed k.secrets) hash file told s got) (Err e) (record m { volume = v })
+      → IsPartStep tells files faults k (bytes_eq hash) true (λ told s got. IsFile (is_hashed k.secrets) hash file told s got) (Err e) (record m { volume = v })
   file-refused fault e is damaged failed = subst (λ (x : DirFault). Reads (Err x)) (sym is) (by fault damaged failed)
     where
       by : (x : ReadFault)
           → IfDamaged {T = Option Stored} (Err x)
           (λ bad. tells m.volume ≡ true → IsDamaged m.secrets hash file (contents (files m.volume) path (name_text file)) bad)
           → OnFailedRead {T = Option Stored} (Err x) (faults v ≡ raised (faults m.volume)) → Reads (Err (fault_of_read x))
-      by (reads.Damaged bad) there raise = read-so (Err (faulted.Damaged bad)) (refl, never bad there) (λ same. cc)
-      by reads.Failed there raise =
-          read-so (Err faulted.Failed) tt (λ same. risen-once (faults k.volume) (faults v) (raise ∙ ap raised fine))
-      by reads.NoMemory there raise = read-so (Err faulted.NoMemory) tt (λ same. cc)
+      by (reads.Damaged bad) there raise = read-so (Err (faulted.Damaged bad)) (λ is. cc) (λ is. never bad there) (λ is. cc)
+      by reads.Failed there raise = read-so (Err faulted.Failed) (λ is. cc) (λ is. cc)
+          (λ is. risen-once (faults k.volume) (faults v) (raise ∙ ap raised fine))
+      by reads.NoMemory there raise = read-so (Err faulted.NoMemory) (λ is. cc) (λ is. cc) (λ is. cc)

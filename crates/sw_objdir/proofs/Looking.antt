@@ -1,5 +1,5 @@
 -- A step that only looks at files and settles doubts changes nothing that a hash stands for.
-use Rattle.std.proofs.Common.{◌≡◌, ◌≢◌, ℕ, ◌≤◌, Bool, true, false, [], refl, sym, ◌∙◌, ap, subst, arith, length, inl, inr, Result, Ok, Err}
+use Rattle.std.proofs.Common.{◌≡◌, ℕ, ◌≤◌, Bool, true, false, [], refl, sym, ◌∙◌, ap, subst, arith, length, inl, inr, Result, Err}
 use Rattle.std.specs.List.{fold}
 use Rattle.std.specs.Str.{bytes_eq}
 use Rattle.std.proofs.lemmas.Bool.{and_parts, cases_Bool, cond-true, cond-false}
@@ -10,21 +10,16 @@ use Rattle.sw_hashpath.specs.declared.name.Name.{Name}
 use Rattle.sw_hashpath.specs.declared.secrets.Secrets.{Secrets}
 use Rattle.sw_history.proofs.Growing.{grows-refl, grows-trans}
 use Rattle.sw_history.specs.Halves.{GrowsOf}
-use Rattle.sw_object_steps.proofs.Flat.{changes-flat, reads-flat}
 use Rattle.sw_object_steps.proofs.Settlings.{settles-keeps, settles-more, settles-wider}
 use Rattle.sw_object_steps.proofs.Singles.{none-touched}
-use Rattle.sw_object_steps.proofs.Words.{single-flat}
-use Rattle.sw_object_steps.specs.Histories.{ChangesObject, IsGiven, ReadsObject, flat_history, got_look, part_look, single_journal}
-use Rattle.sw_object_steps.specs.Laws.{PartIsFlat}
+use Rattle.sw_object_steps.specs.Histories.{IsGiven, got_look, part_look, single_journal}
 use Rattle.sw_object_steps.specs.Rules.{obj_applied, obj_ending, obj_rules}
 use Rattle.sw_object_steps.specs.Values.{bare}
-use Rattle.sw_objdir.specs.Directories.{IsDir, Kept, held, history_of, is_told, steps_of, values_of}
-use Rattle.sw_objdir.specs.Stepping.{IsPartStep, IsReadStep, IsSameDir, IsStep, LooksAt, ReadsHashes, SameFiles}
+use Rattle.sw_objdir.specs.Directories.{IsDir, Kept, held, is_told, steps_of, values_of}
+use Rattle.sw_objdir.specs.Stepping.{IsPartStep, IsReadStep, IsSameDir, IsStep, LooksAt, SameFiles}
 use Rattle.sw_outside.specs.Faults.{HasRisen}
 use Rattle.sw_object_steps.proofs.Hashes.{hash-same, hash-self}
-use Rattle.sw_object_steps.specs.Flat.{History, StepChanges, StepReads}
 use Rattle.sw_object_steps.specs.Journals.{Hash, Shows, written}
-use Rattle.sw_object_steps.specs.Flat.{ShowsPart, StepReadsPart, is_given}
 use Rattle.sw_object_steps.specs.declared.answer.Answer.{Answer}
 use Rattle.sw_object_steps.specs.declared.change.Change.{Change}
 use Rattle.sw_object_steps.specs.declared.dir_fault.DirFault.{DirFault}
@@ -167,95 +162,71 @@ module _ {V : Type 0} (tells : V → Bool) (files : V → Folders) (faults : V �
         (record { began = sym looks.same.began; secrets = sym looks.same.secrets; power = sym looks.same.power; told = sym looks.same.told })
         (λ told d f. sym (looks.still (sym looks.same.told ∙ told) d f)) hash)
 
-  -- ---- steps by the rules are those of flat histories
-
-  pub step-of : (k n : Kept V) (name : Name) (change : Change) (answer : Answer) → IsSameDir tells files faults k n
-      → ((hash : Hash) → hash ≢ name.hash → held tells files faults n hash ≡ held tells files faults k hash)
-      → ChangesObject true (steps_of tells files faults k) (values_of tells files faults k) name change answer
-      (steps_of tells files faults n) (values_of tells files faults n name.hash)
-      → IsStep tells files faults k name change answer n
-  step-of k n name change answer same others changes = record {
-    same = same;
-    others = others;
-    changes = changes;
-    made = subst (λ (h : History). StepChanges true h (held tells files faults k name.hash) name change answer (history_of tells files faults n)
-        (held tells files faults n name.hash)) (single-flat (history_of tells files faults k))
-        (subst (λ (g : History). StepChanges true (flat_history (steps_of tells files faults k)) (held tells files faults k name.hash) name change answer g
-        (held tells files faults n name.hash)) (single-flat (history_of tells files faults n))
-        (changes-flat true (steps_of tells files faults k) (values_of tells files faults k) name change answer (steps_of tells files faults n)
-        (values_of tells files faults n name.hash) changes));
-  }
-
-  -- a read of hashes of a partition, of which one of the laws tells that it is one of flat histories
-  pub part-of : {A : Type 0} (k n : Kept V) (at : Hash → Bool) (among : Hash → Type 0) (damages : Bool) (reading : Bool → (Hash → State) → A → Type 0)
-      (got : Result A DirFault) → LooksAt tells files faults at k n → IsDir tells files faults n → PartIsFlat at among damages reading
-      → ((bad : BadFile) → got ≡ Err (faulted.Damaged bad) → damages ≡ true)
-      → ReadsHashes tells files faults k at reading got n → IsPartStep tells files faults k among damages reading got n
-  part-of k n at among damages reading got looks after law lets reads = record {
-    same = looks.same;
-    all = still-held at k n looks after;
-    read = subst (λ (h : History). StepReadsPart true h among damages reading got (history_of tells files faults n) (held tells files faults n))
-        (single-flat (history_of tells files faults k))
-        (subst (λ (g : History). StepReadsPart true (flat_history (steps_of tells files faults k)) among damages reading got g (held tells files faults n))
-        (single-flat (history_of tells files faults n))
-        (law true (steps_of tells files faults k) got (steps_of tells files faults n) (values_of tells files faults n) lets reads));
-  }
+  -- ---- steps
 
   module _ (k n : Kept V) (dir : IsDir tells files faults k) (name : Name) (looks : LooksAt tells files faults (λ key. bytes_eq key name.hash) k n)
       (change : Change) (answer : Answer) where
     -- the step is made from what looking left
     pub step-after : (m : Kept V) → IsStep tells files faults n name change answer m → IsStep tells files faults k name change answer m
-    step-after m step = step-of k m name change answer (record {
-      began = step.same.began ∙ looks.same.began;
-      secrets = step.same.secrets ∙ looks.same.secrets;
-      power = step.same.power ∙ looks.same.power;
-      told = step.same.told ∙ looks.same.told;
-    }) (λ hash apart. step.others hash apart ∙ all-held _ k n looks dir hash) (record {
-      own = step.changes.own;
-      before = step.changes.before;
-      looked = step.changes.looked;
-      read = step.changes.read;
-      made = step.changes.made;
-      follows = grows-trans (steps_of tells files faults k) (steps_of tells files faults n) step.changes.before (looks-grows _ k n looks)
-          step.changes.follows;
-      settles = λ alone. settles-more obj_rules (λ key. bytes_eq key name.hash) (steps_of tells files faults k) (steps_of tells files faults n)
-          step.changes.before looks.settles (step.changes.settles alone);
-      settled = step.changes.settled;
-      answered = step.changes.answered;
-      orderly = step.changes.orderly;
-      after = step.changes.after;
-      failed = λ is. risen-from (faults k.volume) (faults n.volume) (faults m.volume) looks.later (step.changes.failed is);
-      known = step.changes.known;
-      kept = λ alone told other is. subst (λ (s : State). CanStand obj_rules step.changes.before other (bare s)) (all-held _ k n looks dir other)
-          (step.changes.kept alone told other is);
-      held = λ alone told x. step.changes.held alone told x ∙ ap bare (all-held _ k n looks dir name.hash);
-      leaves = λ alone told. step.changes.leaves alone told
-          ∙ ap (λ (s : State). fold obj_applied (bare s) step.changes.made) (all-held _ k n looks dir name.hash);
-    })
+    step-after m step = record {
+      same = record {
+        began = step.same.began ∙ looks.same.began;
+        secrets = step.same.secrets ∙ looks.same.secrets;
+        power = step.same.power ∙ looks.same.power;
+        told = step.same.told ∙ looks.same.told;
+      };
+      others = λ hash apart. step.others hash apart ∙ all-held _ k n looks dir hash;
+      changes = record {
+        own = step.changes.own;
+        before = step.changes.before;
+        looked = step.changes.looked;
+        read = step.changes.read;
+        made = step.changes.made;
+        follows = grows-trans (steps_of tells files faults k) (steps_of tells files faults n) step.changes.before (looks-grows _ k n looks)
+            step.changes.follows;
+        settles = λ alone. settles-more obj_rules (λ key. bytes_eq key name.hash) (steps_of tells files faults k) (steps_of tells files faults n)
+            step.changes.before looks.settles (step.changes.settles alone);
+        settled = step.changes.settled;
+        answered = step.changes.answered;
+        orderly = step.changes.orderly;
+        after = step.changes.after;
+        failed = λ is. risen-from (faults k.volume) (faults n.volume) (faults m.volume) looks.later (step.changes.failed is);
+        known = step.changes.known;
+        kept = λ alone told other is. subst (λ (s : State). CanStand obj_rules step.changes.before other (bare s)) (all-held _ k n looks dir other)
+            (step.changes.kept alone told other is);
+        held = λ alone told x. step.changes.held alone told x ∙ ap bare (all-held _ k n looks dir name.hash);
+        leaves = λ alone told. step.changes.leaves alone told
+            ∙ ap (λ (s : State). fold obj_applied (bare s) step.changes.made) (all-held _ k n looks dir name.hash);
+      };
+    }
 
     -- the step gave up before what stands was compared
     pub step-unsettled : (e : Ending) → obj_ending answer ≡ e → EndsUnseen obj_rules e (single_journal n.journal) [] (single_journal n.journal)
         → IsDir tells files faults n → (e ≡ Damages → is_told tells files faults n ≡ false)
         → (e ≡ Fails → HasRisen (faults k.volume) (faults n.volume)) → IsStep tells files faults k name change answer n
-    step-unsettled e ends so after orderly cause = step-of k n name change answer looks.same (λ hash apart. all-held _ k n looks dir hash) (record {
-      own = hash-self name.hash;
-      before = steps_of tells files faults n;
-      looked = false;
-      read = values_of tells files faults n name.hash;
-      made = [];
-      follows = looks-grows _ k n looks;
-      settles = λ alone. looks.settles;
-      settled = λ x. cc;
-      answered = subst (λ (x : Ending). EndsUnseen obj_rules x (single_journal n.journal) [] (single_journal n.journal)) (sym ends) so;
-      orderly = λ damaged. orderly (sym ends ∙ damaged);
-      after = grows-refl (steps_of tells files faults n);
-      failed = λ is. cause (sym ends ∙ is);
-      known = λ told x. cc;
-      kept = λ alone told other reached. subst (λ (s : State). CanStand obj_rules (steps_of tells files faults n) other (bare s))
-          (all-held _ k n looks dir other) (after.kept.can told other);
-      held = λ alone told x. cc;
-      leaves = λ alone told. ap bare (all-held _ k n looks dir name.hash);
-    })
+    step-unsettled e ends so after orderly cause = record {
+      same = looks.same;
+      others = λ hash apart. all-held _ k n looks dir hash;
+      changes = record {
+        own = hash-self name.hash;
+        before = steps_of tells files faults n;
+        looked = false;
+        read = values_of tells files faults n name.hash;
+        made = [];
+        follows = looks-grows _ k n looks;
+        settles = λ alone. looks.settles;
+        settled = λ x. cc;
+        answered = subst (λ (x : Ending). EndsUnseen obj_rules x (single_journal n.journal) [] (single_journal n.journal)) (sym ends) so;
+        orderly = λ damaged. orderly (sym ends ∙ damaged);
+        after = grows-refl (steps_of tells files faults n);
+        failed = λ is. cause (sym ends ∙ is);
+        known = λ told x. cc;
+        kept = λ alone told other reached. subst (λ (s : State). CanStand obj_rules (steps_of tells files faults n) other (bare s))
+            (all-held _ k n looks dir other) (after.kept.can told other);
+        held = λ alone told x. cc;
+        leaves = λ alone told. ap bare (all-held _ k n looks dir name.hash);
+      };
+    }
 
   -- ---- a read
 
@@ -273,73 +244,46 @@ module _ {V : Type 0} (tells : V → Bool) (files : V → Folders) (faults : V �
   reads k n name got looks after settled s now shown cause = record {
     same = looks.same;
     all = still-held _ k n looks after;
-    reads = by_rules;
-    read = subst (λ (h : History). StepReads true h name.hash got (history_of tells files faults n) (held tells files faults n name.hash))
-        (single-flat (history_of tells files faults k))
-        (subst (λ (g : History). StepReads true (flat_history (steps_of tells files faults k)) name.hash got g (held tells files faults n name.hash))
-        (single-flat (history_of tells files faults n))
-        (reads-flat true (steps_of tells files faults k) name.hash got (steps_of tells files faults n) (values_of tells files faults n) by_rules));
+    reads = record {
+      read = λ hash. bare (s hash);
+      follows = looks-grows _ k n looks;
+      settles = λ alone. looks.settles;
+      settled = λ x key is. none-touched key n.journal.doubts
+          (subst (λ (h : Hash). written h n.journal.doubts ≡ []) (sym (hash-same key name.hash is)) (settled x));
+      shown = λ x. shown;
+      orderly = λ is. shows-damage (is_told tells files faults n) (s name.hash) (length n.journal.entries) got shown is;
+      failed = cause;
+      known = λ told x key is. subst (λ (v : State). CanStand obj_rules (steps_of tells files faults n) key (bare v)) (sym (now key))
+          (after.kept.can told key);
+      kept = λ alone told key is. after.kept.can told key;
+      held = λ alone told x key is. ap bare (now key);
+    };
   }
-    where
-      by_rules : ReadsObject true (steps_of tells files faults k) name.hash got (steps_of tells files faults n) (values_of tells files faults n)
-      by_rules = record {
-        read = λ hash. bare (s hash);
-        follows = looks-grows _ k n looks;
-        settles = λ alone. looks.settles;
-        settled = λ x key is. none-touched key n.journal.doubts
-            (subst (λ (h : Hash). written h n.journal.doubts ≡ []) (sym (hash-same key name.hash is)) (settled x));
-        shown = λ x. shown;
-        orderly = λ is. shows-damage (is_told tells files faults n) (s name.hash) (length n.journal.entries) got shown is;
-        failed = cause;
-        known = λ told x key is. subst (λ (v : State). CanStand obj_rules (steps_of tells files faults n) key (bare v)) (sym (now key))
-            (after.kept.can told key);
-        kept = λ alone told key is. after.kept.can told key;
-        held = λ alone told x key is. ap bare (now key);
-      }
 
   -- ---- a read of hashes of a partition
 
-  pub part-reads : {A : Type 0} (k n : Kept V) (at : Hash → Bool) (reading : Bool → (Hash → State) → A → Type 0) (got : Result A DirFault)
+  pub part-reads : {A : Type 0} (k n : Kept V) (at : Hash → Bool) (damages : Bool) (reading : Bool → (Hash → State) → A → Type 0) (got : Result A DirFault)
       → LooksAt tells files faults at k n → IsDir tells files faults n
-      → (is_given got ≡ true → (hash : Hash) → at hash ≡ true → written hash n.journal.doubts ≡ [])
-      → (s : Hash → State) → ((hash : Hash) → s hash ≡ held tells files faults n hash) → ShowsPart (is_told tells files faults n) true s reading got
-      → (got ≡ Err faulted.Failed → HasRisen (faults k.volume) (faults n.volume)) → ReadsHashes tells files faults k at reading got n
-  part-reads {A} k n at reading got looks after settled s now shown cause = record {
-    read = λ hash. bare (s hash);
-    follows = looks-grows _ k n looks;
-    settles = λ alone. looks.settles;
-    settled = λ x key is. none-touched key n.journal.doubts (settled (gives got x) key is);
-    shown = λ x. shows got shown x;
-    orderly = λ is. damages got shown is;
-    failed = λ is. cause (fails got is);
-    known = λ told x key is. subst (λ (v : State). CanStand obj_rules (steps_of tells files faults n) key (bare v)) (sym (now key))
-        (after.kept.can told key);
-    kept = λ alone told key is. after.kept.can told key;
-    held = λ alone told x key is. ap bare (now key);
+      → (part_look got ≡ Tells → (hash : Hash) → at hash ≡ true → written hash n.journal.doubts ≡ [])
+      → (s : Hash → State) → ((hash : Hash) → s hash ≡ held tells files faults n hash)
+      → (part_look got ≡ Tells → IsGiven (reading (is_told tells files faults n)) (λ hash. bare (s hash)) got)
+      → (part_look got ≡ IsDamaged → is_told tells files faults n ≡ false) → ((bad : BadFile) → got ≡ Err (faulted.Damaged bad) → damages ≡ true)
+      → (part_look got ≡ IsLost → HasRisen (faults k.volume) (faults n.volume)) → IsPartStep tells files faults k at damages reading got n
+  part-reads k n at damages reading got looks after settled s now shown orderly sound cause = record {
+    same = looks.same;
+    all = still-held at k n looks after;
+    reads = record {
+      read = λ hash. bare (s hash);
+      follows = looks-grows _ k n looks;
+      settles = λ alone. looks.settles;
+      settled = λ x key is. none-touched key n.journal.doubts (settled x key is);
+      shown = shown;
+      orderly = orderly;
+      failed = cause;
+      known = λ told x key is. subst (λ (v : State). CanStand obj_rules (steps_of tells files faults n) key (bare v)) (sym (now key))
+          (after.kept.can told key);
+      kept = λ alone told key is. after.kept.can told key;
+      held = λ alone told x key is. ap bare (now key);
+    };
+    sound = sound;
   }
-    where
-      gives : (x : Result A DirFault) → part_look x ≡ Tells → is_given x ≡ true
-      gives (Ok a) is = refl
-      gives (Err (faulted.Damaged bad)) is = cc
-      gives (Err faulted.Failed) is = cc
-      gives (Err faulted.NoMemory) is = cc
-
-      fails : (x : Result A DirFault) → part_look x ≡ IsLost → x ≡ Err faulted.Failed
-      fails (Ok a) is = cc
-      fails (Err (faulted.Damaged bad)) is = cc
-      fails (Err faulted.Failed) is = refl
-      fails (Err faulted.NoMemory) is = cc
-
-      shows : (x : Result A DirFault) → ShowsPart (is_told tells files faults n) true s reading x → part_look x ≡ Tells
-          → IsGiven (reading (is_told tells files faults n)) (λ hash. bare (s hash)) x
-      shows (Ok a) is looked = is
-      shows (Err (faulted.Damaged bad)) is looked = cc
-      shows (Err faulted.Failed) is looked = cc
-      shows (Err faulted.NoMemory) is looked = cc
-
-      damages : (x : Result A DirFault) → ShowsPart (is_told tells files faults n) true s reading x → part_look x ≡ IsDamaged
-          → is_told tells files faults n ≡ false
-      damages (Ok a) is looked = cc
-      damages (Err (faulted.Damaged bad)) is looked = is.1
-      damages (Err faulted.Failed) is looked = cc
-      damages (Err faulted.NoMemory) is looked = cc

@@ -16,7 +16,7 @@ use Rattle.sw_object_steps.specs.Histories.{ChangesObject, single_journal}
 use Rattle.sw_object_steps.specs.Rules.{obj_applied, obj_ending}
 use Rattle.sw_object_steps.specs.Values.{bare}
 use Rattle.sw_objdir.proofs.Journaling.{kept-after, seen-step}
-use Rattle.sw_objdir.proofs.Looking.{held-told, held-untold, step-of, tells-now}
+use Rattle.sw_objdir.proofs.Looking.{held-told, held-untold, tells-now}
 use Rattle.sw_objdir.specs.Directories.{IsDir, Kept, held, history_of, is_told, steps_of, values_of}
 use Rattle.sw_objdir.specs.Stepping.{IsSeenAs, IsStep}
 use Rattle.sw_outside.specs.Faults.{HasRisen}
@@ -125,22 +125,23 @@ module _ {V : Type 0} (tells : V → Bool) (files : V → Folders) (faults : V �
       pub step-enters : (front : ℕ) → front ≡ length entered.entries
           → IsStep tells files faults k name change (made_answer o change front)
           (record k { volume = v; journal = with_entry k.journal name (write_of change) })
-      step-enters front at = step-of tells files faults k (moved entered) name change (made_answer o change front)
-          (record { began = refl; secrets = refl; power = refl; told = told_is })
-          (others-held entered (λ told. (joins told).others))
-          (seen-step (history_of tells files faults k) (held tells files faults k) dir.kept name change (made_answer o change front) entered (faults v)
-          (record { entries = (Wrote name (write_of change) ∷ [], refl); max_entries = refl; max_bytes = refl }) up Makes (made-ends o change front)
-          (λ is. cc) settled stood.state stood.held_is (Wrote name (write_of change) ∷ [])
-          (record {
-            not_refused = stood.refuses;
-            room = room-single k.journal (write_of change) ∙ room;
-            is_made = refl;
-            entered = refl;
-            answer_is = ap (λ (x : Outline). made_answer x change front) stood.outline_is ∙ ap (made_answer (outline_of stood.state) change) at;
-          })
-          (held tells files faults (moved entered) name.hash)
-          (λ told. ap bare (held-told tells files faults (moved entered) name.hash told
-          ∙ ((joins told).here ∙ ap (λ (s : State). joined s (write_of change)) (sym (held-told tells files faults k name.hash told))))))
+      step-enters front at = record {
+        same = record { began = refl; secrets = refl; power = refl; told = told_is };
+        others = others-held entered (λ told. (joins told).others);
+        changes = seen-step (history_of tells files faults k) (held tells files faults k) dir.kept name change (made_answer o change front) entered (faults v)
+            (record { entries = (Wrote name (write_of change) ∷ [], refl); max_entries = refl; max_bytes = refl }) up Makes (made-ends o change front)
+            (λ is. cc) settled stood.state stood.held_is (Wrote name (write_of change) ∷ [])
+            (record {
+              not_refused = stood.refuses;
+              room = room-single k.journal (write_of change) ∙ room;
+              is_made = refl;
+              entered = refl;
+              answer_is = ap (λ (x : Outline). made_answer x change front) stood.outline_is ∙ ap (made_answer (outline_of stood.state) change) at;
+            })
+            (held tells files faults (moved entered) name.hash)
+            (λ told. ap bare (held-told tells files faults (moved entered) name.hash told
+            ∙ ((joins told).here ∙ ap (λ (s : State). joined s (write_of change)) (sym (held-told tells files faults k name.hash told)))));
+      }
 
       pub dir-entered : IsDir tells files faults (record k { volume = v; journal = with_entry k.journal name (write_of change) })
       dir-entered = dir-left entered (made_answer o change (length entered.entries)) (step-enters (length entered.entries) refl)
@@ -204,9 +205,11 @@ module _ {V : Type 0} (tells : V → Bool) (files : V → Folders) (faults : V �
 
       pub step-doubts : IsStep tells files faults k name change answers.Failed
           (record k { volume = v; journal = with_doubt k.journal name (write_of change) })
-      step-doubts = step-of tells files faults k (moved doubted) name change answers.Failed
-          (record { began = refl; secrets = refl; power = refl; told = told_is }) (others-held doubted (λ told. either-others (may told)))
-          (by-told (is_told tells files faults k) refl)
+      step-doubts = record {
+        same = record { began = refl; secrets = refl; power = refl; told = told_is };
+        others = others-held doubted (λ told. either-others (may told));
+        changes = by-told (is_told tells files faults k) refl;
+      }
 
       pub dir-doubted : IsDir tells files faults (record k { volume = v; journal = with_doubt k.journal name (write_of change) })
       dir-doubted = dir-left doubted answers.Failed step-doubts (λ told. either-order (may told)) (λ hash. single hash (bytes_eq name.hash hash) refl)

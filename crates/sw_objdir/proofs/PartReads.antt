@@ -1,13 +1,12 @@
 -- What is read of a partition, once its doubts are settled, is what its hashes stand for.
-use Rattle.std.proofs.Common.{◌≡◌, ℕ, Bool, true, false, ◌&&◌, List, [], sym, ◌∙◌, subst, Result, Ok, Err, IfOk, OnOk}
+use Rattle.std.proofs.Common.{◌≡◌, ℕ, Bool, true, false, ◌&&◌, List, [], sym, subst, Result, Ok, Err, IfOk, OnOk}
 use Rattle.sw_hashdir.specs.Places.{holds, in_order}
-use Rattle.sw_hashpath.specs.declared.decode_error.BadFile.{BadFile}
 use Rattle.sw_object_steps.proofs.Parts.{hashes-as, lines-as}
 use Rattle.sw_objdir.proofs.Looking.{all-held, dir-moved, held-told, looks-moved, looks-trans, part-reads}
 use Rattle.sw_objdir.proofs.Told.{reopens}
 use Rattle.sw_objdir.specs.Comparing.{CountsFault, fault_of_volume}
 use Rattle.sw_objdir.specs.Directories.{IsDir, Kept, held, is_told}
-use Rattle.sw_objdir.specs.Stepping.{LooksAt, ReadsHashes, SameFiles}
+use Rattle.sw_objdir.specs.Stepping.{IsPartStep, LooksAt, SameFiles}
 use Rattle.sw_object_steps.specs.Journals.{Hash, written}
 use Rattle.sw_object_steps.specs.Parts.{AreHashes, AreLines}
 use Rattle.sw_object_steps.specs.declared.dir_fault.DirFault.{DirFault}
@@ -63,32 +62,25 @@ pub cause-as : {A B : Type 0} {before now : ℕ} (e : VolumeError) → HasCause 
 cause-as volumes.Failed cause = record { once = cause.once; memory = tt; kept = tt; later = cause.later; risen = cause.risen }
 cause-as volumes.NoMemory cause = record { once = tt; memory = cause.memory; kept = tt; later = cause.later; risen = tt }
 
--- an answer of a volume finds no file damaged
-pub undamaged : {A : Type 0} (r : Result A VolumeError) (got : Result A DirFault) → got ≡ told_as r → (bad : BadFile) → got ≡ Err (faulted.Damaged bad)
-    → false ≡ true
-undamaged (Ok a) got is bad same = let clash = sym is ∙ same in cc
-undamaged (Err volumes.Failed) got is bad same = let clash = sym is ∙ same in cc
-undamaged (Err volumes.NoMemory) got is bad same = let clash = sym is ∙ same in cc
-
 module _ {V : Type 0} (tells : V → Bool) (files : V → Folders) (faults : V → ℕ) where
   -- a call of the volume was the last of a read
-  pub part-told : {at : Hash → Bool} (k n : Kept V) → LooksAt tells files faults at k n → IsDir tells files faults n
+  pub part-told : {at : Hash → Bool} {damages : Bool} (k n : Kept V) → LooksAt tells files faults at k n → IsDir tells files faults n
       → {A : Type 0} (reading : Bool → (Hash → State) → A → Type 0) (r : Result A VolumeError) (got : Result A DirFault)
       → got ≡ told_as r → HasCause (faults k.volume) (faults n.volume) r → OnOk r ((hash : Hash) → at hash ≡ true → written hash n.journal.doubts ≡ [])
       → (s : Hash → State) → ((hash : Hash) → s hash ≡ held tells files faults n hash) → IfOk r (λ a. reading (is_told tells files faults n) s a)
-      → ReadsHashes tells files faults k at reading got n
-  part-told {at} k n looks after {A} reading r got is cause settled s now shown =
-      subst (λ (x : Result A DirFault). ReadsHashes tells files faults k at reading x n) (sym is) (by r cause settled shown)
+      → IsPartStep tells files faults k at damages reading got n
+  part-told {at} {damages} k n looks after {A} reading r got is cause settled s now shown =
+      subst (λ (x : Result A DirFault). IsPartStep tells files faults k at damages reading x n) (sym is) (by r cause settled shown)
     where
       by : (x : Result A VolumeError) → HasCause (faults k.volume) (faults n.volume) x
           → OnOk x ((hash : Hash) → at hash ≡ true → written hash n.journal.doubts ≡ []) → IfOk x (λ a. reading (is_told tells files faults n) s a)
-          → ReadsHashes tells files faults k at reading (told_as x) n
-      by (Ok a) cause none read =
-          part-reads tells files faults k n at reading (Ok a) looks after (λ given. none) s now read (λ e. cc)
-      by (Err volumes.Failed) cause none read =
-          part-reads tells files faults k n at reading (Err faulted.Failed) looks after (λ given. cc) s now tt (λ e. cause.risen)
-      by (Err volumes.NoMemory) cause none read =
-          part-reads tells files faults k n at reading (Err faulted.NoMemory) looks after (λ given. cc) s now tt (λ e. cc)
+          → IsPartStep tells files faults k at damages reading (told_as x) n
+      by (Ok a) cause none read = part-reads tells files faults k n at damages reading (Ok a) looks after (λ is. none) s now (λ is. read) (λ is. cc)
+          (λ bad is. cc) (λ is. cc)
+      by (Err volumes.Failed) cause none read = part-reads tells files faults k n at damages reading (Err faulted.Failed) looks after (λ is. cc) s now
+          (λ is. cc) (λ is. cc) (λ bad is. cc) (λ is. cause.risen)
+      by (Err volumes.NoMemory) cause none read = part-reads tells files faults k n at damages reading (Err faulted.NoMemory) looks after (λ is. cc) s now
+          (λ is. cc) (λ is. cc) (λ bad is. cc) (λ is. cc)
 
   -- the same, after doubts were settled and no call failed
   module _ {at : Hash → Bool} (k m : Kept V) (looks : LooksAt tells files faults at k m) (after : IsDir tells files faults m)
@@ -115,7 +107,7 @@ module _ {V : Type 0} (tells : V → Bool) (files : V → Folders) (faults : V �
     pub moved-told : (reading : Bool → (Hash → State) → A → Type 0) (got : Result A DirFault)
         → got ≡ told_as r → ((hash : Hash) → at hash ≡ true → written hash m.journal.doubts ≡ [])
         → IfOk r (λ a. reading (is_told tells files faults m) (held tells files faults m) a)
-        → ReadsHashes tells files faults k at reading got (record m { volume = v })
+        → IsPartStep tells files faults k at false reading got (record m { volume = v })
     moved-told reading got is none read =
         part-told k moved moved-looks moved-dir reading r got is moved-cause (on-ok r _ none) (held tells files faults m)
         (λ hash. sym (all-held tells files faults at m moved moves after hash)) read

@@ -1,19 +1,18 @@
--- What a step of an object directory is: one of its lock by the rules of objects, and so by the relations that every door of object nodes uses. (This
--- project's own.)
-use Rattle.std.specs.Prelude.{◌≡◌, ◌≢◌, ℕ, ◌≤◌, Bool, true, false, List, ◌++◌, map, Option, Result}
+-- What a step of an object directory is: one of its lock, by the rules of objects. (This project's own.)
+use Rattle.std.specs.Prelude.{◌≡◌, ◌≢◌, ℕ, ◌≤◌, Bool, true, false, List, ◌++◌, map, Option, Result, Err}
+use Rattle.sw_hashpath.specs.declared.decode_error.BadFile.{BadFile}
 use Rattle.sw_hashpath.specs.declared.name.Name.{Name}
-use Rattle.sw_objdir.specs.Directories.{Kept, held, history_of, is_told, steps_of, values_of}
+use Rattle.sw_objdir.specs.Directories.{Kept, held, is_told, steps_of, values_of}
 use Rattle.sw_object_steps.specs.Histories.{ChangesObject, ReadsObject, ReadsPart}
 use Rattle.sw_object_steps.specs.Rules.{obj_rules}
 use Rattle.sw_object_steps.specs.Briefs.{brief_of}
-use Rattle.sw_object_steps.specs.Flat.{StepChanges, StepReads}
 use Rattle.sw_object_steps.specs.Journals.{Hash}
 use Rattle.sw_object_steps.specs.Outlines.{outline_of}
-use Rattle.sw_object_steps.specs.Flat.{StepReadsPart}
 use Rattle.sw_object_steps.specs.Steps.{refusal_of}
 use Rattle.sw_object_steps.specs.declared.answer.Answer.{Answer}
 use Rattle.sw_object_steps.specs.declared.change.Change.{Change}
 use Rattle.sw_object_steps.specs.declared.dir_fault.DirFault.{DirFault}
+use Rattle.sw_object_steps.specs.declared.dir_fault.DirFault.TheVariants.{Damaged}
 use Rattle.sw_object_steps.specs.declared.entry.Brief.{Brief}
 use Rattle.sw_object_steps.specs.declared.entry.ObjEntry.{ObjEntry}
 use Rattle.sw_object_steps.specs.declared.got.Got.{Got}
@@ -63,26 +62,18 @@ module _ {V : Type 0} (tells : V → Bool) (files : V → Folders) (faults : V �
     pub others : (hash : Hash) → hash ≢ name.hash → held tells files faults n hash ≡ held tells files faults k hash
     pub changes : ChangesObject true (steps_of tells files faults k) (values_of tells files faults k) name change answer
         (steps_of tells files faults n) (values_of tells files faults n name.hash)
-    pub made : StepChanges true (history_of tells files faults k) (held tells files faults k name.hash) name change answer
-        (history_of tells files faults n) (held tells files faults n name.hash)
 
   -- a step that reads the name; every hash stands for what it stood for
   pub record IsReadStep (k : Kept V) (name : Name) (got : Got) (n : Kept V) : Type 0 where
     pub same : IsSameDir k n
     pub all : (hash : Hash) → held tells files faults n hash ≡ held tells files faults k hash
     pub reads : ReadsObject true (steps_of tells files faults k) name.hash got (steps_of tells files faults n) (values_of tells files faults n)
-    pub read : StepReads true (history_of tells files faults k) name.hash got (history_of tells files faults n) (held tells files faults n name.hash)
 
-  -- a read of the hashes of a partition that pass a test, by the rules
-  abbrev pub ReadsHashes : {A : Type 0} → Kept V → (Hash → Bool) → (Bool → (Hash → State) → A → Type 0) → Result A DirFault → Kept V → Type 0
-  ReadsHashes k at reading got n =
-      ReadsPart true (steps_of tells files faults k) at (reading (is_told tells files faults n)) got (steps_of tells files faults n)
-      (values_of tells files faults n)
-
-  -- a read of a partition; every hash stands for what it stood for
-  pub record IsPartStep {A : Type 0} (k : Kept V) (at : Hash → Type 0) (damages : Bool) (reading : Bool → (Hash → State) → A → Type 0)
+  -- a read of these hashes of a partition; every hash stands for what it stood for. Only a read that `damages` may find a file damaged
+  pub record IsPartStep {A : Type 0} (k : Kept V) (at : Hash → Bool) (damages : Bool) (reading : Bool → (Hash → State) → A → Type 0)
       (got : Result A DirFault) (n : Kept V) : Type 0 where
     pub same : IsSameDir k n
     pub all : (hash : Hash) → held tells files faults n hash ≡ held tells files faults k hash
-    pub read : StepReadsPart true (history_of tells files faults k) at damages reading got (history_of tells files faults n)
-        (held tells files faults n)
+    pub reads : ReadsPart true (steps_of tells files faults k) at (reading (is_told tells files faults n)) got (steps_of tells files faults n)
+        (values_of tells files faults n)
+    pub sound : (bad : BadFile) → got ≡ Err (Damaged bad) → damages ≡ true

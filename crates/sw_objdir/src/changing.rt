@@ -1,4 +1,4 @@
-ghost use Rattle.std.specs.Prelude.{◌≡◌, ℕ, ◌≤◌, true, false, [], Some, None, IfOk, OnOk, OnErr};
+ghost use Rattle.std.specs.Prelude.{◌≡◌, true, false, [], Some, None, IfOk, OnOk, OnErr};
 ghost use Rattle.std.specs.Str.{bytes_eq};
 ghost use Rattle.sw_cleanup.specs.Cleaning.{AreListedIn};
 ghost use Rattle.sw_diskfile.specs.Picking.{IsPicked};
@@ -8,10 +8,9 @@ ghost use Rattle.sw_object_steps.specs.Outlines.{picked_outline};
 ghost use Rattle.sw_hashdir.specs.Readings.{IfDamaged, IsDamagedAt, IsSecondOf, IsSecondRead, OnFailedRead, UnlessFailedRead, expiry_file};
 ghost use Rattle.sw_journal.specs.Settling.{SettlesFirst};
 ghost use Rattle.sw_objdir.specs.Calling.{Called, reads_of};
-ghost use Rattle.sw_objdir.specs.Directories.{IsDir, held, history_of, is_told};
+ghost use Rattle.sw_objdir.specs.Directories.{IsDir, held, is_told};
 ghost use Rattle.sw_objdir.specs.Stepping.{IsStep, LooksAt};
 ghost use Rattle.sw_outside.specs.Counts.{raised};
-ghost use Rattle.sw_object_steps.specs.Flat.{OnlySettles};
 ghost use Rattle.sw_object_steps.specs.Journals.{body_size, written};
 ghost use Rattle.sw_object_steps.specs.Outlines.{outline_of, standing_expiry};
 ghost use Rattle.sw_object_steps.specs.Steps.{asks_expiry, write_of};

@@ -1,4 +1,4 @@
-ghost use Rattle.std.specs.Prelude.{◌≡◌, ◌≢◌, ⊤, ℕ, ◌<◌, ◌≤◌, ◌^◌, suc, length, ◌==◌, ◌&&◌, true, false, [], find, IfOk, OnOk, OnErr, Some};
+ghost use Rattle.std.specs.Prelude.{◌≡◌, ℕ, ◌<◌, ◌≤◌, ◌^◌, suc, length, ◌==◌, ◌&&◌, true, false, [], find, IfOk, OnOk, OnErr, Some};
 ghost use Rattle.std.specs.Option.{option_copied, option_map};
 ghost use Rattle.std.specs.Str.{bytes_eq};
 ghost use Rattle.sw_diskfile.specs.FileNames.{name_text};
@@ -7,16 +7,16 @@ ghost use Rattle.sw_hashdir.specs.Readings.{IsDamaged, IsFound};
 ghost use Rattle.sw_hashdir.specs.Steps.{is_hashed};
 ghost use Rattle.sw_hashpath.specs.HashParts.{partition_of, suffix_of};
 ghost use Rattle.sw_journal.specs.Entries.{entry_hash, first_in};
-ghost use Rattle.sw_objdir.specs.Comparing.{CountsFault, HasDoubt, IfDamagedPart, IsSettled, Looks, ReadsOnce, SettlesDoubt, fault_of_read, fault_of_volume};
+ghost use Rattle.sw_objdir.specs.Comparing.{CountsFault, IfDamagedPart, IsSettled, Looks, ReadsOnce, SettlesDoubt, fault_of_read, fault_of_volume};
 ghost use Rattle.sw_objdir.specs.Comparing.{is_in, listings_of};
 ghost use Rattle.sw_objdir.specs.Directories.{IsDir};
-ghost use Rattle.sw_objdir.specs.Stepping.{AddsBriefs, IsPartStep, LooksAt, ReadsHashes};
+ghost use Rattle.sw_objdir.specs.Stepping.{AddsBriefs, IsPartStep, LooksAt};
 ghost use Rattle.sw_object_steps.specs.Briefs.{brief_of};
 ghost use Rattle.sw_object_steps.specs.Journals.{written};
 ghost use Rattle.sw_object_steps.specs.Parts.{AreHashes, AreLines, IsFile, IsOfPart};
 ghost use Rattle.sw_object_steps.specs.declared.entry.ObjEntry.{ObjEntry};
 ghost use Rattle.sw_volume.specs.Tree.{contents};
-ghost use Rattle.sw_volume.specs.Volume.{HasCause, OnFailed, raised_by};
+ghost use Rattle.sw_volume.specs.Volume.{HasCause, OnFailed};
 
 use crate::obj_dir::ObjDir;
 use std::alloc::Global;
@@ -67,9 +67,7 @@ impl<V: Volume + Drop> ObjDir<V> {
         settled: &mut Vec<Brief>,
     ) -> Result<Vec<SuffixHash>, DirFault>
         requires part { part < 2 ^ self.old.power }
-        ensures read { IsPartStep V.tells V.holds V.faults self.old (λ hash. IsOfPart self.old.power part hash × ⊤) false
-            (λ told s got. AreHashes self.old.power part told s got.items) result self.new }
-        ensures reads { ReadsHashes V.tells V.holds V.faults self.old (λ hash. partition_of hash self.old.power == part)
+        ensures read { IsPartStep V.tells V.holds V.faults self.old (λ hash. partition_of hash self.old.power == part) false
             (λ told s got. AreHashes self.old.power part told s got.items) result self.new }
         ensures briefs { AddsBriefs self.old.journal.entries self.new.journal.entries settled.old.items settled.new.items }
         ensures cause { CountsFault (V.faults self.old.volume) (V.faults self.new.volume) result }
@@ -94,10 +92,8 @@ impl<V: Volume + Drop> ObjDir<V> {
     ) -> Result<Vec<DirLine>, DirFault>
         requires part { part < 2 ^ self.old.power }
         requires suffix { suffix < 4096 }
-        ensures read { IsPartStep V.tells V.holds V.faults self.old (λ hash. IsOfPart self.old.power part hash × (suffix_of hash ≡ suffix)) false
-            (λ told s got. AreLines self.old.power part suffix told s got.items) result self.new }
-        ensures reads { ReadsHashes V.tells V.holds V.faults self.old
-            (λ hash. (partition_of hash self.old.power == part) && (suffix_of hash == suffix))
+        ensures read { IsPartStep V.tells V.holds V.faults self.old
+            (λ hash. (partition_of hash self.old.power == part) && (suffix_of hash == suffix)) false
             (λ told s got. AreLines self.old.power part suffix told s got.items) result self.new }
         ensures briefs { AddsBriefs self.old.journal.entries self.new.journal.entries settled.old.items settled.new.items }
         ensures cause { CountsFault (V.faults self.old.volume) (V.faults self.new.volume) result }
@@ -125,9 +121,7 @@ impl<V: Volume + Drop> ObjDir<V> {
         settled: &mut Vec<Brief>,
     ) -> Result<Option<Stored>, DirFault>
         requires within { IsOfPart self.old.power part hash.now }
-        ensures read { IsPartStep V.tells V.holds V.faults self.old (λ other. IsOfPart self.old.power part other × (other ≡ hash.now)) true
-            (λ told s got. IsFile (is_hashed self.old.secrets) hash.now file.now told s got) result self.new }
-        ensures reads { ReadsHashes V.tells V.holds V.faults self.old (bytes_eq hash.now)
+        ensures read { IsPartStep V.tells V.holds V.faults self.old (bytes_eq hash.now) true
             (λ told s got. IsFile (is_hashed self.old.secrets) hash.now file.now told s got) result self.new }
         ensures briefs { AddsBriefs self.old.journal.entries self.new.journal.entries settled.old.items settled.new.items }
         ensures cause { CountsFault (V.faults self.old.volume) (V.faults self.new.volume) result }

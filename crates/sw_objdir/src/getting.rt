@@ -12,8 +12,8 @@ use crate::obj_dir::ObjDir;
 use std::alloc::Global;
 use sw_hashdir::{Paths, add_paths_below, dir_of, paths_below, show};
 use sw_hashpath::Name;
-use sw_outside::BytesList;
 use sw_object_steps::Got;
+use sw_outside::BytesList;
 use sw_volume::{Volume, VolumeError};
 
 impl<V: Volume + Drop> ObjDir<V> {

@@ -5,9 +5,8 @@
 //! doubt of the name is settled by the listing of the step that comes next. A read of a partition settles the doubts of all hashes that it reads,
 //! and answers from what it finds once none is left.
 //!
-//! Each step is one by the rules of objects, which `sw_object_steps` has, and so one of the relations that `sw_peer` has for every door: a lock over
-//! files and the machine of all locks speak of the same things. `specs/Directories` says what a hash stands for, `specs/Stepping` what a step is, and
-//! `specs/Calling` which calls of the volume it makes, in their order, and what each leaves of the files where it is the one that failed.
+//! Each step is one by the rules of objects, which `sw_object_steps` has and every door of object nodes speaks of too. `specs/Directories` says what
+//! a hash stands for, `specs/Stepping` what a step is, and `specs/Calling` which calls of the volume it makes, in their order, and what each leaves of the files where it is the one that failed.
 //! `specs/Comparing` has the calls of a read of a partition.
 //!
 //! The next layer down is `sw_hashdir`, which has the calls of one directory; the next one up is `sw_core`, whose world is made

@@ -1,10 +1,10 @@
-ghost use Rattle.std.specs.Prelude.{◌≡◌, ℕ, ◌<◌, ◌≤◌, ◌^◌, true, List, ◌++◌, length, ◌&&◌};
+ghost use Rattle.std.specs.Prelude.{◌≡◌, ◌<◌, ◌≤◌, ◌^◌, true, List, ◌++◌, length, ◌&&◌};
 ghost use Rattle.sw_hashdir.specs.Places.{holds, in_order};
 ghost use Rattle.std.specs.Option.{option_copied};
 ghost use Rattle.sw_journal.specs.Entries.{first_in};
 ghost use Rattle.sw_object_steps.specs.Rules.{obj_rules};
 ghost use Rattle.sw_object_steps.specs.Values.{bare};
-ghost use Rattle.sw_objdir.specs.Directories.{is_told, started, steps_of};
+ghost use Rattle.sw_objdir.specs.Directories.{is_told, started, steps_of, values_of};
 ghost use Rattle.sw_object_steps.specs.Journals.{Hash};
 ghost use Rattle.sw_object_steps.specs.declared.entry.ObjEntry.{ObjEntry};
 ghost use Rattle.sw_step.specs.Rules.{CanStand};
@@ -60,6 +60,14 @@ impl<V: Volume + Drop> ObjDir<V> {
             power,
             journal: Journal::new(alloc, max_entries, max_bytes),
         }
+    }
+
+    /// Each hash holds what it may stand for: by the entries, and by those of its doubts that were made. It does nothing: its clause tells it.
+    pub fn may_stand(&self)
+        ensures { is_told V.tells V.holds V.faults self.now ≡ true → (hash : Hash)
+            → CanStand obj_rules (steps_of V.tells V.holds V.faults self.now) hash (values_of V.tells V.holds V.faults self.now hash) }
+    {
+        let _ = &self.volume;
     }
 
     /// Ends it, and gives the volume back. A directory that begins anew on it has every write that was entered, and of each that is in

@@ -1,4 +1,4 @@
-ghost use Rattle.std.specs.Prelude.{◌≡◌, ℕ, ◌≤◌, true, [], ◌∷◌, length, IfOk, None};
+ghost use Rattle.std.specs.Prelude.{◌≡◌, true, [], length, IfOk, None};
 ghost use Rattle.sw_cleanup.specs.Cleaning.{AreListedIn};
 ghost use Rattle.sw_hashdir.specs.Places.{dir_text};
 ghost use Rattle.sw_hashdir.specs.Steps.{IsOurs};
@@ -13,8 +13,8 @@ use crate::obj_dir::ObjDir;
 use std::alloc::Global;
 use sw_hashdir::{Seen, write_file};
 use sw_hashpath::Name;
-use sw_outside::NoMemory;
 use sw_object_steps::{Answer, Change, ObjEntry, made_answer};
+use sw_outside::NoMemory;
 use sw_state::Write;
 use sw_volume::{Volume, VolumeError};
 

@@ -1,15 +1,12 @@
-use Rattle.std.proofs.Common.{◌≡◌, ℕ, ◌==◌, false, Err, Result, Vec, Global, refl, sym, ◌∙◌, ap, subst}
-use Rattle.std.specs.Bool.{⊤}
-use Rattle.sw_hashpath.specs.HashParts.{partition_of}
-use Rattle.sw_object_steps.proofs.Parts.{hashes-flat}
+use Rattle.std.proofs.Common.{◌≡◌, ℕ, Err, Result, Vec, Global, refl, sym, ◌∙◌, ap, subst}
 use Rattle.sw_objdir.proofs.Doubts.{looked-both}
-use Rattle.sw_objdir.proofs.Looking.{dir-moved, part-of}
-use Rattle.sw_objdir.proofs.PartReads.{cause-as, hashes-held, if-ok, moved-dir, moved-looks, moved-told, part-told, told_as, undamaged}
+use Rattle.sw_objdir.proofs.Looking.{dir-moved}
+use Rattle.sw_objdir.proofs.PartReads.{cause-as, hashes-held, if-ok, moved-told, part-told, told_as}
 use Rattle.sw_objdir.specs.Comparing.{IsSettled, Looks, is_in}
 use Rattle.sw_objdir.specs.Directories.{Kept, held, is_told}
 use Rattle.sw_objdir.specs.Stepping.{LooksAt}
 use Rattle.sw_objdir.specs.declared.comparing.Scope.TheVariants as scopes
-use Rattle.sw_object_steps.specs.Parts.{AreHashes, IsOfPart}
+use Rattle.sw_object_steps.specs.Parts.{AreHashes}
 use Rattle.sw_object_steps.specs.declared.dir_fault.DirFault.{DirFault}
 use Rattle.sw_suffix.specs.declared.told.SuffixHash.{SuffixHash}
 use Rattle.sw_volume.specs.declared.errors.VolumeError.{VolumeError}
@@ -22,8 +19,8 @@ invariant_of-self g c =
     let m : Kept _ = record { volume = i.volume; began = i.opening.value; secrets = i.secrets; power = i.power; journal = i.journal } in
     dir-moved v.tells v.holds v.faults m c.hashes_of.new.volume c.self.invariant c.hashes_of.ensures.told c.hashes_of.ensures.same
 
-pub returns-in-Err-clause-reads : goal.returns-in-Err-clause-reads
-returns-in-Err-clause-reads g c =
+pub returns-in-Err-clause-read : goal.returns-in-Err-clause-read
+returns-in-Err-clause-read g c =
     let v = g.V.Volume in let k = c.args.self.now in let e = c.in-Err.error in
     let r : Result (Vec SuffixHash Global) VolumeError = Err e in
     part-told v.tells v.holds v.faults k c.settle_all.new.self c.settle_all.ensures.looks c.settle_all.ensures.dir
@@ -31,20 +28,8 @@ returns-in-Err-clause-reads g c =
     r (Err c.fault_of_volume.result) (ap (λ (x : DirFault). let y : Result (Vec SuffixHash Global) DirFault = Err x in y) c.fault_of_volume.ensures)
     (cause-as e c.in-Err.ensures.cause) tt (held v.tells v.holds v.faults c.settle_all.new.self) (λ hash. refl) tt
 
-pub returns-in-Err-clause-read : goal.returns-in-Err-clause-read
-returns-in-Err-clause-read g c =
-    let v = g.V.Volume in let k = c.args.self.now in let e = c.in-Err.error in
-    let r : Result (Vec SuffixHash Global) VolumeError = Err e in
-    part-of v.tells v.holds v.faults k c.settle_all.new.self (λ hash. partition_of hash k.power == c.args.part)
-    (λ hash. IsOfPart k.power c.args.part hash × ⊤) false (λ told s got. AreHashes k.power c.args.part told s got.items)
-    (Err c.fault_of_volume.result) c.settle_all.ensures.looks c.settle_all.ensures.dir
-    (hashes-flat (λ (got : Vec SuffixHash Global). got.items) k.power c.args.part)
-    (undamaged r (Err c.fault_of_volume.result)
-    (ap (λ (x : DirFault). let y : Result (Vec SuffixHash Global) DirFault = Err x in y) c.fault_of_volume.ensures))
-    (returns-in-Err-clause-reads g c)
-
-pub returns-clause-reads : goal.returns-clause-reads
-returns-clause-reads g c =
+pub returns-clause-read : goal.returns-clause-read
+returns-clause-read g c =
     let v = g.V.Volume in let i = c.self.inside in let k = c.args.self.now in
     let m : Kept _ = record { volume = i.volume; began = i.opening.value; secrets = i.secrets; power = i.power; journal = i.journal } in
     let looks : LooksAt v.tells v.holds v.faults (is_in k.power (scopes.Part c.args.part)) k m =
@@ -63,27 +48,6 @@ returns-clause-reads g c =
     (if-ok c.hashes_of.result _ _
     (λ got of. subst (λ (p : ℕ). AreHashes p c.args.part (is_told v.tells v.holds v.faults m) (held v.tells v.holds v.faults m) got.items)
     looks.same.power (hashes-held v.tells v.holds v.faults m c.self.invariant c.args.part got.items (of m.secrets))) c.hashes_of.ensures.hashes)
-
-pub returns-clause-read : goal.returns-clause-read
-returns-clause-read g c =
-    let v = g.V.Volume in let i = c.self.inside in let k = c.args.self.now in
-    let m : Kept _ = record { volume = i.volume; began = i.opening.value; secrets = i.secrets; power = i.power; journal = i.journal } in
-    let looks : LooksAt v.tells v.holds v.faults (is_in k.power (scopes.Part c.args.part)) k m =
-    subst (λ (x : Kept _). LooksAt v.tells v.holds v.faults (is_in k.power (scopes.Part c.args.part)) k x) (sym c.self.view_is) c.settle_all.ensures.looks in
-    let fine = ap (λ (x : Kept _). v.faults x.volume) c.self.view_is ∙ c.in_default.ensures.cause.kept in
-    let is : c.match-hashes_of.result ≡ told_as c.hashes_of.result = elim c.match-hashes_of.branch [
-      | in-Ok w ↦ w.result-is ∙ ap told_as (sym w.in-Ok.is)
-      | in-Err-hashes_of w ↦ w.result-is ∙ (ap Err w.fault_of_volume-in-Err-hashes_of.ensures ∙ ap told_as (sym w.in-Err-hashes_of.is))
-    ] in
-    part-of v.tells v.holds v.faults k (record m { volume = c.hashes_of.new.volume }) (λ hash. partition_of hash k.power == c.args.part)
-    (λ hash. IsOfPart k.power c.args.part hash × ⊤) false (λ told s got. AreHashes k.power c.args.part told s got.items)
-    c.match-hashes_of.result
-    (moved-looks v.tells v.holds v.faults k m looks c.self.invariant fine c.hashes_of.new.volume c.hashes_of.ensures.told c.hashes_of.ensures.same
-    c.hashes_of.result c.hashes_of.ensures.cause)
-    (moved-dir v.tells v.holds v.faults k m looks c.self.invariant fine c.hashes_of.new.volume c.hashes_of.ensures.told c.hashes_of.ensures.same
-    c.hashes_of.result c.hashes_of.ensures.cause)
-    (hashes-flat (λ (got : Vec SuffixHash Global). got.items) k.power c.args.part)
-    (undamaged c.hashes_of.result c.match-hashes_of.result is) (returns-clause-reads g c)
 
 pub returns-clause-only_lists : goal.returns-clause-only_lists
 returns-clause-only_lists g c =

@@ -4,7 +4,7 @@ use Rattle.std.specs.Str.{bytes_eq}
 use Rattle.sw_hashdir.specs.Places.{dir_text}
 use Rattle.sw_hashdir.specs.Readings.{IsDamagedAt}
 use Rattle.sw_hashdir.specs.Steps.{is_hashed}
-use Rattle.sw_objdir.proofs.FileReads.{damaged-as, file-dir, file-given, file-looks, file-part, file-refused, found-before}
+use Rattle.sw_objdir.proofs.FileReads.{damaged-as, file-given, file-refused, found-before}
 use Rattle.sw_objdir.proofs.FileReads.{one-settled, read-looks, refused-calls}
 use Rattle.sw_objdir.proofs.FileReads.{settled-looks, unsettled-calls}
 use Rattle.sw_objdir.proofs.Looking.{dir-moved}
@@ -21,8 +21,8 @@ use Rattle.sw_volume.specs.declared.errors.VolumeError.{VolumeError}
 use Rattle.sw_volume.specs.declared.errors.VolumeError.TheVariants as volumes
 use Rattle.sw_objdir.proofs.obj_dir.ObjDir.read_write.Goals as goal
 
-pub returns-in-Err-clause-reads : goal.returns-in-Err-clause-reads
-returns-in-Err-clause-reads g c =
+pub returns-in-Err-clause-read : goal.returns-in-Err-clause-read
+returns-in-Err-clause-read g c =
     let v = g.V.Volume in let k = c.args.self.now in let hash = c.args.hash.now in let e = c.in-Err.error in
     let r : Result (Option Stored) VolumeError = Err e in
     part-told v.tells v.holds v.faults k c.settle_one.new.self c.settle_one.ensures.looks c.settle_one.ensures.dir
@@ -30,26 +30,14 @@ returns-in-Err-clause-reads g c =
     r (Err c.fault_of_volume.result) (ap (λ (x : DirFault). let y : Result (Option Stored) DirFault = Err x in y) c.fault_of_volume.ensures)
     (cause-as e c.in-Err.ensures.cause) tt (held v.tells v.holds v.faults c.settle_one.new.self) (λ other. refl) tt
 
-pub returns-in-Err-clause-read : goal.returns-in-Err-clause-read
-returns-in-Err-clause-read g c =
-    let v = g.V.Volume in let k = c.args.self.now in
-    file-part v.tells v.holds v.faults k c.settle_one.new.self c.args.part c.args.hash.now c.args.file.now c.requires.within _ c.settle_one.ensures.looks
-    c.settle_one.ensures.dir (returns-in-Err-clause-reads g c)
-
-pub returns-in_default-dir_of-clause-reads : goal.returns-in_default-dir_of-clause-reads
-returns-in_default-dir_of-clause-reads g c =
+pub returns-in_default-dir_of-clause-read : goal.returns-in_default-dir_of-clause-read
+returns-in_default-dir_of-clause-read g c =
     let v = g.V.Volume in let k = c.args.self.now in let hash = c.args.hash.now in
     let r : Result (Option Stored) VolumeError = Err volumes.NoMemory in
     part-told v.tells v.holds v.faults k c.settle_one.new.self c.settle_one.ensures.looks c.settle_one.ensures.dir
     (λ told s got. IsFile (is_hashed k.secrets) hash c.args.file.now told s got) r (Err _) refl
     (record { once = tt; memory = c.in_default.ensures.cause.kept; kept = tt; later = c.in_default.ensures.cause.later; risen = tt }) tt
     (held v.tells v.holds v.faults c.settle_one.new.self) (λ other. refl) tt
-
-pub returns-in_default-dir_of-clause-read : goal.returns-in_default-dir_of-clause-read
-returns-in_default-dir_of-clause-read g c =
-    let v = g.V.Volume in let k = c.args.self.now in
-    file-part v.tells v.holds v.faults k c.settle_one.new.self c.args.part c.args.hash.now c.args.file.now c.requires.within _ c.settle_one.ensures.looks
-    c.settle_one.ensures.dir (returns-in_default-dir_of-clause-reads g c)
 
 pub invariant_of-self : goal.invariant_of-self
 invariant_of-self g c =
@@ -63,8 +51,8 @@ invariant_of-self-2 g c =
     let m : Kept _ = record { volume = i.volume; began = i.opening.value; secrets = i.secrets; power = i.power; journal = i.journal } in
     dir-moved v.tells v.holds v.faults m c.read_stored.new.volume c.self.invariant c.read_stored.ensures.told c.read_stored.ensures.same
 
-pub returns-in-Ok-read_stored-clause-reads : goal.returns-in-Ok-read_stored-clause-reads
-returns-in-Ok-read_stored-clause-reads g c =
+pub returns-in-Ok-read_stored-clause-read : goal.returns-in-Ok-read_stored-clause-read
+returns-in-Ok-read_stored-clause-read g c =
     let v = g.V.Volume in let i = c.self.inside in let k = c.args.self.now in let hash = c.args.hash.now in let file = c.args.file.now in
     let m : Kept _ = record { volume = i.volume; began = i.opening.value; secrets = i.secrets; power = i.power; journal = i.journal } in
     let looks : LooksAt v.tells v.holds v.faults (bytes_eq hash) k m =
@@ -79,29 +67,8 @@ returns-in-Ok-read_stored-clause-reads g c =
     (c.deref.ensures.value ∙ c.in-Ok.ensures.text) c.in-Ok.ensures.place none c.in-Ok-read_stored.found
     c.in-Ok-read_stored.ensures.found c.in-Ok-read_stored.ensures.named c.in-Ok-read_stored.ensures.hashed
 
-pub returns-in-Ok-read_stored-clause-read : goal.returns-in-Ok-read_stored-clause-read
-returns-in-Ok-read_stored-clause-read g c =
-    let v = g.V.Volume in let i = c.self.inside in let k = c.args.self.now in let hash = c.args.hash.now in let file = c.args.file.now in
-    let m : Kept _ = record { volume = i.volume; began = i.opening.value; secrets = i.secrets; power = i.power; journal = i.journal } in
-    let looks : LooksAt v.tells v.holds v.faults (bytes_eq hash) k m =
-    subst (λ (x : Kept _). LooksAt v.tells v.holds v.faults (bytes_eq hash) k x) (sym c.self.view_is) c.settle_one.ensures.looks in
-    let none : written hash m.journal.doubts ≡ [] =
-    subst (λ (x : Kept _). written hash x.journal.doubts ≡ []) (sym c.self.view_is)
-    (one-settled v.calls v.lists k c.settle_one.new.self hash c.in_default.field-0 c.in_default.ensures.one) in
-    let le : file.time ≤ 999999999999999 = subst (λ (t : ℕ). t ≤ 999999999999999) c.units.ensures.same c.units.ensures.bound in
-    file-part v.tells v.holds v.faults k (record m { volume = c.read_stored.new.volume }) c.args.part hash file c.requires.within _
-    (file-looks v.tells v.holds v.faults k m hash looks c.self.invariant
-    (ap (λ (x : Kept _). v.faults x.volume) c.self.view_is ∙ c.in_default.ensures.cause.kept)
-    c.read_stored.new.volume c.read_stored.ensures.told c.read_stored.ensures.same c.read_stored.ensures.later file c.deref.result.now le
-    (c.deref.ensures.value ∙ c.in-Ok.ensures.text) c.in-Ok.ensures.place none)
-    (file-dir v.tells v.holds v.faults k m hash looks c.self.invariant
-    (ap (λ (x : Kept _). v.faults x.volume) c.self.view_is ∙ c.in_default.ensures.cause.kept)
-    c.read_stored.new.volume c.read_stored.ensures.told c.read_stored.ensures.same c.read_stored.ensures.later file c.deref.result.now le
-    (c.deref.ensures.value ∙ c.in-Ok.ensures.text) c.in-Ok.ensures.place none)
-    (returns-in-Ok-read_stored-clause-reads g c)
-
-pub returns-clause-reads : goal.returns-clause-reads
-returns-clause-reads g c =
+pub returns-clause-read : goal.returns-clause-read
+returns-clause-read g c =
     let v = g.V.Volume in let i = c.self.inside in let k = c.args.self.now in let hash = c.args.hash.now in let file = c.args.file.now in
     let m : Kept _ = record { volume = i.volume; began = i.opening.value; secrets = i.secrets; power = i.power; journal = i.journal } in
     let looks : LooksAt v.tells v.holds v.faults (bytes_eq hash) k m =
@@ -115,27 +82,6 @@ returns-clause-reads g c =
     c.read_stored.new.volume c.read_stored.ensures.told c.read_stored.ensures.same c.read_stored.ensures.later file c.deref.result.now le
     (c.deref.ensures.value ∙ c.in-Ok.ensures.text) c.in-Ok.ensures.place none c.in-Err-read_stored.fault c.fault_of_read.result
     c.fault_of_read.ensures c.in-Err-read_stored.ensures.damaged c.in-Err-read_stored.ensures.failed
-
-pub returns-clause-read : goal.returns-clause-read
-returns-clause-read g c =
-    let v = g.V.Volume in let i = c.self.inside in let k = c.args.self.now in let hash = c.args.hash.now in let file = c.args.file.now in
-    let m : Kept _ = record { volume = i.volume; began = i.opening.value; secrets = i.secrets; power = i.power; journal = i.journal } in
-    let looks : LooksAt v.tells v.holds v.faults (bytes_eq hash) k m =
-    subst (λ (x : Kept _). LooksAt v.tells v.holds v.faults (bytes_eq hash) k x) (sym c.self.view_is) c.settle_one.ensures.looks in
-    let none : written hash m.journal.doubts ≡ [] =
-    subst (λ (x : Kept _). written hash x.journal.doubts ≡ []) (sym c.self.view_is)
-    (one-settled v.calls v.lists k c.settle_one.new.self hash c.in_default.field-0 c.in_default.ensures.one) in
-    let le : file.time ≤ 999999999999999 = subst (λ (t : ℕ). t ≤ 999999999999999) c.units.ensures.same c.units.ensures.bound in
-    file-part v.tells v.holds v.faults k (record m { volume = c.read_stored.new.volume }) c.args.part hash file c.requires.within _
-    (file-looks v.tells v.holds v.faults k m hash looks c.self.invariant
-    (ap (λ (x : Kept _). v.faults x.volume) c.self.view_is ∙ c.in_default.ensures.cause.kept)
-    c.read_stored.new.volume c.read_stored.ensures.told c.read_stored.ensures.same c.read_stored.ensures.later file c.deref.result.now le
-    (c.deref.ensures.value ∙ c.in-Ok.ensures.text) c.in-Ok.ensures.place none)
-    (file-dir v.tells v.holds v.faults k m hash looks c.self.invariant
-    (ap (λ (x : Kept _). v.faults x.volume) c.self.view_is ∙ c.in_default.ensures.cause.kept)
-    c.read_stored.new.volume c.read_stored.ensures.told c.read_stored.ensures.same c.read_stored.ensures.later file c.deref.result.now le
-    (c.deref.ensures.value ∙ c.in-Ok.ensures.text) c.in-Ok.ensures.place none)
-    (returns-clause-reads g c)
 
 pub returns-clause-damaged : goal.returns-clause-damaged
 returns-clause-damaged g c =
