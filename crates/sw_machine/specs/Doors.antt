@@ -60,7 +60,7 @@ SameGoesOn = (s : Sight) (m : Machine) (t : Sight) → StandsFor s m → IsSame 
 
 -- what a device may send as things are goes on its way
 abbrev pub SendingGoesOn : Type 0
-SendingGoesOn = (s : Sight) (m : Machine) (from : ℕ) (message : Message) → StandsFor s m → Carries m from message
+SendingGoesOn = (s : Sight) (m : Machine) (from : ℕ) (message : Message) → StandsFor s m → Carries s.nodes m from message
     → (goes : GoesOn s m (Went from message ∷ []) s) × (goes.after ≡ record m { sent = m.sent ++ message ∷ [] })
 
 -- ---- steps and calls of a door that is alone
