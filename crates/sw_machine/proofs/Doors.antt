@@ -93,8 +93,8 @@ object-changes device name change =
     line : Link → Answer → List ObjEntry → Line
     line link answer = obj_line device link (Changed name change answer)
 
-    at : (link : Link) (s : Sight) (answer : Answer) (t : Sight) (m : Machine) → StandsFor s m → ((added : List ObjEntry) → WasSent m.sent (line link answer added))
-        → IsMade link device name change s answer (said t true) → GoesOnBy s m (line link answer) (is_wanting answer) (said t true)
+    at : (link : Link) (s : Sight) (answer : Answer) (t : Sight) (m : Machine) → StandsFor s m
+        → ((added : List ObjEntry) → WasSent m.sent (line link answer added)) → IsMade link device name change s answer (said t true) → GoesOnBy s m (line link answer) (is_wanting answer) (said t true)
     at link s answer t m stands sent made =
         by-trail s (said t true) m stands made.moves.nodes
         (at_objects s t m (m.objects.known ++ map (λ n. (device, n)) (made_writes name made.step.made)))
@@ -189,7 +189,7 @@ module _ {A : Type 0} (device part : ℕ) (at : Nodes → Hash → Bool) (damage
       )
       (is_wanting_part got) read.trail
 
-  part-reads : ReadsGoOn (λ link. IsPartRead link device part at damages reading read_as) (λ link got. obj_line device link (ReadPart (read_as got))) is_wanting_part
+  part-reads : ReadsGoOn (λ link. IsPartRead link device part at damages reading read_as) line_as is_wanting_part
   part-reads =
       reads-go-on (λ link. IsPartRead link device part at damages reading read_as) line_as is_wanting_part (λ link s x t read. read.moves.alone)
       (λ link s got t m stands alone read.

@@ -98,7 +98,8 @@ module _ (nodes : Nodes) (device : ℕ) where
       → (l : ℕ) → GrowsBy (m.half.seen l) (after.half.seen l) (entered_at nodes l d (AtContainer event entries))
   cont-grows m d (cont_events.Changed place change answer) entries after step =
       made-grows cont_rules (cont_lock nodes) m d place change answer entries _ after step
-  cont-grows m d (cont_events.Timed place got) entries after step = read-grows cont_rules (cont_lock nodes) m d (cont_lock nodes d place) _ _ _ got entries after step
+  cont-grows m d (cont_events.Timed place got) entries after step =
+      read-grows cont_rules (cont_lock nodes) m d (cont_lock nodes d place) _ _ _ got entries after step
   cont-grows m d (cont_events.Informed place got) entries after step =
       read-grows cont_rules (cont_lock nodes) m d (cont_lock nodes d place) _ _ _ got entries after step
   cont-grows m d (cont_events.Listed place query got) entries after step =
@@ -174,7 +175,8 @@ journals-grow nodes m lines after run device none =
     (both.objects, both.containers)
 
 -- where no doubt is left of a key, what stood by the entries stands with those that came
-told-by : {K V E C A : Type 0} (r : RulesOf K V E C A) (are : AreRules r) (h g : StepHistory K V E) (key : K) (v w : V) (added : List E) → v ≡ stands r h key → CanStand r g key w
+told-by : {K V E C A : Type 0} (r : RulesOf K V E C A) (are : AreRules r) (h g : StepHistory K V E) (key : K) (v w : V) (added : List E)
+    → v ≡ stands r h key → CanStand r g key w
     → doubts_about r key g.journal.doubts ≡ [] → GrowsBy h g added → w ≡ fold r.applied v (about r key added)
 told-by {V = V} r are h g key v w added stood can none grows =
     tell r g key w can none
@@ -186,8 +188,8 @@ module _ {K V E C A : Type 0} (r : RulesOf K V E C A) where
 
 pub lines-tell-hashes : LinesTellHashes
 lines-tell-hashes nodes m lines after apart run device none hash told stood left =
-    told-by obj_rules obj-rules h (after.objects.half.seen l) hash (m.objects.half.holds device hash) (after.objects.half.holds device hash) (obj_entered nodes l lines)
-    stood (hashes-may-stand nodes m lines after apart run device hash told (can-as obj_rules h hash (m.objects.half.holds device hash) stood)) left
+    told-by obj_rules obj-rules h (after.objects.half.seen l) hash (m.objects.half.holds device hash) (after.objects.half.holds device hash)
+    (obj_entered nodes l lines) stood (hashes-may-stand nodes m lines after apart run device hash told (can-as obj_rules h hash (m.objects.half.holds device hash) stood)) left
     ((grow nodes device m lines after run none).objects hash)
   where
     l : ℕ
