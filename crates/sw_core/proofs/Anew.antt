@@ -8,14 +8,15 @@ use Rattle.std.proofs.lemmas.Nat.{rows}
 use Rattle.sw_hashdir.specs.Places.{holds}
 use Rattle.sw_hashpath.specs.HashParts.{partition_of}
 use Rattle.sw_objdir.proofs.Looking.{held-told}
-use Rattle.sw_objdir.specs.Directories.{Kept, held, history_of, is_told, started}
-use Rattle.sw_object_steps.specs.Flat.{History}
+use Rattle.sw_objdir.specs.Directories.{Kept, held, is_told, started, steps_of}
+use Rattle.sw_object_steps.specs.Rules.{ObjHistory}
+use Rattle.sw_object_steps.specs.Values.{bare}
 use Rattle.sw_object_steps.specs.Journals.{Hash}
 use Rattle.sw_peer.specs.Sights.{Restarts}
 use Rattle.sw_volume.specs.Tree.{Folders}
 use Rattle.sw_core.proofs.Placed.{stripe-below}
 use Rattle.sw_core.proofs.Wholes.{open-at}
-use Rattle.sw_object_machine.specs.Limits.{journal_bytes, journal_entries}
+use Rattle.sw_core.specs.Limits.{journal_bytes, journal_entries}
 use Rattle.sw_core.specs.Worlds.{AllNodes, HasLimits, IsWorld, Lifts, SetsDown, TellsOn, held_of, lock_of, past_of, first_of, restart_line, seen_of, sight_of}
 use Rattle.sw_core.specs.Worlds.{stripe_at}
 use Rattle.sw_core.specs.declared.slot.Slot.{Slot}
@@ -107,11 +108,11 @@ module _ {V : Type 0} (tells : V → Bool) (files : V → Folders) (faults : V �
       ap (λ (p : ℕ). holds (there hash).0.secrets p (files (there hash).0.volume) hash) (sym (powers hash))
       ∙ sym (held-told tells files faults (there hash).0 hash told)
 
-  seen-old : (hash : Hash) → seen_of tells files faults (slice_get old.slots (locked hash)) ≡ history_of tells files faults (there hash).0
+  seen-old : (hash : Hash) → seen_of tells files faults (slice_get old.slots (locked hash)) ≡ steps_of tells files faults (there hash).0
   seen-old hash = ap (seen_of tells files faults) (there hash).1
 
   told-old : (hash : Hash) → (seen_of tells files faults (slice_get old.slots (locked hash))).told ≡ true → is_told tells files faults (there hash).0 ≡ true
-  told-old hash told = sym (ap (λ (h : History). h.told) (seen-old hash)) ∙ told
+  told-old hash told = sym (ap (λ (h : ObjHistory). h.told) (seen-old hash)) ∙ told
 
   elsewhere : (d : ℕ) (hash : Hash) → d ≢ device → slice_get new.slots (lock_of old.lock_bits old.power d hash) ≡ slice_get old.slots
       (lock_of old.lock_bits old.power d hash)
@@ -129,18 +130,20 @@ module _ {V : Type 0} (tells : V → Bool) (files : V → Folders) (faults : V �
   restarts-after : Restarts device (sight_of tells files faults old) (sight_of tells files faults after)
   restarts-after = record {
     nodes = sym (ap (λ (o : Option ℕ). (sight_of tells files faults (record old { lifted = o })).nodes) whole);
-    others = λ d hash away. ap (seen_of tells files faults) (elsewhere d hash away);
-    told = λ hash told. rw (here hash) (told-begun hash (told-old hash told));
-    opening = λ alone hash told. rw (here hash)
-        (opening-begun hash (told-old hash told) ∙ ap (λ (o : Option (Slot V)). held_of tells files faults o hash) (sym (there hash).1));
-    entries = λ hash. rw (here hash) refl;
-    doubts = λ hash. rw (here hash) refl;
-    max_entries = λ hash. rw (here hash, (there hash).1) (sym (limits hash).0);
-    max_bytes = λ hash. rw (here hash, (there hash).1) (sym (limits hash).1);
-    faults = λ hash. rw (here hash, (there hash).1) (omega arith);
-    holds = λ alone hash told. rw (here hash)
-        (held-begun hash (told-old hash told) ∙ ap (λ (o : Option (Slot V)). held_of tells files faults o hash) (sym (there hash).1));
-    elsewhere = λ alone d hash away. ap (λ (o : Option (Slot V)). held_of tells files faults o hash) (elsewhere d hash away);
+    objects = record {
+      others = λ d hash away. ap (seen_of tells files faults) (elsewhere d hash away);
+      told = λ hash told. rw (here hash) (told-begun hash (told-old hash told));
+      opening = λ alone hash told. rw (here hash)
+          (ap bare (opening-begun hash (told-old hash told)) ∙ ap (λ (o : Option (Slot V)). held_of tells files faults o hash) (sym (there hash).1));
+      entries = λ hash. rw (here hash) refl;
+      doubts = λ hash. rw (here hash) refl;
+      max_entries = λ hash. rw (here hash, (there hash).1) (sym (limits hash).0);
+      max_bytes = λ hash. rw (here hash, (there hash).1) (sym (limits hash).1);
+      faults = λ hash. rw (here hash, (there hash).1) (omega arith);
+      holds = λ alone hash told. rw (here hash)
+          (ap bare (held-begun hash (told-old hash told)) ∙ ap (λ (o : Option (Slot V)). held_of tells files faults o hash) (sym (there hash).1));
+      elsewhere = λ alone d hash away. ap (λ (o : Option (Slot V)). held_of tells files faults o hash) (elsewhere d hash away);
+    };
     alone = refl;
     containers = down.containers;
     counts = (refl, refl);

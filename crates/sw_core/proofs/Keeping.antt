@@ -14,10 +14,11 @@ use Rattle.sw_hashpath.specs.HashParts.{partition_of}
 use Rattle.sw_hashpath.specs.declared.secrets.Secrets.{Secrets}
 use Rattle.sw_container_locks.specs.declared.cont_slot.ContSlot.{ContSlot}
 use Rattle.sw_keeper.specs.MemState.{MemState}
-use Rattle.sw_objdir.specs.Directories.{Kept, history_of, started}
+use Rattle.sw_objdir.specs.Directories.{Kept, started, steps_of}
 use Rattle.sw_outside.specs.Faults.{HasRisen}
-use Rattle.sw_object_steps.specs.Flat.{History}
+use Rattle.sw_object_steps.specs.Rules.{ObjHistory}
 use Rattle.sw_object_steps.specs.Journals.{Hash}
+use Rattle.sw_object_steps.specs.Values.{bare}
 use Rattle.sw_peer.specs.Sights.{IsListed}
 use Rattle.sw_peer.specs.declared.line.Event.TheVariants.{Listed}
 use Rattle.sw_peer.specs.declared.line.Line.{Line}
@@ -27,7 +28,7 @@ use Rattle.sw_core.proofs.Anew.{apart-from}
 use Rattle.sw_core.proofs.Placed.{stripe-below}
 use Rattle.sw_core.proofs.Slots.{same-some}
 use Rattle.sw_core.proofs.Wholes.{none-some, open-at}
-use Rattle.sw_object_machine.specs.Limits.{journal_bytes, journal_entries}
+use Rattle.sw_core.specs.Limits.{journal_bytes, journal_entries}
 use Rattle.sw_core.specs.Listing.{AreLookedAt, IsLookedAt}
 use Rattle.sw_core.specs.Worlds.{AllNodes, AreLifted, AreSetDown, HasRoom, IsSlot, IsWorld, first_of, held_of, is_out, lock_of, past_of, seen_of, sight_of}
 use Rattle.sw_core.specs.Worlds.{stripe_at}
@@ -265,15 +266,15 @@ module _ {V : Type 0} (tells : V → Bool) (files : V → Folders) (faults : V �
 
   -- nothing of a history changed but its count of faults
   history-looked : (k n : Kept V) → IsLookedAt tells files faults k n
-      → history_of tells files faults n ≡ record (history_of tells files faults k) { faults = faults n.volume }
+      → steps_of tells files faults n ≡ record (steps_of tells files faults k) { faults = faults n.volume }
   history-looked k n at =
       let same = at.looks.same in
       rw (same.began, same.secrets, same.power, at.journal) refl
 
-  abbrev old-seen : ℕ → History
+  abbrev old-seen : ℕ → ObjHistory
   old-seen l = seen_of tells files faults (slice_get w.slots l)
 
-  abbrev new-seen : ℕ → History
+  abbrev new-seen : ℕ → ObjHistory
   new-seen l = seen_of tells files faults (slice_get new l)
 
   -- a lock after it was looked at
@@ -296,7 +297,7 @@ module _ {V : Type 0} (tells : V → Bool) (files : V → Folders) (faults : V �
     | inl within ↦
         let there = open-at w is whole l within in
         let now = looked.within l there.0 there.1 in
-        rw (there.1, now.1) (now.2.held hash)
+        rw (there.1, now.1) (ap bare (now.2.held hash))
     | inr past ↦
         let none = slice_get_past w.slots l past in
         let also = slice_get_past new l (subst (λ (n : ℕ). n ≤ l) (sym looked.count) past) in

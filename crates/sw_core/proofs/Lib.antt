@@ -9,4 +9,5 @@ pub mod Stopped
 pub mod Stripes
 pub mod Wanting
 pub mod Wholes
+pub mod Witness
 pub mod Containing

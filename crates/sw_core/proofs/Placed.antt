@@ -1,7 +1,8 @@
 -- A step at one node, as the world tells it.
-use Rattle.std.proofs.Common.{◌≡◌, ◌≢◌, ℕ, ◌-◌, ◌/◌, ◌^◌, ◌<◌, ◌≤◌, Bool, true, false, ◌==◌, List, [], ◌∷◌, ◌++◌, length, refl, sym, ◌∙◌, ap, arith, Option}
-use Rattle.std.proofs.Common.{Some, inl, inr, Result, slice_set, length-set}
-use Rattle.std.specs.List.{slice_get}
+use Rattle.std.proofs.Common.{◌≡◌, ◌≢◌, ℕ, ◌-◌, ◌/◌, ◌^◌, ◌<◌, ◌≤◌, Bool, true, false, ◌==◌, List, [], ◌∷◌, ◌++◌, length, refl, sym, ◌∙◌, ap, arith, subst, Option}
+use Rattle.std.proofs.Common.{Some, inl, inr, Result, Ok, slice_set, length-set}
+use Rattle.std.specs.List.{fold, slice_get}
+use Rattle.std.specs.Str.{bytes_eq}
 use Rattle.std.proofs.lemmas.Option.{slice_get-get_or, slice_get_within, slice_get_past}
 use Rattle.std.proofs.lemmas.List.{get_or-set_same, get_or-set_other}
 use Rattle.std.proofs.lemmas.Bool.{cases_lt}
@@ -11,10 +12,18 @@ use borrow.Author.Tests.{eqb-true, eqb-false}
 use Rattle.sw_hashpath.specs.HashParts.{partition_of}
 use Rattle.sw_hashpath.specs.declared.name.Name.{Name}
 use Rattle.sw_history.proofs.Growing.{grows-refl, grows-trans}
-use Rattle.sw_object_steps.specs.Flat.{Grows, StepChanges, StepReads}
-use Rattle.sw_object_steps.specs.Journals.{Hash}
+use Rattle.sw_history.specs.Halves.{GrowsOf}
+use Rattle.sw_object_steps.proofs.Hashes.{hash-same, hash-self}
+use Rattle.sw_object_steps.specs.Histories.{ChangesObject, IsGiven, got_look, part_look}
+use Rattle.sw_object_steps.specs.Rules.{ObjHistory, obj_applied, obj_rules}
+use Rattle.sw_object_steps.specs.Values.{ObjValue, bare}
+use Rattle.sw_object_steps.specs.declared.entry.ObjEntry.{ObjEntry}
+use Rattle.sw_peer.proofs.Calls.{PartFrame, calls-once, faithful-once, made-step, part-step, read-step}
+use Rattle.sw_step.specs.Rules.{CanStand}
+use Rattle.sw_step.specs.Steps.{Look, StepReads, added_by}
+use Rattle.sw_object_steps.specs.Journals.{Hash, Shows}
 use Rattle.sw_object_steps.specs.Parts.{IsOfPart}
-use Rattle.sw_peer.specs.Sights.{IsAt, IsInPart, IsMade, IsPartRead, IsRead, Moves, Nodes}
+use Rattle.sw_peer.specs.Sights.{Calls, IsAt, IsInPart, IsMade, IsPartRead, IsRead, Moves, Nodes, Sight}
 use Rattle.sw_object_steps.specs.declared.dir_fault.DirFault.{DirFault}
 use Rattle.sw_peer.specs.declared.part_read.PartRead.{PartRead}
 use Rattle.sw_state.specs.declared.state.State.{State}
@@ -24,9 +33,8 @@ use Rattle.sw_object_steps.specs.declared.got.Got.{Got}
 use Rattle.sw_peer.specs.declared.line.Event.TheVariants.{Changed, Read, ReadPart}
 use Rattle.sw_peer.specs.declared.line.Line.{Line}
 use Rattle.sw_peer.specs.declared.link.Link.{Link}
-use Rattle.sw_object_machine.proofs.Recasts.{recast, recast-part, recast-read}
-use Rattle.sw_objdir.specs.Directories.{Kept, held, history_of}
-use Rattle.sw_objdir.specs.Stepping.{IsPartStep}
+use Rattle.sw_objdir.specs.Directories.{Kept, held, is_told, steps_of, values_of}
+use Rattle.sw_core.specs.Making.{IsChangedIn, IsGotIn, IsPartIn}
 use Rattle.sw_volume.specs.Tree.{Folders}
 use Rattle.sw_core.specs.declared.slot.Slot.{Slot}
 use Rattle.sw_core.specs.declared.slot.Slot.TheVariants as slots
@@ -57,6 +65,84 @@ pub device-of : (bits power d e p q : ℕ) → part_lock_of bits power d p ≡ p
 device-of bits power d e p q is =
     (same_from_place d (stripe_at bits power p) e (stripe_at bits power q) (2 ^ bits) (stripe-below bits power p) (stripe-below bits power q) is).0
 
+-- ---- a step of one lock, at a place where its directory stands
+
+module _ {V : Type 0} (tells : V → Bool) (files : V → Folders) (faults : V → ℕ) (d x : Kept V) where
+  abbrev seen : Option (Slot V) → ObjHistory
+  seen o = seen_of tells files faults o
+
+  abbrev holds : Option (Slot V) → Hash → ObjValue
+  holds o hash = held_of tells files faults o hash
+
+  -- a step that may change something: of what the device held it says something at the name's own hash alone
+  module _ (name : Name) (change : Change) (answer : Answer)
+      (step : ChangesObject true (steps_of tells files faults d) (values_of tells files faults d) name change answer (steps_of tells files faults x)
+      (values_of tells files faults x name.hash)) (s : Hash → ObjValue) where
+    abbrev ChangeAt : Option (Slot V) → Option (Slot V) → Type 0
+    ChangeAt o u = ((key : Hash) → bytes_eq key name.hash ≡ true → s key ≡ holds o key)
+        → (y : ChangesObject true (seen o) s name change answer (seen u) (holds u name.hash)) × (added_by obj_rules step ≡ added_by obj_rules y)
+
+    change-here : ChangeAt (Some (slots.Open d)) (Some (slots.Open x))
+    change-here same = (
+      record {
+        own = step.own;
+        before = step.before;
+        looked = step.looked;
+        read = step.read;
+        made = step.made;
+        follows = step.follows;
+        settles = step.settles;
+        settled = step.settled;
+        answered = step.answered;
+        orderly = step.orderly;
+        after = step.after;
+        failed = step.failed;
+        known = step.known;
+        kept = λ alone told other is. subst (λ (v : ObjValue). CanStand obj_rules step.before other v) (sym (same other is)) (step.kept alone told other is);
+        held = λ alone told looked. step.held alone told looked ∙ sym (same name.hash (hash-self name.hash));
+        leaves = λ alone told. step.leaves alone told
+            ∙ ap (λ (v : ObjValue). fold obj_applied v step.made) (sym (same name.hash (hash-self name.hash)));
+      },
+      refl,
+    )
+
+    change-at : (o u : Option (Slot V)) → o ≡ Some (slots.Open d) → u ≡ Some (slots.Open x) → ChangeAt o u
+    change-at o u before after = subst (λ (y : Option (Slot V)). ChangeAt y u) (sym before)
+        (subst (λ (y : Option (Slot V)). ChangeAt (Some (slots.Open d)) y) (sym after) change-here)
+
+  -- a read: of what the device holds it says something at these hashes alone
+  module _ {B : Type 0} (at : Hash → Bool) (look : B → Look) (reading : Bool → (Hash → ObjValue) → ℕ → B → Type 0) (got : B)
+      (step : StepReads obj_rules true (steps_of tells files faults d) at (λ doubt. true) look (reading (is_told tells files faults x)) got
+      (steps_of tells files faults x) (values_of tells files faults x)) (t : Hash → ObjValue) where
+    abbrev ReadAt : Option (Slot V) → Option (Slot V) → Type 0
+    ReadAt o u = ((key : Hash) → at key ≡ true → t key ≡ holds u key)
+        → (y : StepReads obj_rules true (seen o) at (λ doubt. true) look (reading (seen u).told) got (seen u) t)
+        × (step.follows.entries.0 ≡ y.follows.entries.0)
+
+    read-here : ReadAt (Some (slots.Open d)) (Some (slots.Open x))
+    read-here same = (
+      record {
+        read = step.read;
+        follows = step.follows;
+        settles = step.settles;
+        settled = step.settled;
+        shown = step.shown;
+        orderly = step.orderly;
+        failed = step.failed;
+        known = step.known;
+        kept = λ alone told key is. subst (λ (v : ObjValue). CanStand obj_rules (steps_of tells files faults x) key v) (sym (same key is))
+            (step.kept alone told key is);
+        held = λ alone told looked key is. step.held alone told looked key is ∙ sym (same key is);
+      },
+      refl,
+    )
+
+    read-at : (o u : Option (Slot V)) → o ≡ Some (slots.Open d) → u ≡ Some (slots.Open x) → ReadAt o u
+    read-at o u before after = subst (λ (y : Option (Slot V)). ReadAt y u) (sym before)
+        (subst (λ (y : Option (Slot V)). ReadAt (Some (slots.Open d)) y) (sym after) read-here)
+
+-- ---- all nodes
+
 -- one directory has made a step, and the others none
 module _ {V : Type 0} (tells : V → Bool) (files : V → Folders) (faults : V → ℕ) (w : AllNodes V) (place : ℕ) (d x : Kept V)
     (there : slice_get w.slots place ≡ Some (slots.Open d)) (lines : List Line) (asks : ℕ) where
@@ -66,8 +152,8 @@ module _ {V : Type 0} (tells : V → Bool) (files : V → Folders) (faults : V �
   pub now : slice_get (slice_set w.slots place (slots.Open x)) place ≡ Some (slots.Open x)
   now = slice_get-set_same w.slots place (slots.Open x) (slice_get_within w.slots place (slots.Open d) there)
 
-  grows_at : Grows (history_of tells files faults d) (history_of tells files faults x)
-      → (l : ℕ) (b : Bool) → (l == place) ≡ b → Grows (seen_of tells files faults (slice_get w.slots l))
+  grows_at : GrowsOf (steps_of tells files faults d) (steps_of tells files faults x)
+      → (l : ℕ) (b : Bool) → (l == place) ≡ b → GrowsOf (seen_of tells files faults (slice_get w.slots l))
       (seen_of tells files faults (slice_get (slice_set w.slots place (slots.Open x)) l))
   grows_at up l true is =
       let same : l ≡ place = eqb-true l place is in
@@ -87,7 +173,7 @@ module _ {V : Type 0} (tells : V → Bool) (files : V → Folders) (faults : V �
           ≡ held_of tells files faults (slice_get w.slots (lock_of w.lock_bits w.power e h)) h
       by true is =
           let equal : lock_of w.lock_bits w.power e h ≡ place = eqb-true (lock_of w.lock_bits w.power e h) place is in
-          rw (equal, now, there) (same equal)
+          rw (equal, now, there) (ap bare (same equal))
       by false is =
           let apart : lock_of w.lock_bits w.power e h ≢ place =
           λ equal. absurd (omega (arith, nat_tests, eqb-false (lock_of w.lock_bits w.power e h) place is, equal)) in
@@ -96,7 +182,7 @@ module _ {V : Type 0} (tells : V → Bool) (files : V → Folders) (faults : V �
 
   -- at these places, one of which is under this lock
   pub moves : (at : ℕ → Hash → Type 0) (e : ℕ) (h : Hash) → at e h → lock_of w.lock_bits w.power e h ≡ place
-      → Grows (history_of tells files faults d) (history_of tells files faults x)
+      → GrowsOf (steps_of tells files faults d) (steps_of tells files faults x)
       → ((e : ℕ) (h : Hash) → (at e h → ⊥) → lock_of w.lock_bits w.power e h ≡ place → held tells files faults x h ≡ held tells files faults d h)
       → Moves at (sight_of tells files faults w) (sight_of tells files faults stepped)
   moves at e h is here up same = record {
@@ -113,89 +199,105 @@ module _ {V : Type 0} (tells : V → Bool) (files : V → Folders) (faults : V �
 
 -- a step at the lock of a name
 module _ {V : Type 0} (tells : V → Bool) (files : V → Folders) (faults : V → ℕ) (w : AllNodes V) (device : ℕ) (name : Name) (d x : Kept V)
-    (at : slice_get w.slots (lock_of w.lock_bits w.power device name.hash) ≡ Some (slots.Open d)) (lines : List Line) where
+    (at : slice_get w.slots (lock_of w.lock_bits w.power device name.hash) ≡ Some (slots.Open d)) (link : Link) (line : Line) (lines : List Line)
+    (items : lines ≡ w.lines ++ line ∷ []) where
   abbrev place : ℕ
   place = lock_of w.lock_bits w.power device name.hash
 
-  abbrev pub after : AllNodes V
+  abbrev after : AllNodes V
   after = stepped tells files faults w place d x at lines w.asks
 
-  moved : Grows (history_of tells files faults d) (history_of tells files faults x) →
+  abbrev before_sight : Sight
+  before_sight = sight_of tells files faults w
+
+  abbrev after_sight : Sight
+  after_sight = sight_of tells files faults (record w { slots = slice_set w.slots place (slots.Open x); lines = lines })
+
+  moved : GrowsOf (steps_of tells files faults d) (steps_of tells files faults x) →
       ((h : Hash) → h ≢ name.hash → held tells files faults x h ≡ held tells files faults d h)
-      → Moves (IsAt device name.hash) (sight_of tells files faults w) (sight_of tells files faults after)
+      → Moves (IsAt device name.hash) before_sight after_sight
   moved up same = moves tells files faults w place d x at lines w.asks (IsAt device name.hash) device name.hash (refl, refl) refl up
       (λ e h away equal. same h (λ it. away (device-of w.lock_bits w.power e device (partition_of h w.power) (partition_of name.hash w.power) equal, it)))
 
   abbrev now_at : slice_get (slice_set w.slots place (slots.Open x)) place ≡ Some (slots.Open x)
   now_at = now tells files faults w place d x at lines w.asks
 
-  pub world-made : (link : Link) (change : Change) (answer : Answer)
-      → ((h : Hash) → h ≢ name.hash → held tells files faults x h ≡ held tells files faults d h)
-      → (step : StepChanges true (history_of tells files faults d) (held tells files faults d name.hash) name change answer (history_of tells files faults x)
-      (held tells files faults x name.hash))
-      → lines ≡ w.lines ++ record { device = device; link = link; event = Changed name change answer; added = step.added } ∷ []
-      → IsMade link device name change (sight_of tells files faults w) answer (sight_of tells files faults after)
-  world-made link change answer same step items = record {
-    moves = moved (grows-trans (history_of tells files faults d) step.before (history_of tells files faults x) step.follows step.after) same;
-    step = recast true (history_of tells files faults d) (seen_of tells files faults (slice_get w.slots place)) (held tells files faults d name.hash)
-        (held_of tells files faults (slice_get w.slots place) name.hash) name change answer
-        (history_of tells files faults x) (seen_of tells files faults (slice_get (slice_set w.slots place (slots.Open x)) place))
-        (held tells files faults x name.hash) (held_of tells files faults (slice_get (slice_set w.slots place (slots.Open x)) place) name.hash)
-        refl (ap (seen_of tells files faults) (sym at)) (ap (λ (o : Option (Slot V)). held_of tells files faults o name.hash) (sym at))
-        (ap (seen_of tells files faults) (sym now_at)) (ap (λ (o : Option (Slot V)). held_of tells files faults o name.hash) (sym now_at)) step;
-    trail = inl (ap Some items);
-  }
+  -- what a device holds under the name's hash is what stands at this lock
+  own-holds : (all : List (Slot V)) (key : Hash) → bytes_eq key name.hash ≡ true
+      → held_of tells files faults (slice_get all (lock_of w.lock_bits w.power device key)) key ≡ held_of tells files faults (slice_get all place) key
+  own-holds all key is = ap (λ (h : Hash). held_of tells files faults (slice_get all (lock_of w.lock_bits w.power device h)) key) (hash-same key name.hash is)
 
-  pub world-read : (link : Link) (got : Got)
-      → ((h : Hash) → held tells files faults x h ≡ held tells files faults d h)
-      → (step : StepReads true (history_of tells files faults d) name.hash got (history_of tells files faults x) (held tells files faults x name.hash))
-      → lines ≡ w.lines ++ record { device = device; link = link; event = Read name got; added = step.added } ∷ []
-      → IsRead link device name (sight_of tells files faults w) got (sight_of tells files faults after)
-  world-read link got same step items = record {
-    moves = moved step.follows (λ h away. same h);
-    holds_all = λ alone e h. held_same tells files faults w place d x at lines w.asks e h (λ equal. same h);
-    step = recast-read true (history_of tells files faults d) (seen_of tells files faults (slice_get w.slots place)) name.hash got
-        (history_of tells files faults x) (seen_of tells files faults (slice_get (slice_set w.slots place (slots.Open x)) place))
-        (held tells files faults x name.hash) (held_of tells files faults (slice_get (slice_set w.slots place (slots.Open x)) place) name.hash)
-        refl (ap (seen_of tells files faults) (sym at)) (ap (seen_of tells files faults) (sym now_at))
-        (ap (λ (o : Option (Slot V)). held_of tells files faults o name.hash) (sym now_at)) step;
-    trail = inl (ap Some items);
-  }
+  pub world-made : (change : Change) (answer : Answer) → IsChangedIn tells files faults d link device name change answer x line
+      → Calls (IsMade link device name change) (sight_of tells files faults w) link (Ok answer)
+      (sight_of tells files faults (record w { slots = slice_set w.slots (lock_of w.lock_bits w.power device name.hash) (slots.Open x); lines = lines }))
+  world-made change answer made =
+      let changes = made.step.changes in
+      let step = change-at tells files faults d x name change answer changes (before_sight.objects.holds device) (slice_get w.slots place)
+      (slice_get (slice_set w.slots place (slots.Open x)) place) at now_at (own-holds w.slots) in
+      calls-once (Moves (IsAt device name.hash)) (IsMade link device name change) (made-step link device name change) before_sight after_sight link answer
+      (faithful-once link)
+      (record {
+        moves = moved (grows-trans (steps_of tells files faults d) changes.before (steps_of tells files faults x) changes.follows changes.after)
+            made.step.others;
+        step = step.0;
+        trail = inl (ap Some (items ∙ ap (λ (l : Line). w.lines ++ l ∷ []) (made.line_is
+            ∙ ap (λ (es : List ObjEntry). record { device = device; link = link; event = Changed name change answer; added = es }) step.1)));
+      })
+
+  pub world-read : (got : Got) → IsGotIn tells files faults d link device name got x line
+      → Calls (IsRead link device name) (sight_of tells files faults w) link (Ok got)
+      (sight_of tells files faults (record w { slots = slice_set w.slots (lock_of w.lock_bits w.power device name.hash) (slots.Open x); lines = lines }))
+  world-read got read =
+      let step = read-at tells files faults d x (λ key. bytes_eq key name.hash) got_look (λ told stood front y. Shows told (stood name.hash).state front y) got
+      read.step.reads (after_sight.objects.holds device) (slice_get w.slots place) (slice_get (slice_set w.slots place (slots.Open x)) place) at now_at
+      (own-holds (slice_set w.slots place (slots.Open x))) in
+      calls-once (Moves (IsAt device name.hash)) (IsRead link device name) (read-step link device name) before_sight after_sight link got
+      (faithful-once link)
+      (record {
+        moves = moved read.step.reads.follows (λ h away. read.step.all h);
+        holds_all = λ alone e h. held_same tells files faults w place d x at lines w.asks e h (λ equal. read.step.all h);
+        step = step.0;
+        trail = inl (ap Some (items ∙ ap (λ (l : Line). w.lines ++ l ∷ []) (read.line_is
+            ∙ ap (λ (es : List ObjEntry). record { device = device; link = link; event = Read name got; added = es }) step.1)));
+      })
 
 -- a read of a partition, at its lock
 module _ {V A : Type 0} (tells : V → Bool) (files : V → Folders) (faults : V → ℕ) (w : AllNodes V) (device part : ℕ) (d x : Kept V)
-    (at : slice_get w.slots (part_lock_of w.lock_bits w.power device part) ≡ Some (slots.Open d)) (lines : List Line) (asks : ℕ)
-    (among own_at : Hash → Type 0) (damages : Bool) (reading : Nodes → Bool → (Hash → State) → A → Type 0) (own : Bool → (Hash → State) → A → Type 0)
+    (there : slice_get w.slots (part_lock_of w.lock_bits w.power device part) ≡ Some (slots.Open d)) (link : Link) (line : Line) (lines : List Line)
+    (items : lines ≡ w.lines ++ line ∷ []) (asks : ℕ) (at : Nodes → Hash → Bool) (damages : Bool) (reading : Nodes → Bool → (Hash → State) → A → Type 0)
     (read : Result A DirFault → PartRead) where
   abbrev part_place : ℕ
   part_place = part_lock_of w.lock_bits w.power device part
 
   abbrev pub part_after : AllNodes V
-  part_after = stepped tells files faults w part_place d x at lines asks
+  part_after = record w { slots = slice_set w.slots (part_lock_of w.lock_bits w.power device part) (slots.Open x); lines = lines; asks = asks }
 
   abbrev pub nodes_in : Nodes
   nodes_in = (sight_of tells files faults w).nodes
 
-  pub world-part : (link : Link) (got : Result A DirFault) (h : Hash) → IsOfPart w.power part h → among h
-      → ((k : Hash) → IsOfPart w.power part k × among k → own_at k) → ((b : Bool) (s : Hash → State) (y : A) → own b s y → reading nodes_in b s y)
-      → (step : IsPartStep tells files faults d own_at damages own got x)
-      → lines ≡ w.lines ++ record { device = device; link = link; event = ReadPart (read got); added = step.read.added } ∷ []
-      → IsPartRead link device part among damages reading read (sight_of tells files faults w) got (sight_of tells files faults part_after)
-  world-part link got h of_part is into reads step items = record {
-    moves = moves tells files faults w part_place d x at lines asks (IsInPart w.power device part among) device h (refl, of_part, is)
-        (ap (part_lock_of w.lock_bits w.power device) of_part.part_is) step.read.follows (λ e k away equal. step.all k);
-    holds_all = λ alone e k. held_same tells files faults w part_place d x at lines asks e k (λ equal. step.all k);
-    step = recast-part true (history_of tells files faults d) (seen_of tells files faults (slice_get w.slots part_place)) own_at
-        (λ hash. IsOfPart w.power part hash × among hash) into damages own (reading nodes_in) reads got
-        (history_of tells files faults x) (seen_of tells files faults (slice_get (slice_set w.slots part_place (slots.Open x)) part_place))
-        (held tells files faults x)
-        ((sight_of tells files faults part_after).objects.holds device)
-        refl (ap (seen_of tells files faults) (sym at)) (ap (seen_of tells files faults) (sym now_at))
-        (λ k in_part. sym (ap (λ (o : Option (Slot V)). held_of tells files faults o k)
-        (ap (λ (p : ℕ). slice_get (slice_set w.slots part_place (slots.Open x)) (part_lock_of w.lock_bits w.power device p)) in_part.0.part_is ∙ now_at)))
-        step.read;
-    trail = inl (ap Some items);
-  }
+  -- all these hashes are of the partition, and there is one
+  pub world-part : (got : Result A DirFault) (h : Hash) → IsOfPart w.power part h → at nodes_in h ≡ true
+      → ((k : Hash) → at nodes_in k ≡ true → partition_of k w.power ≡ part)
+      → IsPartIn tells files faults d link device (at nodes_in) damages (reading nodes_in) read got x line
+      → Calls (IsPartRead link device part at damages reading read) (sight_of tells files faults w) link (Ok got) (sight_of tells files faults part_after)
+  world-part got h of_part is inside made =
+      let reads = made.step.reads in
+      let step = read-at tells files faults d x (at nodes_in) part_look (λ told stood front y. IsGiven (reading nodes_in told) stood y) got reads
+      ((sight_of tells files faults part_after).objects.holds device) (slice_get w.slots part_place)
+      (slice_get (slice_set w.slots part_place (slots.Open x)) part_place) there now_at
+      (λ key own. ap (λ (p : ℕ). held_of tells files faults (slice_get (slice_set w.slots part_place (slots.Open x))
+      (part_lock_of w.lock_bits w.power device p)) key) (inside key own)) in
+      calls-once (PartFrame device part at) (IsPartRead link device part at damages reading read) (part-step link device part at damages reading read)
+      (sight_of tells files faults w) (sight_of tells files faults part_after) link got (faithful-once link)
+      (record {
+        moves = moves tells files faults w part_place d x there lines asks (IsInPart w.power device part (at nodes_in)) device h (refl, of_part, is)
+            (ap (part_lock_of w.lock_bits w.power device) of_part.part_is) reads.follows (λ e k away equal. made.step.all k);
+        holds_all = λ alone e k. held_same tells files faults w part_place d x there lines asks e k (λ equal. made.step.all k);
+        step = step.0;
+        sound = made.step.sound;
+        trail = inl (ap Some (items ∙ ap (λ (l : Line). w.lines ++ l ∷ []) (made.line_is
+            ∙ ap (λ (es : List ObjEntry). record { device = device; link = link; event = ReadPart (read got); added = es }) step.1)));
+      })
     where
       now_at : slice_get (slice_set w.slots part_place (slots.Open x)) part_place ≡ Some (slots.Open x)
-      now_at = now tells files faults w part_place d x at lines asks
+      now_at = now tells files faults w part_place d x there lines asks

@@ -7,7 +7,7 @@ use Rattle.std.proofs.lemmas.List.{append-nil}
 use Rattle.std.proofs.lemmas.Option.{slice_get-get_or, slice_get_within, slice_get_past}
 use Rattle.std.proofs.lemmas.List.{get_or-set_same, get_or-set_other}
 use Rattle.std.proofs.lemmas.Bool.{cases_lt}
-use Rattle.sw_object_machine.specs.Limits.{journal_bytes, journal_entries}
+use Rattle.sw_core.specs.Limits.{journal_bytes, journal_entries}
 use Rattle.sw_core.specs.Worlds.{AreLifted, AreSetDown, IsSetDown, TellsOn, volume_in}
 use Rattle.sw_core.specs.declared.slot.Slot.{Slot}
 use Rattle.sw_core.specs.declared.slot.Slot.TheVariants as slots

@@ -1,5 +1,5 @@
 -- No keeper of the nodes fails.
-use Rattle.std.proofs.Common.{◌≡◌, ℕ, ◌-◌, ◌^◌, ◌<◌, ◌≤◌, Bool, Option, None, Some, ◌⊎◌, inl, inr, refl, subst, arith}
+use Rattle.std.proofs.Common.{◌≡◌, ℕ, Bool, Option, None, Some, inl, inr, refl, arith}
 use Rattle.std.specs.List.{slice_get}
 use Rattle.sw_container_locks.specs.Halves.{cont_seen_of}
 use Rattle.sw_container_locks.specs.declared.cont_slot.ContSlot.{ContSlot}

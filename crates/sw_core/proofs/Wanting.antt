@@ -1,13 +1,18 @@
 -- A step that wants memory before it is made.
-use Rattle.std.proofs.Common.{◌≡◌, ◌<◌, ◌≤◌, ◌+◌, ℕ, Bool, true, false, List, [], refl, sym, arith, Result, Ok, Err, OnOk, inr}
+use Rattle.std.proofs.Common.{◌≡◌, ◌<◌, ◌≤◌, ◌+◌, ℕ, Bool, true, false, List, length, get_or, refl, sym, ◌∙◌, ap, subst, arith, Option, Some, Result, Ok, Err, OnOk, inr}
 use Rattle.std.specs.Result.{is_err}
-use Rattle.std.proofs.lemmas.List.{append-nil}
+use Rattle.std.specs.List.{slice_get}
+use Rattle.std.specs.Str.{bytes_eq}
+use Rattle.sw_hashpath.specs.HashParts.{partition_of}
 use Rattle.sw_hashpath.specs.declared.name.Name.{Name}
 use Rattle.sw_history.proofs.Growing.{grows-refl}
-use Rattle.sw_peer.proofs.Calls.{calls-once, faithful-once, made-step, moves-counted, moves-refl, part-step, read-step, same-refl, settles-none, wanting}
-use Rattle.sw_object_steps.specs.Flat.{History}
-use Rattle.sw_peer.specs.Sights.{Calls, IsAt, IsInPart, IsMade, IsPartRead, IsRead, Moves, Nodes, PartMoves, Sight}
+use Rattle.sw_peer.proofs.Calls.{PartFrame, calls-once, faithful-once, made-step, moves-counted, moves-refl, part-step, read-step, same-refl, wanting}
+use Rattle.sw_peer.specs.Sights.{Calls, IsAt, IsInPart, IsMade, IsPartRead, IsRead, MayStand, Moves, Nodes, Sight}
+use Rattle.sw_object_steps.proofs.Hashes.{hash-same}
 use Rattle.sw_object_steps.specs.Journals.{Hash}
+use Rattle.sw_object_steps.specs.Rules.{ObjHistory, obj_rules}
+use Rattle.sw_step.specs.Rules.{CanStand}
+use Rattle.sw_step.specs.Steps.{IsDamaged, IsLost, IsWanting, Tells}
 use Rattle.sw_object_steps.specs.declared.dir_fault.DirFault.{DirFault}
 use Rattle.sw_object_steps.specs.declared.dir_fault.DirFault.TheVariants as dir_faults
 use Rattle.sw_peer.specs.declared.part_read.PartRead.{PartRead}
@@ -18,88 +23,110 @@ use Rattle.sw_object_steps.specs.declared.got.Got.TheVariants as gots
 use Rattle.sw_peer.specs.declared.line.Line.{Line}
 use Rattle.sw_peer.specs.declared.link.Link.{Link}
 use Rattle.sw_volume.specs.Tree.{Folders}
-use Rattle.sw_core.specs.Worlds.{AllNodes, sight_of}
+use Rattle.sw_core.proofs.Wholes.{found}
+use Rattle.sw_core.specs.declared.slot.Slot.{Slot}
+use Rattle.sw_core.specs.Worlds.{AllMayStand, AllNodes, held_of, lock_of, part_lock_of, seen_of, sight_of}
 
-wanting-read : (link : Link) (device : ℕ) (name : Name) (s : Sight) → IsRead link device name s gots.NoMemory s
-wanting-read link device name s = record {
+tells : IsWanting ≡ Tells → ⊥
+tells is = cc
+
+damaged : IsWanting ≡ IsDamaged → ⊥
+damaged is = cc
+
+lost : IsWanting ≡ IsLost → ⊥
+lost is = cc
+
+wanting-read : (link : Link) (device : ℕ) (name : Name) (s : Sight) → MayStand device name.hash s → IsRead link device name s gots.NoMemory s
+wanting-read link device name s may = record {
   moves = moves-refl (IsAt device name.hash) s;
   holds_all = λ alone d hash. refl;
   step = record {
+    read = s.objects.holds device;
     follows = grows-refl h;
-    settles = λ alone. ([], settles-none h.journal);
-    settled = λ is. absurd (never is);
-    shown = tt;
-    failed = λ is. absurd (other is);
-    held = λ alone told is. absurd (never is);
-    added = [];
-    adds = λ alone. sym (append-nil h.journal.entries);
+    settles = λ alone. (0, refl);
+    settled = λ is. absurd (tells is);
+    shown = λ is. absurd (tells is);
+    orderly = λ is. absurd (damaged is);
+    failed = λ is. absurd (lost is);
+    known = λ told is. absurd (tells is);
+    kept = λ alone told key is. subst (λ (k : Hash). CanStand obj_rules h k (s.objects.holds device k)) (sym (same key is)) (may alone told);
+    held = λ alone told is. absurd (tells is);
   };
   trail = inr (refl, same-refl s);
 }
   where
-    h : History
+    h : ObjHistory
     h = s.objects.seen (s.nodes.lock device name.hash)
 
-    never : false ≡ true → ⊥
-    never is = cc
+    same : (key : Hash) → bytes_eq key name.hash ≡ true → key ≡ name.hash
+    same key is = hash-same key name.hash is
 
-    other : gots.NoMemory ≡ gots.Failed → ⊥
-    other is = cc
-
--- a read of a partition that wants memory before it is made, at nodes whose count of asking messages may have risen
-pub wanting-part : {A : Type 0} (link : Link) (device part : ℕ) (at : Hash → Type 0) (damages : Bool) (reading : Nodes → Bool → (Hash → State) → A → Type 0)
-    (read : Result A DirFault → PartRead)
-    (s : Sight) (asks : ℕ) → IsPartRead link device part at damages reading read s (Err dir_faults.NoMemory) (record s { asks = asks })
-wanting-part {A} link device part at damages reading read s asks = record {
-  moves = moves-counted (IsInPart s.nodes.power device part at) s s s.faults s.faults s.asks asks s.carriage s.carriage (omega arith)
-      (moves-refl (IsInPart s.nodes.power device part at) s);
+-- a read of a partition that wants memory before it is made, at nodes whose count of asking messages may have risen: each of these hashes holds what it
+-- may stand for
+pub wanting-part : {A : Type 0} (link : Link) (device part : ℕ) (at : Nodes → Hash → Bool) (damages : Bool)
+    (reading : Nodes → Bool → (Hash → State) → A → Type 0) (read : Result A DirFault → PartRead) (s : Sight) (asks : ℕ)
+    → ((s.objects.seen (s.nodes.part_lock device part)).told ≡ true → (key : Hash) → at s.nodes key ≡ true
+    → CanStand obj_rules (s.objects.seen (s.nodes.part_lock device part)) key (s.objects.holds device key))
+    → IsPartRead link device part at damages reading read s (Err dir_faults.NoMemory) (record s { asks = asks })
+wanting-part link device part at damages reading read s asks may = record {
+  moves = moves-counted (IsInPart s.nodes.power device part (at s.nodes)) s s s.faults s.faults s.asks asks s.carriage s.carriage (omega arith)
+      (moves-refl (IsInPart s.nodes.power device part (at s.nodes)) s);
   holds_all = λ alone d hash. refl;
   step = record {
-    follows = grows-refl h;
-    settles = λ alone. ([], settles-none h.journal);
-    settled = λ is. absurd (never is);
-    shown = tt;
-    failed = λ is. absurd (other (Err dir_faults.NoMemory) refl is);
-    held = λ alone told is. absurd (never is);
-    added = [];
-    adds = λ alone. sym (append-nil h.journal.entries);
+    read = s.objects.holds device;
+    follows = grows-refl (s.objects.seen (s.nodes.part_lock device part));
+    settles = λ alone. (0, refl);
+    settled = λ is. absurd (tells is);
+    shown = λ is. absurd (tells is);
+    orderly = λ is. absurd (damaged is);
+    failed = λ is. absurd (lost is);
+    known = λ told is. absurd (tells is);
+    kept = λ alone told key is. may told key is;
+    held = λ alone told is. absurd (tells is);
   };
+  sound = λ bad is. cc;
   trail = inr (refl, record { same = refl; faults = omega arith });
 }
-  where
-    h : History
-    h = s.objects.seen (s.nodes.part_lock device part)
 
-    never : false ≡ true → ⊥
-    never is = cc
-
-    other : (r : Result A DirFault) → r ≡ Err dir_faults.NoMemory → r ≡ Err dir_faults.Failed → ⊥
-    other r wants fails = cc
+-- what a lock tells of each hash, its device holds
+pub own-stands : {V : Type 0} (tells : V → Bool) (files : V → Folders) (faults : V → ℕ) (w : AllNodes V) (device : ℕ) (hash : Hash)
+    → AllMayStand tells files faults (slice_get w.slots (lock_of w.lock_bits w.power device hash)) → MayStand device hash (sight_of tells files faults w)
+own-stands tells files faults w device hash may alone told = may told hash
 
 module _ {V : Type 0} (tells : V → Bool) (files : V → Folders) (faults : V → ℕ) (w : AllNodes V) (lines : List Line) (same : lines ≡ w.lines) (link : Link)
-    (device : ℕ) (name : Name) where
-  pub wants : (change : Change) → Calls (IsMade link device name change) (sight_of tells files faults w) link (Ok answers.NoMemory)
-      (sight_of tells files faults (record w { lines = lines }))
-  wants change = rw same (calls-once (Moves (IsAt device name.hash)) (IsMade link device name change) (made-step link device name change)
-      (sight_of tells files faults w) (sight_of tells files faults w) link answers.NoMemory (faithful-once link)
-      (wanting link device name change (sight_of tells files faults w)))
+    (device : ℕ) where
+  module _ (name : Name) (may : AllMayStand tells files faults (slice_get w.slots (lock_of w.lock_bits w.power device name.hash))) where
+    pub wants : (change : Change) → Calls (IsMade link device name change) (sight_of tells files faults w) link (Ok answers.NoMemory)
+        (sight_of tells files faults (record w { lines = lines }))
+    wants change = rw same (calls-once (Moves (IsAt device name.hash)) (IsMade link device name change) (made-step link device name change)
+        (sight_of tells files faults w) (sight_of tells files faults w) link answers.NoMemory (faithful-once link)
+        (wanting link device name change (sight_of tells files faults w) (own-stands tells files faults w device name.hash may)))
 
-  pub wants-read : Calls (IsRead link device name) (sight_of tells files faults w) link (Ok gots.NoMemory)
-      (sight_of tells files faults (record w { lines = lines }))
-  wants-read = rw same (calls-once (Moves (IsAt device name.hash)) (IsRead link device name) (read-step link device name)
-      (sight_of tells files faults w) (sight_of tells files faults w) link gots.NoMemory (faithful-once link)
-      (wanting-read link device name (sight_of tells files faults w)))
+    pub wants-read : Calls (IsRead link device name) (sight_of tells files faults w) link (Ok gots.NoMemory)
+        (sight_of tells files faults (record w { lines = lines }))
+    wants-read = rw same (calls-once (Moves (IsAt device name.hash)) (IsRead link device name) (read-step link device name)
+        (sight_of tells files faults w) (sight_of tells files faults w) link gots.NoMemory (faithful-once link)
+        (wanting-read link device name (sight_of tells files faults w) (own-stands tells files faults w device name.hash may)))
 
--- a read of a partition that wants memory for its line
-module _ {V A : Type 0} (tells : V → Bool) (files : V → Folders) (faults : V → ℕ) (w : AllNodes V) (lines : List Line) (same : lines ≡ w.lines) (link : Link)
-    (device part asks : ℕ)
-    (at : Hash → Type 0) (damages : Bool) (reading : Nodes → Bool → (Hash → State) → A → Type 0) (read : Result A DirFault → PartRead) where
-  pub wants-part : Calls (IsPartRead link device part at damages reading read) (sight_of tells files faults w) link (Ok (Err dir_faults.NoMemory))
-      (sight_of tells files faults (record w { lines = lines; asks = asks }))
-  wants-part = rw same (calls-once (PartMoves device part at) (IsPartRead link device part at damages reading read)
-      (part-step link device part at damages reading read)
-      (sight_of tells files faults w) (sight_of tells files faults (record w { asks = asks })) link (Err dir_faults.NoMemory)
-      (faithful-once link) (wanting-part link device part at damages reading read (sight_of tells files faults w) asks))
+  -- a read of a partition that wants memory for its line
+  module _ {A : Type 0} (part asks : ℕ) (at : Nodes → Hash → Bool) (damages : Bool) (reading : Nodes → Bool → (Hash → State) → A → Type 0)
+      (read : Result A DirFault → PartRead) where
+    pub wants-part : AllMayStand tells files faults (slice_get w.slots (part_lock_of w.lock_bits w.power device part))
+        → ((key : Hash) → at (sight_of tells files faults w).nodes key ≡ true → partition_of key w.power ≡ part)
+        → Calls (IsPartRead link device part at damages reading read) (sight_of tells files faults w) link (Ok (Err dir_faults.NoMemory))
+        (sight_of tells files faults (record w { lines = lines; asks = asks }))
+    wants-part may inside = rw same (calls-once (PartFrame device part at) (IsPartRead link device part at damages reading read)
+        (part-step link device part at damages reading read)
+        (sight_of tells files faults w) (sight_of tells files faults (record w { asks = asks })) link (Err dir_faults.NoMemory)
+        (faithful-once link) (wanting-part link device part at damages reading read (sight_of tells files faults w) asks
+        (λ told key is. subst (λ (p : ℕ). CanStand obj_rules (seen_of tells files faults (slice_get w.slots (part_lock_of w.lock_bits w.power device part))) key
+        (held_of tells files faults (slice_get w.slots (part_lock_of w.lock_bits w.power device p)) key)) (sym (inside key is)) (may told key))))
+
+-- what is told of one place is told of the lock that it is
+pub lock-stands : {V : Type 0} (tells : V → Bool) (files : V → Folders) (faults : V → ℕ) (all : List (Slot V)) (l place : ℕ) (s : Slot V) → place ≡ l
+    → place < length all → s ≡ get_or all place s → AllMayStand tells files faults (Some s) → AllMayStand tells files faults (slice_get all l)
+lock-stands tells files faults all l place s is within there may =
+    subst (λ (o : Option (Slot _)). AllMayStand tells files faults o) (sym (ap (slice_get all) (sym is) ∙ found all place s within there)) may
 
 -- there is room for one more, where reserving it didn't fail
 pub reserved : {T E : Type 0} (r : Result T E) (len capacity : ℕ) → is_err r ≡ false → OnOk r (len + 1 ≤ capacity) → len < capacity

@@ -1,4 +1,5 @@
 pub mod Lifting
+pub mod Limits
 pub mod Lines
 pub mod Listing
 pub mod Making

@@ -10,24 +10,26 @@ use Rattle.sw_peer.specs.declared.line.Event.TheVariants.{Changed, Read, ReadPar
 use Rattle.sw_peer.specs.declared.line.Line.{Line}
 use Rattle.sw_peer.specs.declared.link.Link.{Link}
 use Rattle.sw_object_steps.specs.Journals.{Hash}
+use Rattle.sw_object_steps.specs.Rules.{obj_rules}
 use Rattle.sw_object_steps.specs.declared.dir_fault.DirFault.{DirFault}
 use Rattle.sw_peer.specs.declared.part_read.PartRead.{PartRead}
 use Rattle.sw_state.specs.declared.state.State.{State}
+use Rattle.sw_step.specs.Steps.{added_by}
 use Rattle.sw_volume.specs.Tree.{Folders}
 
 module _ {V : Type 0} (tells : V → Bool) (files : V → Folders) (faults : V → ℕ) where
   -- a step that may change the name
   pub record IsChangedIn (k : Kept V) (link : Link) (device : ℕ) (name : Name) (change : Change) (answer : Answer) (n : Kept V) (line : Line) : Type 0 where
     pub step : IsStep tells files faults k name change answer n
-    pub line_is : line ≡ record { device = device; link = link; event = Changed name change answer; added = step.made.added }
+    pub line_is : line ≡ record { device = device; link = link; event = Changed name change answer; added = added_by obj_rules step.changes }
 
   -- a read
   pub record IsGotIn (k : Kept V) (link : Link) (device : ℕ) (name : Name) (got : Got) (n : Kept V) (line : Line) : Type 0 where
     pub step : IsReadStep tells files faults k name got n
-    pub line_is : line ≡ record { device = device; link = link; event = Read name got; added = step.read.added }
+    pub line_is : line ≡ record { device = device; link = link; event = Read name got; added = step.reads.follows.entries.0 }
 
-  -- a read of a partition
-  pub record IsPartIn {A : Type 0} (k : Kept V) (link : Link) (device : ℕ) (at : Hash → Type 0) (damages : Bool) (reading : Bool → (Hash → State) → A → Type 0)
+  -- a read of these hashes of a partition
+  pub record IsPartIn {A : Type 0} (k : Kept V) (link : Link) (device : ℕ) (at : Hash → Bool) (damages : Bool) (reading : Bool → (Hash → State) → A → Type 0)
       (read : Result A DirFault → PartRead) (got : Result A DirFault) (n : Kept V) (line : Line) : Type 0 where
     pub step : IsPartStep tells files faults k at damages reading got n
-    pub line_is : line ≡ record { device = device; link = link; event = ReadPart (read got); added = step.read.added }
+    pub line_is : line ≡ record { device = device; link = link; event = ReadPart (read got); added = step.reads.follows.entries.0 }

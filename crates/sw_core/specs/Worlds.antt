@@ -6,8 +6,7 @@ use Rattle.std.specs.List.{All, flat_map, slice_get}
 use Rattle.std.specs.Str.{bytes_eq}
 use Rattle.std.specs.declared.alloc.Global.{Global}
 use Rattle.std.specs.declared.vec.Vec.{Vec}
-use Rattle.sw_object_machine.specs.Limits.{journal_bytes, journal_entries}
-use Rattle.sw_object_machine.specs.Machine.{empty_history}
+use Rattle.sw_core.specs.Limits.{empty_journal, journal_bytes, journal_entries}
 use Rattle.sw_core.specs.declared.slot.Slot.{Slot}
 use Rattle.sw_core.specs.declared.slot.Slot.TheVariants as slots
 use Rattle.sw_container_locks.specs.Halves.{half_of}
@@ -22,13 +21,14 @@ use Rattle.sw_hashpath.specs.declared.place.Place.{Place}
 use Rattle.sw_hashpath.specs.declared.secrets.Secrets.{Secrets}
 use Rattle.sw_hashdir.specs.Places.{in_order}
 use Rattle.sw_hashdir.specs.Steps.{is_hashed}
-use Rattle.sw_history.specs.Halves.{Half, HalfRestarts}
+use Rattle.sw_history.specs.Halves.{HalfRestarts}
 use Rattle.sw_keeper.specs.MemState.{MemState}
 use Rattle.sw_keeper.specs.Places.{at}
-use Rattle.sw_objdir.specs.Directories.{Kept, held, history_of, is_told, started}
+use Rattle.sw_objdir.specs.Directories.{Kept, is_told, started, steps_of, values_of}
 use Rattle.sw_peer.specs.Carriage.{faithful}
-use Rattle.sw_object_steps.specs.Flat.{History}
 use Rattle.sw_object_steps.specs.Journals.{Hash}
+use Rattle.sw_object_steps.specs.Rules.{ObjHistory, obj_rules}
+use Rattle.sw_object_steps.specs.Values.{ObjValue, bare}
 use Rattle.sw_peer.specs.Sights.{Nodes, Sight}
 use Rattle.sw_peer.specs.declared.line.Event.TheVariants.{Restarted}
 use Rattle.sw_peer.specs.declared.line.Line.{Line}
@@ -36,7 +36,7 @@ use Rattle.sw_peer.specs.declared.link.Link.TheVariants.{Local}
 use Rattle.sw_ring.specs.declared.ring.Ring.{Ring}
 use Rattle.sw_keeper.specs.declared.tables.Tables.{Tables}
 use Rattle.sw_state.specs.States.{state_of}
-use Rattle.sw_state.specs.declared.state.State.{State}
+use Rattle.sw_step.specs.Rules.{CanStand}
 use Rattle.sw_volume.specs.Tree.{Folders}
 
 pub record AllNodes (V : Type 0) : Type 0 where
@@ -114,7 +114,7 @@ nodes_of devices lock_bits power secrets =
       fits_place = is_hashed_place secrets;
       lock = lock_of lock_bits power;
       part_lock = part_lock_of lock_bits power;
-      one_lock = λ device hash digest. refl;
+      one_lock = λ device hash. refl;
     }
 
 -- how many devices may be asked: none while one is out
@@ -158,20 +158,34 @@ pub record AreContainers (devices lock_bits : ℕ) (locks : List (ContSlot MemSt
   pub count : length locks ≡ devices * 2 ^ lock_bits
   pub are_open : (l : ℕ) → l < length locks → IsOpen locks l
 
+-- ---- objects
+
+-- nothing stands under a hash
+abbrev pub none_stands : ObjValue
+none_stands = bare (state_of [])
+
+-- the history of a lock where nothing has happened
+abbrev pub empty_history : ObjHistory
+empty_history = record { told = true; opening = λ hash. none_stands; journal = empty_journal; faults = 0 }
+
 module _ {V : Type 0} (tells : V → Bool) (files : V → Folders) (faults : V → ℕ) where
   -- the history of a lock; where no directory is open one in which nothing has happened
-  abbrev pub seen_of : Option (Slot V) → History
-  seen_of (Some (slots.Open k)) = history_of tells files faults k
+  abbrev pub seen_of : Option (Slot V) → ObjHistory
+  seen_of (Some (slots.Open k)) = steps_of tells files faults k
   seen_of (Some (slots.Lifted secrets)) = empty_history
   seen_of (Some slots.Empty) = empty_history
   seen_of None = empty_history
 
   -- what a hash stands for at a lock
-  abbrev pub held_of : Option (Slot V) → Hash → State
-  held_of (Some (slots.Open k)) hash = held tells files faults k hash
-  held_of (Some (slots.Lifted secrets)) hash = state_of []
-  held_of (Some slots.Empty) hash = state_of []
-  held_of None hash = state_of []
+  abbrev pub held_of : Option (Slot V) → Hash → ObjValue
+  held_of (Some (slots.Open k)) hash = values_of tells files faults k hash
+  held_of (Some (slots.Lifted secrets)) hash = none_stands
+  held_of (Some slots.Empty) hash = none_stands
+  held_of None hash = none_stands
+
+  -- each hash may stand for what is held there at this lock
+  abbrev pub AllMayStand : Option (Slot V) → Type 0
+  AllMayStand slot = (seen_of slot).told ≡ true → (hash : Hash) → CanStand obj_rules (seen_of slot) hash (held_of slot hash)
 
   abbrev pub sight_of : AllNodes V → Sight
   sight_of w = record {

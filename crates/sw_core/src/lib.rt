@@ -2,14 +2,14 @@
 //!
 //! A [`World`] is all nodes of all devices of a ring, each object lock an object directory (`sw_objdir`) over a volume of its own, and is a
 //! door (`sw_peer`): each call is one step at one device, and the world keeps a line of it. A device is restarted by [`World::lift`], which
-//! gives its volumes, and [`World::set_down`], which begins anew on them. What runs of such lines leave at each device is said by two machines, that of
-//! objects (`sw_object_machine`) and that of containers (`sw_container_machine`).
+//! gives its volumes, and [`World::set_down`], which begins anew on them. What runs of such lines leave at each device is said by the machines of the
+//! crates above.
 //!
 //! Beside each object lock stands one of containers (`sw_container_locks`), whose tables are kept in memory. The world is their door too.
 //!
-//! What is promised: each step of the world is one of the machine, with calls that fail, full journals and restarts, so that the files of
-//! each hash at each device stand for the state of the writes that reached it; and where no step failed, the entries of the lines tell
-//! these writes.
+//! What is promised: each call is one step at its device, by the rules of objects (`sw_object_steps`) or of containers (`sw_container_steps`), with
+//! calls that fail, full journals and restarts, so that each hash of each device holds what it may stand for by the entries of its lock; and its line
+//! tells the entries that came.
 //!
 //! The next layers up are `sw_cluster`, which answers requests over the world and writes its trail, and `sw_steps`, which makes lists of steps
 //! and passes over it.

@@ -1,11 +1,12 @@
 //! A step at one lock, with its line.
 
-ghost use Rattle.std.specs.Prelude.{◌≡◌, ◌<◌, ◌^◌, ⊤, true, false, IfOk};
+ghost use Rattle.std.specs.Prelude.{◌≡◌, ◌<◌, ◌==◌, ◌^◌, ◌&&◌, true, false, IfOk};
+ghost use Rattle.std.specs.Str.{bytes_eq};
 ghost use Rattle.sw_core.specs.Lines.{briefs_in, doubt_in, settled_briefs};
 ghost use Rattle.sw_peer.specs.Lines.{own_by};
 ghost use Rattle.sw_core.specs.Making.{IsChangedIn, IsGotIn, IsPartIn};
 ghost use Rattle.sw_hashdir.specs.Steps.{IsHashed, is_hashed};
-ghost use Rattle.sw_hashpath.specs.HashParts.{suffix_of};
+ghost use Rattle.sw_hashpath.specs.HashParts.{partition_of, suffix_of};
 ghost use Rattle.sw_object_steps.specs.Parts.{AreHashes, AreLines, IsFile, IsOfPart};
 ghost use Rattle.sw_peer.specs.declared.part_read.PartRead.TheVariants.{Files, Hashes, Write};
 ghost use Rattle.sw_journal.specs.Entries.{first_in};
@@ -15,8 +16,8 @@ use std::alloc::Global;
 use sw_diskfile::FileName;
 use sw_hashpath::Name;
 use sw_objdir::ObjDir;
-use sw_outside::NoMemory;
 use sw_object_steps::{Answer, Brief, Change, ChangeSeen, DirFault, Got, Stored};
+use sw_outside::NoMemory;
 use sw_peer::{Event, KeptLine, Line, Link, PartRead, Seen};
 use sw_suffix::{DirLine, SuffixHash};
 use sw_volume::Volume;
@@ -104,7 +105,7 @@ pub(crate) fn hashes_in<V: Volume + Drop>(
     part: u32,
 ) -> (Result<Vec<SuffixHash>, DirFault>, KeptLine)
     requires part { part < 2 ^ dir.old.power }
-    ensures { IsPartIn V.tells V.holds V.faults dir.old link device (λ hash. IsOfPart dir.old.power part hash × ⊤) false
+    ensures { IsPartIn V.tells V.holds V.faults dir.old link device (λ hash. partition_of hash dir.old.power == part) false
         (λ told s got. AreHashes dir.old.power part told s got.items) (λ got. Hashes part got) result.0 dir.new result.1 }
 {
     let from = dir.front();
@@ -130,7 +131,8 @@ pub(crate) fn files_in<V: Volume + Drop>(
 ) -> (Result<Vec<DirLine>, DirFault>, KeptLine)
     requires part { part < 2 ^ dir.old.power }
     requires suffix { suffix < 4096 }
-    ensures { IsPartIn V.tells V.holds V.faults dir.old link device (λ hash. IsOfPart dir.old.power part hash × (suffix_of hash ≡ suffix)) false
+    ensures { IsPartIn V.tells V.holds V.faults dir.old link device
+        (λ hash. (partition_of hash dir.old.power == part) && (suffix_of hash == suffix)) false
         (λ told s got. AreLines dir.old.power part suffix told s got.items) (λ got. Files part suffix got) result.0 dir.new result.1 }
 {
     let from = dir.front();
@@ -156,7 +158,7 @@ pub(crate) fn write_in<V: Volume + Drop>(
     file: &FileName,
 ) -> (Result<Option<Stored>, DirFault>, KeptLine)
     requires within { IsOfPart dir.old.power part hash.now }
-    ensures { IsPartIn V.tells V.holds V.faults dir.old link device (λ other. IsOfPart dir.old.power part other × (other ≡ hash.now)) true
+    ensures { IsPartIn V.tells V.holds V.faults dir.old link device (bytes_eq hash.now) true
         (λ told s got. IsFile (is_hashed dir.old.secrets) hash.now file.now told s got) (λ got. Write part hash.now file.now got) result.0 dir.new result.1 }
 {
     let from = dir.front();

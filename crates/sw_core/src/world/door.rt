@@ -15,7 +15,7 @@ use sw_suffix::{DirLine, SuffixHash};
 use sw_volume::Volume;
 
 /// All nodes, of which nobody else changes one. No message is lost. A step that wants memory for its line, before it is made, is no step
-/// and has no line.
+/// and has no line: each hash holds what it may stand for, as before.
 impl<V: Volume + Drop> Door for World<V> {
     ghost sight = { sight_of V.tells V.holds V.faults };
 }
@@ -27,6 +27,11 @@ impl<V: Volume + Drop> FaithfulDoor for World<V> {
 }
 
 impl<V: Volume + Drop> ObjectDoor for World<V> {
+    fn may_stand(&self, device: u8, hash: &[u8; 16]) {
+        let place = self.lock(device, hash);
+        self.slots[place].may_stand();
+    }
+
     fn change(
         &mut self,
         alloc: Global,
@@ -35,13 +40,14 @@ impl<V: Volume + Drop> ObjectDoor for World<V> {
         name: &Name,
         change: Change,
     ) -> Result<Answer, Lost> {
+        let place = self.lock(device, &name.hash);
+        self.slots[place].may_stand();
         if self.lines.reserve(1).is_err() {
             return Ok(Answer::NoMemory);
         }
         let Ok(line_name) = name.copy(alloc) else {
             return Ok(Answer::NoMemory);
         };
-        let place = self.lock(device, &name.hash);
         let Ok(doubted) = doubted_in(alloc, &self.slots[place], &name.hash) else {
             return Ok(Answer::NoMemory);
         };
@@ -54,10 +60,11 @@ impl<V: Volume + Drop> ObjectDoor for World<V> {
     }
 
     fn get(&mut self, alloc: Global, link: Link, device: u8, name: &Name) -> Result<Got, Lost> {
+        let place = self.lock(device, &name.hash);
+        self.slots[place].may_stand();
         if self.lines.reserve(1).is_err() {
             return Ok(Got::NoMemory);
         }
-        let place = self.lock(device, &name.hash);
         let Ok(doubted) = doubted_in(alloc, &self.slots[place], &name.hash) else {
             return Ok(Got::NoMemory);
         };
@@ -78,11 +85,12 @@ impl<V: Volume + Drop> ReplicaDoor for World<V> {
         device: u8,
         part: u32,
     ) -> Result<Result<Vec<SuffixHash>, DirFault>, Lost> {
+        let place = self.lock_of_part(device, part);
+        self.slots[place].may_stand();
         self.asks = asked_after(link, self.asks);
         if self.lines.reserve(1).is_err() {
             return Ok(Err(DirFault::NoMemory));
         }
-        let place = self.lock_of_part(device, part);
         let Slot::Open(dir) = &mut self.slots[place] else {
             unreachable!()
         };
@@ -99,11 +107,12 @@ impl<V: Volume + Drop> ReplicaDoor for World<V> {
         part: u32,
         suffix: u16,
     ) -> Result<Result<Vec<DirLine>, DirFault>, Lost> {
+        let place = self.lock_of_part(device, part);
+        self.slots[place].may_stand();
         self.asks = asked_after(link, self.asks);
         if self.lines.reserve(1).is_err() {
             return Ok(Err(DirFault::NoMemory));
         }
-        let place = self.lock_of_part(device, part);
         let Slot::Open(dir) = &mut self.slots[place] else {
             unreachable!()
         };
@@ -121,10 +130,11 @@ impl<V: Volume + Drop> ReplicaDoor for World<V> {
         hash: &[u8; 16],
         file: &FileName,
     ) -> Result<Result<Option<Stored>, DirFault>, Lost> {
+        let place = self.lock_of_part(device, part);
+        self.slots[place].may_stand();
         if self.lines.reserve(1).is_err() {
             return Ok(Err(DirFault::NoMemory));
         }
-        let place = self.lock_of_part(device, part);
         let Slot::Open(dir) = &mut self.slots[place] else {
             unreachable!()
         };

@@ -15,8 +15,8 @@ use std::alloc::Global;
 use std::mem;
 use sw_hashpath::Secrets;
 use sw_objdir::ObjDir;
-use sw_outside::{BytesList, NoMemory};
 use sw_object_steps::Added;
+use sw_outside::{BytesList, NoMemory};
 use sw_peer::{Event, KeptLine, Line, Link};
 use sw_volume::{Volume, VolumeError};
 

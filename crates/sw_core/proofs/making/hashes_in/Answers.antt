@@ -5,10 +5,10 @@ use Rattle.sw_core.proofs.making.hashes_in.Goals as goal
 pub new-requires : goal.new-requires
 new-requires g c =
     let k = c.args.dir.now in
-    let read = c.hashes-got.ensures.read.read in
-    let added : c.added_since.result ≡ read.added = c.added_since.ensures k.journal.entries read.added c.front-from.ensures.length (read.adds refl) in
+    let came = c.hashes-got.ensures.read.reads.follows.entries in
+    let added : c.added_since.result ≡ came.0 = c.added_since.ensures k.journal.entries came.0 c.front-from.ensures.length came.1 in
     record {
-      settled = rw added (all-briefed k.journal (c.hashes-got.new.self).journal read.added (read.adds refl) c.new-settled.result.items
+      settled = rw added (all-briefed k.journal (c.hashes-got.new.self).journal came.0 came.1 c.new-settled.result.items
           c.hashes-got.new.settled.items c.new-settled.ensures.items c.hashes-got.ensures.briefs);
       entered = refl;
     }
@@ -16,6 +16,6 @@ new-requires g c =
 pub returns : goal.returns
 returns g c =
     let k = c.args.dir.now in
-    let read = c.hashes-got.ensures.read.read in
-    let added : c.added_since.result ≡ read.added = c.added_since.ensures k.journal.entries read.added c.front-from.ensures.length (read.adds refl) in
+    let came = c.hashes-got.ensures.read.reads.follows.entries in
+    let added : c.added_since.result ≡ came.0 = c.added_since.ensures k.journal.entries came.0 c.front-from.ensures.length came.1 in
     record { step = c.hashes-got.ensures.read; line_is = c.new.ensures ∙ rw (c.of.ensures, added) refl }

@@ -1,0 +1,13 @@
+-- How much the journal of an object lock holds. (This project's own.)
+use Rattle.std.specs.Prelude.{ℕ, []}
+use Rattle.sw_object_steps.specs.Rules.{ObjJournal}
+
+abbrev pub journal_entries : ℕ
+journal_entries = 262144
+
+-- the bytes of the bodies in it, together
+abbrev pub journal_bytes : ℕ
+journal_bytes = 33554432
+
+abbrev pub empty_journal : ObjJournal
+empty_journal = record { entries = []; doubts = []; max_entries = journal_entries; max_bytes = journal_bytes }
