@@ -1,7 +1,5 @@
--- Why a door that is alone goes on with a run.
-use Rattle.std.proofs.Common.{◌≡◌, ℕ, Bool, true, List, [], ◌∷◌, ◌++◌, map, refl, sym, ◌∙◌, ap, subst, inl, inr, ◌⊎◌, append_assoc, Option, None, Some}
-use Rattle.std.proofs.Common.{Result}
-use Rattle.std.proofs.lemmas.List.{append-nil}
+-- Why a door that is alone goes on with a run by each of its steps.
+use Rattle.std.proofs.Common.{◌≡◌, ℕ, Bool, true, List, [], ◌∷◌, ◌++◌, map, refl, sym, ◌∙◌, ap, subst, inl, inr, Option, Result}
 use Rattle.std.specs.Option.{option_map}
 use Rattle.sw_container_steps.specs.Reads.{info_of, listing_of, times_of}
 use Rattle.sw_container_steps.specs.Rules.{cont_rules}
@@ -11,14 +9,15 @@ use Rattle.sw_hashpath.specs.declared.place.Place.{Place}
 use Rattle.sw_keeper.specs.declared.tables.Tables.{Tables}
 use Rattle.sw_object_steps.specs.Journals.{Hash}
 use Rattle.sw_object_steps.specs.Rules.{obj_rules}
+use Rattle.sw_object_steps.specs.declared.answer.Answer.{Answer}
 use Rattle.sw_object_steps.specs.declared.dir_fault.DirFault.{DirFault}
 use Rattle.sw_object_steps.specs.declared.entry.ObjEntry.{ObjEntry}
+use Rattle.sw_object_steps.specs.declared.got.Got.{Got}
 use Rattle.sw_peer.specs.ContSights.{IsContMade, IsLooked, is_wanting_cont, is_wanting_look}
-use Rattle.sw_peer.specs.Sights.{IsMade, IsPartRead, IsRead, IsSame, Nodes, Sight, Trails}
-use Rattle.sw_peer.specs.Sights.{Restarts, cont_lock, is_wanting, is_wanting_part, is_wanting_read}
+use Rattle.sw_peer.specs.Sights.{IsMade, IsPartRead, IsRead, Nodes, Restarts, Sight, Trails, cont_lock}
+use Rattle.sw_peer.specs.Sights.{is_wanting, is_wanting_part, is_wanting_read}
 use Rattle.sw_peer.specs.declared.cont_event.ContEvent.{ContEvent}
 use Rattle.sw_peer.specs.declared.cont_event.ContEvent.TheVariants as cont_events
-use Rattle.sw_peer.specs.declared.line.Event.{Event}
 use Rattle.sw_peer.specs.declared.line.Event.TheVariants.{AtContainer, Changed, Listed, Read, ReadPart, Restarted}
 use Rattle.sw_peer.specs.declared.line.Line.{Line}
 use Rattle.sw_peer.specs.declared.link.Link.{Link}
@@ -26,78 +25,13 @@ use Rattle.sw_peer.specs.declared.link.Link.TheVariants.{Local}
 use Rattle.sw_peer.specs.declared.part_read.PartRead.{PartRead}
 use Rattle.sw_state.specs.declared.state.State.{State}
 use Rattle.sw_step.specs.Steps.{added_by}
-use Rattle.sw_machine.proofs.Runs.{joins}
-use Rattle.sw_machine.specs.Doors.{ChangeGoesOn, ContChangeGoesOn, FilesListedGoOn, FilesReadGoesOn, GoesOn, GoesOnBy, GoesOnByCont, GoingOnJoins}
-use Rattle.sw_machine.specs.Doors.{HashesReadGoesOn, InfoGoesOn, ListingGoesOn, ReadGoesOn, RestartGoesOn, RunsOnJoin, SameGoesOn, SendingGoesOn}
-use Rattle.sw_machine.specs.Doors.{StandsFor, TimesGoOn, WriteReadGoesOn, line_of}
-use Rattle.sw_machine.specs.Machine.{Came, ContComes, ContReads, ContSide, KnownRow, KnownWrite, Machine, ObjReadsPart, ObjSide, PartReads, RunLine, Runs, Steps, Went, came_in, made_rows, made_writes}
+use Rattle.sw_machine.proofs.Going.{changes-go-on, reads-go-on, same-goes}
+use Rattle.sw_machine.specs.Doors.{ContainerChangesGoOn, DeviceListingsGoOn, FilesReadsGoOn, GoesOn, GoesOnBy, HashesReadsGoOn, InfosGoOn, ListingsGoOn}
+use Rattle.sw_machine.specs.Doors.{LooksGoOn, ObjectChangesGoOn, ObjectReadsGoOn, ReadsGoOn, RestartsGoOn, StandsFor, TimesGoOn, WriteReadsGoOn, cont_line}
+use Rattle.sw_machine.specs.Doors.{obj_line}
+use Rattle.sw_machine.specs.Machine.{Came, ContComes, ContReads, ContSide, KnownRow, KnownWrite, Machine, ObjReadsPart, ObjSide, PartReads, Runs}
+use Rattle.sw_machine.specs.Machine.{Steps, made_rows, made_writes}
 use Rattle.sw_machine.specs.Messages.{MayChange, Message, WasSent}
-
--- ---- going on, and on
-
-came-append : (xs ys : List RunLine) → came_in (xs ++ ys) ≡ came_in xs ++ came_in ys
-came-append [] ys = refl
-came-append (Came line ∷ xs) ys = ap (λ (ls : List Line). line ∷ ls) (came-append xs ys)
-came-append (Went from message ∷ xs) ys = came-append xs ys
-
-kept-both : (old : Option (List Line)) (xs ys : List RunLine)
-    → option_map (λ ls. ls ++ came_in ys) (option_map (λ ls. ls ++ came_in xs) old) ≡ option_map (λ ls. ls ++ came_in (xs ++ ys)) old
-kept-both None xs ys = refl
-kept-both (Some ls) xs ys = ap Some (append_assoc ls (came_in xs) (came_in ys) ∙ ap (λ (zs : List Line). ls ++ zs) (sym (came-append xs ys)))
-
-kept-none : (old : Option (List Line)) → old ≡ option_map (λ ls. ls ++ []) old
-kept-none None = refl
-kept-none (Some ls) = ap Some (sym (append-nil ls))
-
-pub going-joins : GoingOnJoins
-going-joins s m lines t more u first next = (
-  record {
-    nodes = next.nodes ∙ first.nodes;
-    after = next.after;
-    run = joins s.nodes m lines first.after more next.after first.run
-        (subst (λ (n : Nodes). Runs n first.after more next.after) first.nodes next.run);
-    stands = next.stands;
-    kept = next.kept ∙ (ap (λ (o : Option (List Line)). option_map (λ ls. ls ++ came_in more) o) first.kept ∙ kept-both s.trail lines more);
-  },
-  refl,
-)
-
-pub runs-join : RunsOnJoin
-runs-join s t u first next m stands =
-    let one = first m stands in
-    let two = next one.1.after one.1.stands in
-    (one.0 ++ two.0, (going-joins s m one.0 t two.0 u one.1 two.1).0)
-
--- only counts of the door changed
-still-stands : (s t : Sight) (m : Machine) → IsSame s t → StandsFor s m → StandsFor t m
-still-stands s t m same stands = record {
-  objects = ap (λ (x : Sight). x.objects) same.same ∙ stands.objects;
-  containers = ap (λ (x : Sight). x.containers) same.same ∙ stands.containers;
-}
-
-pub same-goes : SameGoesOn
-same-goes s m t stands same = (
-  record {
-    nodes = ap (λ (x : Sight). x.nodes) same.same;
-    after = m;
-    run = refl;
-    stands = still-stands s t m same stands;
-    kept = ap (λ (x : Sight). x.trail) same.same ∙ kept-none s.trail;
-  },
-  refl,
-)
-
--- behind a run too
-pub then-same : (s t u : Sight) (m : Machine) (lines : List RunLine) → GoesOn s m lines t → IsSame t u → GoesOn s m lines u
-then-same s t u m lines goes same = record {
-  nodes = ap (λ (x : Sight). x.nodes) same.same ∙ goes.nodes;
-  after = goes.after;
-  run = goes.run;
-  stands = still-stands t u goes.after same goes.stands;
-  kept = ap (λ (x : Sight). x.trail) same.same ∙ goes.kept;
-}
-
--- ---- one step
 
 -- the machine with the door's own halves
 abbrev over : Sight → Machine → Machine
@@ -114,11 +48,11 @@ over-is s m stands i = record {
   sent = m.sent;
 }
 
-module _ (s t : Sight) (m : Machine) (stands : StandsFor s m) (nodes : t.nodes ≡ s.nodes) (line : Line) (after : Machine)
-    (step : Steps s.nodes (over s m) (Came line) after) (now : StandsFor t after) where
+module _ (s t : Sight) (m : Machine) (stands : StandsFor s m) (nodes : t.nodes ≡ s.nodes) (after : Machine) (now : StandsFor t after) where
   -- its line is kept
-  by-line : t.trail ≡ option_map (λ lines. lines ++ line ∷ []) s.trail → GoesOn s m (Came line ∷ []) t
-  by-line kept = record {
+  by-line : (line : Line) → Steps s.nodes (over s m) (Came line) after → t.trail ≡ option_map (λ lines. lines ++ line ∷ []) s.trail
+      → GoesOn s m (Came line ∷ []) t
+  by-line line step kept = record {
     nodes = nodes;
     after = after;
     run = subst (λ (x : Machine). Runs s.nodes x (Came line ∷ []) after) (over-is s m stands) (after, step, refl);
@@ -126,29 +60,18 @@ module _ (s t : Sight) (m : Machine) (stands : StandsFor s m) (nodes : t.nodes �
     kept = kept;
   }
 
-  abbrev Lines : Bool → List RunLine → Type 0
-  Lines wanting lines = (lines ≡ Came line ∷ []) ⊎ ((wanting ≡ true) × (lines ≡ []))
-
   -- or it wanted memory, and left none
-  by-trail : (wanting : Bool) → Trails s line wanting t → (lines : List RunLine) × Lines wanting lines × GoesOn s m lines t
-  by-trail wanting (inl kept) = (Came line ∷ [], inl refl, by-line kept)
-  by-trail wanting (inr none) = ([], inr (none.0, refl), (same-goes s m t stands none.1).0)
+  by-trail : {E : Type 0} (line : List E → Line) (added : List E) → Steps s.nodes (over s m) (Came (line added)) after → (wanting : Bool)
+      → Trails s (line added) wanting t → GoesOnBy s m line wanting t
+  by-trail line added step wanting (inl kept) = (Came (line added) ∷ [], inl (added, refl), by-line (line added) step kept)
+  by-trail line added step wanting (inr none) = ([], inr (none.0, refl), (same-goes s m t stands none.1).0)
 
-with-added : (s t : Sight) (m : Machine) (device : ℕ) (link : Link) (event : Event) (wanting : Bool) (added : List ObjEntry)
-    → ((lines : List RunLine) × ((lines ≡ line_of device link event added ∷ []) ⊎ ((wanting ≡ true) × (lines ≡ []))) × GoesOn s m lines t)
-    → GoesOnBy s m device link event wanting t
-with-added s t m device link event wanting added (lines, inl is, goes) = (lines, inl (added, is), goes)
-with-added s t m device link event wanting added (lines, inr none, goes) = (lines, inr none, goes)
+-- the door, said to be alone or not
+abbrev said : Sight → Bool → Sight
+said t alone = record t { alone = alone }
 
-with-entries : (s t : Sight) (m : Machine) (device : ℕ) (link : Link) (event : ContEvent) (wanting : Bool) (entries : List ContEntry)
-    → ((lines : List RunLine) × ((lines ≡ line_of device link (AtContainer event entries) [] ∷ []) ⊎ ((wanting ≡ true) × (lines ≡ []))) × GoesOn s m lines t)
-    → GoesOnByCont s m device link event wanting t
-with-entries s t m device link event wanting entries (lines, inl is, goes) = (lines, inl (entries, is), goes)
-with-entries s t m device link event wanting entries (lines, inr none, goes) = (lines, inr none, goes)
-
--- the door, said to be alone
-abbrev alone_is : Sight → Bool → Sight
-alone_is t alone = record t { alone = alone }
+still : (sent : List Message) (line : Line) → (MayChange line.event → ⊥) → WasSent sent line
+still sent line never is may = absurd (never may)
 
 -- ---- steps at objects
 
@@ -160,19 +83,24 @@ at_objects s t m known = record {
   sent = m.sent;
 }
 
-pub change-goes : ChangeGoesOn
-change-goes link device name change s answer t m stands alone sent made =
-    subst (λ (a : Bool). IsMade link device name change s answer (alone_is t a)
-    → GoesOnBy s m device link (Changed name change answer) (is_wanting answer) (alone_is t a)) (sym alone) at made
+pub object-changes : ObjectChangesGoOn
+object-changes device name change =
+    changes-go-on (λ link. IsMade link device name change) line is_wanting (λ link s x t made. made.moves.alone) (λ x added. refl)
+    (λ link s answer t m stands alone sent made.
+    subst (λ (a : Bool). IsMade link device name change s answer (said t a) → GoesOnBy s m (line link answer) (is_wanting answer) (said t a))
+    (sym alone) (at link s answer t m stands sent) made)
   where
-    u : Sight
-    u = alone_is t true
+    line : Link → Answer → List ObjEntry → Line
+    line link answer = obj_line device link (Changed name change answer)
 
-    at : IsMade link device name change s answer u → GoesOnBy s m device link (Changed name change answer) (is_wanting answer) u
-    at made = with-added s u m device link (Changed name change answer) (is_wanting answer) (added_by obj_rules made.step)
-        (by-trail s u m stands made.moves.nodes _
-        (at_objects s u m (m.objects.known ++ map (λ n. (device, n)) (made_writes name made.step.made))) (
-          sent,
+    at : (link : Link) (s : Sight) (answer : Answer) (t : Sight) (m : Machine) → StandsFor s m
+        → ((added : List ObjEntry) → WasSent m.sent (line link answer added)) → IsMade link device name change s answer (said t true) → GoesOnBy s m (line link answer) (is_wanting answer) (said t true)
+    at link s answer t m stands sent made =
+        by-trail s (said t true) m stands made.moves.nodes
+        (at_objects s t m (m.objects.known ++ map (λ n. (device, n)) (made_writes name made.step.made)))
+        (record { objects = refl; containers = made.moves.containers })
+        (line link answer) (added_by obj_rules made.step) (
+          sent (added_by obj_rules made.step),
           (
             record {
               moves = made.moves.objects;
@@ -186,26 +114,28 @@ change-goes link device name change s answer t m stands alone sent made =
           ),
           refl,
         )
-        (record { objects = refl; containers = made.moves.containers }) (is_wanting answer) made.trail)
+        (is_wanting answer) made.trail
 
-unsent : (sent : List Message) (link : Link) (device : ℕ) (event : Event) → (MayChange event → ⊥) → WasSent sent link device event
-unsent sent link device event never is may = absurd (never may)
-
-pub read-goes-on : ReadGoesOn
-read-goes-on link device name s got t m stands alone read =
-    subst (λ (a : Bool). IsRead link device name s got (alone_is t a) → GoesOnBy s m device link (Read name got) (is_wanting_read got) (alone_is t a)) (sym alone)
-    at read
+pub object-reads : ObjectReadsGoOn
+object-reads device name =
+    reads-go-on (λ link. IsRead link device name) line is_wanting_read (λ link s x t read. read.moves.alone)
+    (λ link s got t m stands alone read.
+    subst (λ (a : Bool). IsRead link device name s got (said t a) → GoesOnBy s m (line link got) (is_wanting_read got) (said t a))
+    (sym alone) (at link s got t m stands) read)
   where
-    u : Sight
-    u = alone_is t true
+    line : Link → Got → List ObjEntry → Line
+    line link got = obj_line device link (Read name got)
 
-    at : IsRead link device name s got u → GoesOnBy s m device link (Read name got) (is_wanting_read got) u
-    at read = with-added s u m device link (Read name got) (is_wanting_read got) read.step.follows.entries.0
-        (by-trail s u m stands read.moves.nodes _ (at_objects s u m m.objects.known) (
-          unsent m.sent link device (Read name got) (λ may. may),
+    at : (link : Link) (s : Sight) (got : Got) (t : Sight) (m : Machine) → StandsFor s m → IsRead link device name s got (said t true)
+        → GoesOnBy s m (line link got) (is_wanting_read got) (said t true)
+    at link s got t m stands read =
+        by-trail s (said t true) m stands read.moves.nodes (at_objects s t m m.objects.known)
+        (record { objects = refl; containers = read.moves.containers })
+        (line link got) read.step.follows.entries.0 (
+          still m.sent (line link got read.step.follows.entries.0) (λ may. may),
           (
             record {
-              held = u.objects.holds device;
+              held = t.objects.holds device;
               is_held = λ k same. refl;
               step = read.step;
               added_is = refl;
@@ -219,57 +149,61 @@ read-goes-on link device name s got t m stands alone read =
           ),
           refl,
         )
-        (record { objects = refl; containers = read.moves.containers }) (is_wanting_read got) read.trail)
+        (is_wanting_read got) read.trail
 
 -- a read of hashes of a partition, as its line tells of it
-module _ {A : Type 0} (link : Link) (device part : ℕ) (at : Nodes → Hash → Bool) (damages : Bool)
-    (reading : Nodes → Bool → (Hash → State) → A → Type 0) (read_as : Result A DirFault → PartRead)
+module _ {A : Type 0} (device part : ℕ) (at : Nodes → Hash → Bool) (damages : Bool) (reading : Nodes → Bool → (Hash → State) → A → Type 0)
+    (read_as : Result A DirFault → PartRead)
     (comes : (nodes : Nodes) (m : ObjSide) (got : Result A DirFault) (added : List ObjEntry) (after : ObjSide)
     → PartReads nodes m device part at damages reading got added after → ObjReadsPart nodes m device (read_as got) added after) where
-  pub part-goes-on : (s : Sight) (got : Result A DirFault) (t : Sight) (m : Machine) → StandsFor s m → t.alone ≡ true
-      → IsPartRead link device part at damages reading read_as s got t → GoesOnBy s m device link (ReadPart (read_as got)) (is_wanting_part got) t
-  part-goes-on s got t m stands alone read =
-      subst (λ (a : Bool). IsPartRead link device part at damages reading read_as s got (alone_is t a)
-      → GoesOnBy s m device link (ReadPart (read_as got)) (is_wanting_part got) (alone_is t a)) (sym alone) one read
-    where
-      u : Sight
-      u = alone_is t true
+  abbrev line_as : Link → Result A DirFault → List ObjEntry → Line
+  line_as link got = obj_line device link (ReadPart (read_as got))
 
-      one : IsPartRead link device part at damages reading read_as s got u → GoesOnBy s m device link (ReadPart (read_as got)) (is_wanting_part got) u
-      one read = with-added s u m device link (ReadPart (read_as got)) (is_wanting_part got) read.step.follows.entries.0
-          (by-trail s u m stands read.moves.nodes _ (at_objects s u m m.objects.known) (
-            unsent m.sent link device (ReadPart (read_as got)) (λ may. may),
-            (
-              comes s.nodes (over s m).objects got read.step.follows.entries.0 (at_objects s u m m.objects.known).objects
-                  (record {
-                    reads = record {
-                      held = u.objects.holds device;
-                      is_held = λ k same. refl;
-                      step = read.step;
-                      added_is = refl;
-                      elsewhere = λ other away.
-                          read.moves.objects.elsewhere other
-                          (λ d key is equal. away (equal
-                          ∙ (ap (λ (e : ℕ). s.nodes.lock e key) is.0 ∙ (s.nodes.one_lock device key ∙ ap (s.nodes.part_lock device) is.1.part_is))));
-                      holds = read.holds_all refl;
-                      known = refl;
-                    };
-                    sound = read.sound;
-                  }),
-              refl,
-            ),
-            refl,
-          )
-          (record { objects = refl; containers = read.moves.containers }) (is_wanting_part got) read.trail)
+  one-part : (link : Link) (s : Sight) (got : Result A DirFault) (t : Sight) (m : Machine) → StandsFor s m
+      → IsPartRead link device part at damages reading read_as s got (said t true) → GoesOnBy s m (line_as link got) (is_wanting_part got) (said t true)
+  one-part link s got t m stands read =
+      by-trail s (said t true) m stands read.moves.nodes (at_objects s t m m.objects.known)
+      (record { objects = refl; containers = read.moves.containers })
+      (line_as link got) read.step.follows.entries.0 (
+        still m.sent (line_as link got read.step.follows.entries.0) (λ may. may),
+        (
+          comes s.nodes (over s m).objects got read.step.follows.entries.0 (at_objects s t m m.objects.known).objects
+              (record {
+                reads = record {
+                  held = t.objects.holds device;
+                  is_held = λ k same. refl;
+                  step = read.step;
+                  added_is = refl;
+                  elsewhere = λ other away.
+                      read.moves.objects.elsewhere other
+                      (λ d key is equal. away (equal
+                      ∙ (ap (λ (e : ℕ). s.nodes.lock e key) is.0 ∙ (s.nodes.one_lock device key ∙ ap (s.nodes.part_lock device) is.1.part_is))));
+                  holds = read.holds_all refl;
+                  known = refl;
+                };
+                sound = read.sound;
+              }),
+          refl,
+        ),
+        refl,
+      )
+      (is_wanting_part got) read.trail
 
-pub hashes-goes-on : HashesReadGoesOn
-hashes-goes-on link device part = part-goes-on link device part _ _ _ _ (λ nodes m got added after reads. reads)
+  part-reads : ReadsGoOn (λ link. IsPartRead link device part at damages reading read_as) line_as is_wanting_part
+  part-reads =
+      reads-go-on (λ link. IsPartRead link device part at damages reading read_as) line_as is_wanting_part (λ link s x t read. read.moves.alone)
+      (λ link s got t m stands alone read.
+      subst (λ (a : Bool). IsPartRead link device part at damages reading read_as s got (said t a)
+      → GoesOnBy s m (line_as link got) (is_wanting_part got) (said t a)) (sym alone) (one-part link s got t m stands) read)
 
-pub files-goes-on : FilesReadGoesOn
-files-goes-on link device part suffix = part-goes-on link device part _ _ _ _ (λ nodes m got added after reads. reads)
+pub hashes-reads : HashesReadsGoOn
+hashes-reads device part = part-reads device part _ _ _ _ (λ nodes m got added after reads. reads)
 
-pub write-goes-on : WriteReadGoesOn
-write-goes-on link device part hash file = part-goes-on link device part _ _ _ _ (λ nodes m got added after reads. reads)
+pub files-reads : FilesReadsGoOn
+files-reads device part suffix = part-reads device part _ _ _ _ (λ nodes m got added after reads. reads)
+
+pub write-reads : WriteReadsGoOn
+write-reads device part hash file = part-reads device part _ _ _ _ (λ nodes m got added after reads. reads)
 
 -- ---- steps at containers
 
@@ -281,18 +215,24 @@ at_containers s t m known = record {
   sent = m.sent;
 }
 
-pub cont-change-goes : ContChangeGoesOn
-cont-change-goes link device place change s answer t m stands alone sent made =
-    subst (λ (a : Bool). IsContMade link device place change s answer (alone_is t a)
-    → GoesOnByCont s m device link (cont_events.Changed place change answer) (is_wanting_cont answer) (alone_is t a)) (sym alone) at made
+pub container-changes : ContainerChangesGoOn
+container-changes device place change =
+    changes-go-on (λ link. IsContMade link device place change) line is_wanting_cont (λ link s x t made. made.moves.alone) (λ x added. refl)
+    (λ link s answer t m stands alone sent made.
+    subst (λ (a : Bool). IsContMade link device place change s answer (said t a) → GoesOnBy s m (line link answer) (is_wanting_cont answer) (said t a))
+    (sym alone) (at link s answer t m stands sent) made)
   where
-    u : Sight
-    u = alone_is t true
+    line : Link → ContAnswer → List ContEntry → Line
+    line link answer = cont_line device link (cont_events.Changed place change answer)
 
-    at : IsContMade link device place change s answer u → GoesOnByCont s m device link (cont_events.Changed place change answer) (is_wanting_cont answer) u
-    at made = with-entries s u m device link (cont_events.Changed place change answer) (is_wanting_cont answer) (added_by cont_rules made.step.step)
-        (by-trail s u m stands made.moves.nodes _
-        (at_containers s u m (m.containers.known ++ map (λ n. (device, n)) (made_rows place change answer made.step.step.made))) (
+    at : (link : Link) (s : Sight) (answer : ContAnswer) (t : Sight) (m : Machine) → StandsFor s m
+        → ((added : List ContEntry) → WasSent m.sent (line link answer added)) → IsContMade link device place change s answer (said t true)
+        → GoesOnBy s m (line link answer) (is_wanting_cont answer) (said t true)
+    at link s answer t m stands sent made =
+        by-trail s (said t true) m stands made.moves.nodes
+        (at_containers s t m (m.containers.known ++ map (λ n. (device, n)) (made_rows place change answer made.step.step.made)))
+        (record { objects = made.moves.objects; containers = refl })
+        (line link answer) (added_by cont_rules made.step.step) (
           sent (added_by cont_rules made.step.step),
           (
             refl,
@@ -308,66 +248,70 @@ cont-change-goes link device place change s answer t m stands alone sent made =
           ),
           refl,
         )
-        (record { objects = made.moves.objects; containers = refl }) (is_wanting_cont answer) made.trail)
+        (is_wanting_cont answer) made.trail
 
 -- a read of one container, as its line tells of it
-module _ {A : Type 0} (link : Link) (device : ℕ) (place : Place) (reading : Option Tables → ℕ → Result A ContAnswer) (event : Result A ContAnswer → ContEvent)
-    (still : (got : Result A ContAnswer) (entries : List ContEntry) → MayChange (AtContainer (event got) entries) → ⊥)
+module _ {A : Type 0} (device : ℕ) (place : Place) (reading : Option Tables → ℕ → Result A ContAnswer) (event : Result A ContAnswer → ContEvent)
+    (never : (got : Result A ContAnswer) (entries : List ContEntry) → MayChange (AtContainer (event got) entries) → ⊥)
     (comes : (nodes : Nodes) (m : ContSide) (got : Result A ContAnswer) (added : List ContEntry) (after : ContSide)
     → ContReads nodes m device place reading got added after → ContComes nodes m device (event got) added after) where
-  pub look-goes-on : (s : Sight) (got : Result A ContAnswer) (t : Sight) (m : Machine) → StandsFor s m → t.alone ≡ true
-      → IsLooked link device place reading event s got t → GoesOnByCont s m device link (event got) (is_wanting_look got) t
-  look-goes-on s got t m stands alone read =
-      subst (λ (a : Bool). IsLooked link device place reading event s got (alone_is t a)
-      → GoesOnByCont s m device link (event got) (is_wanting_look got) (alone_is t a)) (sym alone) at read
+  abbrev line_by : Link → Result A ContAnswer → List ContEntry → Line
+  line_by link got = cont_line device link (event got)
+
+  one-look : (link : Link) (s : Sight) (got : Result A ContAnswer) (t : Sight) (m : Machine) → StandsFor s m
+      → IsLooked link device place reading event s got (said t true) → GoesOnBy s m (line_by link got) (is_wanting_look got) (said t true)
+  one-look link s got t m stands read =
+      by-trail s (said t true) m stands read.moves.nodes (at_containers s t m m.containers.known)
+      (record { objects = read.moves.objects; containers = refl })
+      (line_by link got) entries (
+        still m.sent (line_by link got entries) (never got entries),
+        (
+          refl,
+          comes s.nodes (over s m).containers got entries (at_containers s t m m.containers.known).containers
+              (record {
+                held = read.step.held;
+                is_held = read.step.is_held refl;
+                step = read.step.step;
+                added_is = refl;
+                elsewhere = λ other away.
+                    read.moves.containers.elsewhere other
+                    (λ d key is equal. away (equal ∙ (ap (λ (e : ℕ). cont_lock s.nodes e key) is.0 ∙ ap (cont_lock s.nodes device) is.1)));
+                holds = read.holds_all refl;
+                known = refl;
+              }),
+          refl,
+        ),
+        refl,
+      )
+      (is_wanting_look got) read.trail
     where
-      u : Sight
-      u = alone_is t true
+      entries : List ContEntry
+      entries = read.step.step.follows.entries.0
 
-      at : IsLooked link device place reading event s got u → GoesOnByCont s m device link (event got) (is_wanting_look got) u
-      at read =
-          let entries = read.step.step.follows.entries.0 in
-          with-entries s u m device link (event got) (is_wanting_look got) entries
-          (by-trail s u m stands read.moves.nodes _ (at_containers s u m m.containers.known) (
-            unsent m.sent link device (AtContainer (event got) entries) (still got entries),
-            (
-              refl,
-              comes s.nodes (over s m).containers got entries (at_containers s u m m.containers.known).containers
-                  (record {
-                    held = read.step.held;
-                    is_held = read.step.is_held refl;
-                    step = read.step.step;
-                    added_is = refl;
-                    elsewhere = λ other away.
-                        read.moves.containers.elsewhere other
-                        (λ d key is equal. away (equal ∙ (ap (λ (e : ℕ). cont_lock s.nodes e key) is.0 ∙ ap (cont_lock s.nodes device) is.1)));
-                    holds = read.holds_all refl;
-                    known = refl;
-                  }),
-              refl,
-            ),
-            refl,
-          )
-          (record { objects = read.moves.objects; containers = refl }) (is_wanting_look got) read.trail)
+  looks : LooksGoOn device place reading event
+  looks =
+      reads-go-on (λ link. IsLooked link device place reading event) line_by is_wanting_look (λ link s x t read. read.moves.alone)
+      (λ link s got t m stands alone read.
+      subst (λ (a : Bool). IsLooked link device place reading event s got (said t a)
+      → GoesOnBy s m (line_by link got) (is_wanting_look got) (said t a)) (sym alone) (one-look link s got t m stands) read)
 
-pub times-goes-on : TimesGoOn
-times-goes-on link device place =
-    look-goes-on link device place times_of (λ got. cont_events.Timed place got) (λ got entries may. may) (λ nodes m got added after reads. reads)
+pub times : TimesGoOn
+times device place = looks device place times_of (λ got. cont_events.Timed place got) (λ got entries may. may) (λ nodes m got added after reads. reads)
 
-pub info-goes-on : InfoGoesOn
-info-goes-on link device place =
-    look-goes-on link device place info_of (λ got. cont_events.Informed place got) (λ got entries may. may) (λ nodes m got added after reads. reads)
+pub infos : InfosGoOn
+infos device place = looks device place info_of (λ got. cont_events.Informed place got) (λ got entries may. may) (λ nodes m got added after reads. reads)
 
-pub listing-goes-on : ListingGoesOn
-listing-goes-on link device place query =
-    look-goes-on link device place (listing_of query) (λ got. cont_events.Listed place query got) (λ got entries may. may) (λ nodes m got added after reads. reads)
+pub listings : ListingsGoOn
+listings device place query =
+    looks device place (listing_of query) (λ got. cont_events.Listed place query got) (λ got entries may. may) (λ nodes m got added after reads. reads)
 
--- ---- listings of all files, restarts, and what is sent
+-- ---- whole devices
 
-pub listed-goes-on : FilesListedGoOn
-listed-goes-on device failed s t m stands lists =
-    by-line s t m stands lists.nodes _ (at_objects s t m m.objects.known) (
-      unsent m.sent Local device (Listed failed) (λ may. may),
+pub device-listings : DeviceListingsGoOn
+device-listings device failed s t m stands lists =
+    by-line s t m stands lists.nodes (at_objects s t m m.objects.known) (record { objects = refl; containers = lists.containers })
+    (obj_line device Local (Listed failed) []) (
+      still m.sent (obj_line device Local (Listed failed) []) (λ may. may),
       (
         refl,
         (
@@ -384,37 +328,24 @@ listed-goes-on device failed s t m stands lists =
       ),
       refl,
     )
-    (record { objects = refl; containers = lists.containers }) lists.trail
+    lists.trail
 
-pub restart-goes-on : RestartGoesOn
-restart-goes-on device s t m stands alone anew =
-    subst (λ (a : Bool). Restarts device s (alone_is t a) → GoesOn s m (line_of device Local Restarted [] ∷ []) (alone_is t a)) (sym alone) at anew
+pub restarts : RestartsGoOn
+restarts device s t m stands alone anew =
+    subst (λ (a : Bool). Restarts device s (said t a) → GoesOn s m (Came (obj_line device Local Restarted []) ∷ []) (said t a)) (sym alone) at anew
   where
-    u : Sight
-    u = alone_is t true
-
-    at : Restarts device s u → GoesOn s m (line_of device Local Restarted [] ∷ []) u
+    at : Restarts device s (said t true) → GoesOn s m (Came (obj_line device Local Restarted []) ∷ []) (said t true)
     at anew =
-        by-line s u m stands anew.nodes _
+        by-line s (said t true) m stands anew.nodes
         (record {
           objects = record { half = t.objects; known = m.objects.known };
           containers = record { half = t.containers; known = m.containers.known };
           sent = m.sent;
-        }) (
-          unsent m.sent Local device Restarted (λ may. may),
+        })
+        (record { objects = refl; containers = refl })
+        (obj_line device Local Restarted []) (
+          still m.sent (obj_line device Local Restarted []) (λ may. may),
           (refl, record { half = anew.objects; known = refl }, record { half = anew.containers; known = refl }),
           refl,
         )
-        (record { objects = refl; containers = refl }) anew.trail
-
-pub sending-goes-on : SendingGoesOn
-sending-goes-on s m from message stands carries = (
-  record {
-    nodes = refl;
-    after = record m { sent = m.sent ++ message ∷ [] };
-    run = (record m { sent = m.sent ++ message ∷ [] }, (carries, refl), refl);
-    stands = record { objects = stands.objects; containers = stands.containers };
-    kept = kept-none s.trail;
-  },
-  refl,
-)
+        anew.trail

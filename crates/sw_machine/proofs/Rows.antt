@@ -112,8 +112,8 @@ rows-back place [] = refl
 rows-back place (row ∷ rows) = ap (λ (xs : List Row). row ∷ xs) (rows-back place rows)
 
 -- what was made of a step leaves the rows merged that came by it
-pub made-merges : (h : ContHistory) (s : Place → Option Tables) (place : Place) (change : ContChange) (answer : ContAnswer) (g : ContHistory) (t : Option Tables)
-    (step : StepChanges cont_rules true h s place change answer g t) → h.told ≡ true
+pub made-merges : (h : ContHistory) (s : Place → Option Tables) (place : Place) (change : ContChange) (answer : ContAnswer) (g : ContHistory)
+    (t : Option Tables) (step : StepChanges cont_rules true h s place change answer g t) → h.told ≡ true
     → rows_of t ≡ fold merged (rows_of (s place)) (map (λ (n : KnownRow). n.row) (made_rows place change answer step.made))
 made-merges h s place change answer g t step told =
     ap rows_of (step.leaves refl told_before)

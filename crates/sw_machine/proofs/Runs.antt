@@ -42,7 +42,8 @@ use Rattle.sw_machine.proofs.Rows.{made-merges}
 use Rattle.sw_machine.proofs.Sides.{Account, AllOf, Goes, as-it-was, made-goes, on, read-goes, restart-goes, still}
 use Rattle.sw_machine.specs.Laws.{HashesAreTold, HashesMayStand, HashesStand, IsGreatest, LocksAreApart, MessagesWereSent, PlacesAreTold, PlacesMayStand}
 use Rattle.sw_machine.specs.Laws.{RowsAreMerged, RunKeepsTheGreatest, RunSends, RunsJoin, row_named}
-use Rattle.sw_machine.specs.Machine.{Came, Comes, ContComes, ContMakes, ContReads, ContSide, KnownRow, KnownWrite, Machine, ObjLists, ObjMakes, ObjReadsPart, ObjSide}
+use Rattle.sw_machine.specs.Machine.{Came, Comes, ContComes, ContMakes, ContReads, ContSide, KnownRow, KnownWrite, Machine, ObjLists, ObjMakes}
+use Rattle.sw_machine.specs.Machine.{ObjReadsPart, ObjSide}
 use Rattle.sw_machine.specs.Machine.{RunLine, Runs, Steps, Went, made_rows, made_writes, rows_among, rows_in, was_made, went_in, writes_among}
 use Rattle.sw_machine.specs.Messages.{Message, WasSent}
 use Rattle.sw_machine.specs.Sides.{SideReads}
@@ -155,7 +156,8 @@ module _ (nodes : Nodes) where
   cont-read : {A : Type 0} (m : ContSide) (device : ℕ) (place : Place) (reading : Option Tables → ℕ → Result A ContAnswer) (got : Result A ContAnswer)
       (added : List ContEntry) (after : ContSide) → ContReads nodes m device place reading got added after → ContGoes m after
   cont-read m device place reading got added after reads =
-      read-goes containers m device (cont_lock nodes device place) (λ key. true) cont_look (λ read front x. x ≡ reading (read place) front) got added after reads
+      read-goes containers m device (cont_lock nodes device place) (λ key. true) cont_look (λ read front x. x ≡ reading (read place) front) got added after
+      reads
       (λ apart d key. own-place apart d device key place)
 
   cont-comes : (m : ContSide) (device : ℕ) (event : ContEvent) (added : List ContEntry) (after : ContSide) → ContComes nodes m device event added after
@@ -183,7 +185,8 @@ module _ (nodes : Nodes) where
       at-objects m after (obj-made m.objects device name change answer added after.objects step.0) step.1
   one-comes m device (Read name got) added after step =
       at-objects m after
-      (obj-read m.objects device (nodes.lock device name.hash) _ _ _ got added after.objects step.0 (λ apart d key. own-hash apart d device key name.hash)) step.1
+      (obj-read m.objects device (nodes.lock device name.hash) _ _ _ got added after.objects step.0
+      (λ apart d key. own-hash apart d device key name.hash)) step.1
   one-comes m device (ReadPart read) added after step = at-objects m after (obj-read-part m.objects device read added after.objects step.0) step.1
   one-comes m device (Listed failed) added after step = at-objects m after (obj-listed m.objects device failed after.objects step.1.0) step.1.1
   one-comes m device (AtContainer event entries) added after step = (
@@ -270,11 +273,11 @@ sends nodes m (Went from message ∷ lines) after run =
 
 pub were-sent : MessagesWereSent
 were-sent nodes m [] line more after run =
-    subst (λ (xs : List Message). WasSent xs line.link line.device line.event) (sym (append-nil m.sent)) run.1.0
+    subst (λ (xs : List Message). WasSent xs line) (sym (append-nil m.sent)) run.1.0
 were-sent nodes m (Came other ∷ lines) line more after run =
-    subst (λ (xs : List Message). WasSent (xs ++ went_in lines) line.link line.device line.event) run.1.2 (were-sent nodes run.0 lines line more after run.2)
+    subst (λ (xs : List Message). WasSent (xs ++ went_in lines) line) run.1.2 (were-sent nodes run.0 lines line more after run.2)
 were-sent nodes m (Went from message ∷ lines) line more after run =
-    subst (λ (xs : List Message). WasSent xs line.link line.device line.event)
+    subst (λ (xs : List Message). WasSent xs line)
     (ap (λ (x : Machine). x.sent ++ went_in lines) run.1.1 ∙ append_assoc m.sent (message ∷ []) (went_in lines))
     (were-sent nodes run.0 lines line more after run.2)
 

@@ -33,15 +33,21 @@ module _ {K V E C A N X W : Type 0} (k : Account K V E C A N X W) where
   abbrev at : ℕ → K → List (ℕ × N) → List X
   at device key known = known_at k.rules.is_key k.key_in k.part device key known
 
+  abbrev Tells : Side K V E N → ℕ → K → Type 0
+  Tells m d key = TellsAt k.lock m d key
+
+  abbrev Can : Side K V E N → ℕ → K → Type 0
+  Can m d key = CanStandAt k.rules k.lock m d key
+
   -- From one moment to a later one some more became known; a lock that told its contents tells them; what a key stands for has absorbed what became known
   -- of it; and where it was what the entries tell, with doubts that were made, it still is
   pub record Goes (m after : Side K V E N) : Type 0 where
     pub more : List (ℕ × N)
     pub known : after.known ≡ m.known ++ more
-    pub told : (d : ℕ) (key : K) → TellsAt k.lock m d key → TellsAt k.lock after d key
-    pub absorbs : (d : ℕ) (key : K) → TellsAt k.lock m d key
+    pub told : (d : ℕ) (key : K) → Tells m d key → Tells after d key
+    pub absorbs : (d : ℕ) (key : K) → Tells m d key
         → k.view (after.half.holds d key) ≡ fold k.absorbed (k.view (m.half.holds d key)) (at d key more)
-    pub can : k.Apart → (d : ℕ) (key : K) → TellsAt k.lock m d key → CanStandAt k.rules k.lock m d key → CanStandAt k.rules k.lock after d key
+    pub can : k.Apart → (d : ℕ) (key : K) → Tells m d key → Can m d key → Can after d key
 
   -- ---- what became known of a key
 
@@ -76,9 +82,9 @@ module _ {K V E C A N X W : Type 0} (k : Account K V E C A N X W) where
   -- ---- going on
 
   -- nothing changed but what is known of the locks, where it tells what it told
-  pub as-it-was : (m after : Side K V E N) → after.known ≡ m.known → ((d : ℕ) (key : K) → TellsAt k.lock m d key → TellsAt k.lock after d key)
-      → ((d : ℕ) (key : K) → TellsAt k.lock m d key → after.half.holds d key ≡ m.half.holds d key)
-      → (k.Apart → (d : ℕ) (key : K) → TellsAt k.lock m d key → CanStandAt k.rules k.lock m d key → CanStandAt k.rules k.lock after d key) → Goes m after
+  pub as-it-was : (m after : Side K V E N) → after.known ≡ m.known → ((d : ℕ) (key : K) → Tells m d key → Tells after d key)
+      → ((d : ℕ) (key : K) → Tells m d key → after.half.holds d key ≡ m.half.holds d key)
+      → (k.Apart → (d : ℕ) (key : K) → Tells m d key → Can m d key → Can after d key) → Goes m after
   as-it-was m after known told holds can = record {
     more = [];
     known = known ∙ sym (append-nil m.known);
@@ -89,9 +95,9 @@ module _ {K V E C A N X W : Type 0} (k : Account K V E C A N X W) where
 
   pub still : (m after : Side K V E N) → after ≡ m → Goes m after
   still m after same = as-it-was m after (ap (λ (x : Side K V E N). x.known) same)
-      (λ d key told. subst (λ (x : Side K V E N). TellsAt k.lock x d key) (sym same) told)
+      (λ d key told. subst (λ (x : Side K V E N). Tells x d key) (sym same) told)
       (λ d key told. ap (λ (x : Side K V E N). x.half.holds d key) same)
-      (λ apart d key told can. subst (λ (x : Side K V E N). CanStandAt k.rules k.lock x d key) (sym same) can)
+      (λ apart d key told can. subst (λ (x : Side K V E N). Can x d key) (sym same) can)
 
   pub on : (m mid after : Side K V E N) → Goes m mid → Goes mid after → Goes m after
   on m mid after first next = record {
@@ -128,12 +134,14 @@ module _ {K V E C A N X W : Type 0} (k : Account K V E C A N X W) where
     holds-still : (d : ℕ) (other : K) → (nat_eq device d && k.rules.is_key key other) ≡ false → after.half.holds d other ≡ m.half.holds d other
     holds-still d other away = makes.moves.others refl d other (apart-from d other away)
 
-    keeps-other : k.Apart → (d : ℕ) (other : K) → (nat_eq device d && k.rules.is_key key other) ≡ false → TellsAt k.lock m d other → CanStandAt k.rules k.lock m d other
-        → CanStandAt k.rules k.lock after d other
+    keeps-other : k.Apart → (d : ℕ) (other : K) → (nat_eq device d && k.rules.is_key key other) ≡ false → Tells m d other → Can m d other
+        → Can after d other
     keeps-other apart d other away told can =
-        subst (λ (v : V). CanStand k.rules (after.half.seen (k.lock d other)) other v) (sym (holds-still d other away)) (by (cases_Bool (nat_eq (k.lock d other) l)))
+        subst (λ (v : V). CanStand k.rules (after.half.seen (k.lock d other)) other v) (sym (holds-still d other away))
+        (by (cases_Bool (nat_eq (k.lock d other) l)))
       where
-        by : (nat_eq (k.lock d other) l ≡ true) ⊎ (nat_eq (k.lock d other) l ≡ false) → CanStand k.rules (after.half.seen (k.lock d other)) other (m.half.holds d other)
+        by : (nat_eq (k.lock d other) l ≡ true) ⊎ (nat_eq (k.lock d other) l ≡ false)
+            → CanStand k.rules (after.half.seen (k.lock d other)) other (m.half.holds d other)
         by (inr elsewhere) =
             let same : after.half.seen (k.lock d other) ≡ m.half.seen (k.lock d other) =
             makes.moves.elsewhere (k.lock d other) (λ e q is equal. eqb-false (k.lock d other) l elsewhere
@@ -155,7 +163,7 @@ module _ {K V E C A N X W : Type 0} (k : Account K V E C A N X W) where
 
     -- what was made of it has to be absorbed, where its lock tells its contents
     pub made-goes : AllOf key (news makes.step.made)
-        → (TellsAt k.lock m device key
+        → (Tells m device key
         → k.view (after.half.holds device key) ≡ fold k.absorbed (k.view (m.half.holds device key)) (map k.part (news makes.step.made)))
         → Goes m after
     made-goes all absorbs = record {
@@ -167,14 +175,14 @@ module _ {K V E C A N X W : Type 0} (k : Account K V E C A N X W) where
     }
       where
         Takes : ℕ → K → Type 0
-        Takes d other = TellsAt k.lock m d other → k.view (after.half.holds d other)
+        Takes d other = Tells m d other → k.view (after.half.holds d other)
             ≡ fold k.absorbed (k.view (m.half.holds d other)) (at d other (map (λ n. (device, n)) (news makes.step.made)))
 
-        takes : (d : ℕ) (other : K) → TellsAt k.lock m d other
+        takes : (d : ℕ) (other : K) → Tells m d other
             → ((nat_eq device d && k.rules.is_key key other) ≡ true) ⊎ ((nat_eq device d && k.rules.is_key key other) ≡ false)
             → k.view (after.half.holds d other) ≡ fold k.absorbed (k.view (m.half.holds d other)) (at d other (map (λ n. (device, n)) (news makes.step.made)))
         takes d other told (inl here) = at-same
-            (λ e q. TellsAt k.lock m e q → k.view (after.half.holds e q)
+            (λ e q. Tells m e q → k.view (after.half.holds e q)
             ≡ fold k.absorbed (k.view (m.half.holds e q)) (at e q (map (λ n. (device, n)) (news makes.step.made))))
             d other here
             (λ tells. absorbs tells
@@ -184,10 +192,10 @@ module _ {K V E C A N X W : Type 0} (k : Account K V E C A N X W) where
             ap k.view (holds-still d other away)
             ∙ ap (λ (xs : List X). fold k.absorbed (k.view (m.half.holds d other)) xs) (sym (at-other device key d other (news makes.step.made) all away))
 
-        keeps : k.Apart → (d : ℕ) (other : K) → TellsAt k.lock m d other → CanStandAt k.rules k.lock m d other
+        keeps : k.Apart → (d : ℕ) (other : K) → Tells m d other → Can m d other
             → ((nat_eq device d && k.rules.is_key key other) ≡ true) ⊎ ((nat_eq device d && k.rules.is_key key other) ≡ false)
-            → CanStandAt k.rules k.lock after d other
-        keeps apart d other told can (inl here) = at-same (λ e q. TellsAt k.lock m e q → CanStandAt k.rules k.lock after e q) d other here
+            → Can after d other
+        keeps apart d other told can (inl here) = at-same (λ e q. Tells m e q → Can after e q) d other here
             (λ tells. keeps-its-key k.rules (m.half.seen l) makes.held key change answer (after.half.seen l) (after.half.holds device key) k.are makes.step
             ((makes.moves.grows l).told ∙ tells))
             told
@@ -197,10 +205,10 @@ module _ {K V E C A N X W : Type 0} (k : Account K V E C A N X W) where
 
   module _ {B : Type 0} (m : Side K V E N) (device l : ℕ) (tested : K → Bool) (look : B → Look) (reading : (K → V) → ℕ → B → Type 0) (got : B)
       (added : List E) (after : Side K V E N) (reads : SideReads k.rules k.lock m device l tested look reading got added after) where
-    tells-still : (d : ℕ) (key : K) → TellsAt k.lock m d key → TellsAt k.lock after d key
+    tells-still : (d : ℕ) (key : K) → Tells m d key → Tells after d key
     tells-still d key told = by (cases_Bool (nat_eq (k.lock d key) l))
       where
-        by : (nat_eq (k.lock d key) l ≡ true) ⊎ (nat_eq (k.lock d key) l ≡ false) → TellsAt k.lock after d key
+        by : (nat_eq (k.lock d key) l ≡ true) ⊎ (nat_eq (k.lock d key) l ≡ false) → Tells after d key
         by (inl here) =
             let same_lock : k.lock d key ≡ l = eqb-true (k.lock d key) l here in
             subst (λ (x : ℕ). (after.half.seen x).told ≡ true) (sym same_lock)
@@ -208,11 +216,11 @@ module _ {K V E C A N X W : Type 0} (k : Account K V E C A N X W) where
         by (inr elsewhere) =
             ap (λ (h : StepHistory K V E). h.told) (reads.elsewhere (k.lock d key) (eqb-false (k.lock d key) l elsewhere)) ∙ told
 
-    can-still : (k.Apart → (d : ℕ) (key : K) → k.lock d key ≡ l → d ≡ device) → k.Apart → (d : ℕ) (key : K) → TellsAt k.lock m d key → CanStandAt k.rules k.lock m d key
-        → CanStandAt k.rules k.lock after d key
+    can-still : (k.Apart → (d : ℕ) (key : K) → k.lock d key ≡ l → d ≡ device) → k.Apart → (d : ℕ) (key : K) → Tells m d key → Can m d key
+        → Can after d key
     can-still owns apart d key told can = by (cases_Bool (nat_eq (k.lock d key) l))
       where
-        by : (nat_eq (k.lock d key) l ≡ true) ⊎ (nat_eq (k.lock d key) l ≡ false) → CanStandAt k.rules k.lock after d key
+        by : (nat_eq (k.lock d key) l ≡ true) ⊎ (nat_eq (k.lock d key) l ≡ false) → Can after d key
         by (inr elsewhere) =
             subst (λ (v : V). CanStand k.rules (after.half.seen (k.lock d key)) key v) (sym (reads.holds d key))
             (subst (λ (h : StepHistory K V E). CanStand k.rules h key (m.half.holds d key))
@@ -258,7 +266,7 @@ module _ {K V E C A N X W : Type 0} (k : Account K V E C A N X W) where
     abbrev now : K → StepHistory K V E
     now key = after.half.seen (k.lock device key)
 
-    fresh : (key : K) → TellsAt k.lock m device key → CanStandAt k.rules k.lock after device key
+    fresh : (key : K) → Tells m device key → Can after device key
     fresh key told = (
       [],
       subst (λ (ds : List (List E)). AreChosen k.rules (doubts_about k.rules key ds) []) (sym (anew.half.doubts key)) refl,
@@ -269,11 +277,11 @@ module _ {K V E C A N X W : Type 0} (k : Account K V E C A N X W) where
 
     pub restart-goes : Goes m after
     restart-goes = as-it-was m after anew.known
-        (λ d key told. each (λ e q. TellsAt k.lock m e q → TellsAt k.lock after e q) d key (anew.half.told key)
+        (λ d key told. each (λ e q. Tells m e q → Tells after e q) d key (anew.half.told key)
         (λ away tells. ap (λ (h : StepHistory K V E). h.told) (anew.half.others d key away) ∙ tells) told)
-        (λ d key told. each (λ e q. TellsAt k.lock m e q → after.half.holds e q ≡ m.half.holds e q) d key (anew.half.holds refl key)
+        (λ d key told. each (λ e q. Tells m e q → after.half.holds e q ≡ m.half.holds e q) d key (anew.half.holds refl key)
         (λ away tells. anew.half.elsewhere refl d key away) told)
-        (λ apart d key told can. each (λ e q. TellsAt k.lock m e q → CanStandAt k.rules k.lock m e q → CanStandAt k.rules k.lock after e q) d key
+        (λ apart d key told can. each (λ e q. Tells m e q → Can m e q → Can after e q) d key
         (λ tells can. fresh key tells)
         (λ away tells can.
         subst (λ (v : V). CanStand k.rules (after.half.seen (k.lock d key)) key v) (sym (anew.half.elsewhere refl d key away))

@@ -1,25 +1,18 @@
 -- How a door that is alone stands for the machine, with a trail or without: each of its steps goes on with a run. (This project's own.)
 use Rattle.std.specs.Prelude.{◌≡◌, ℕ, Bool, true, List, [], ◌∷◌, ◌++◌, Option, Result, Ok, ◌⊎◌}
 use Rattle.std.specs.Option.{option_map}
-use Rattle.std.specs.declared.alloc.Global.{Global}
-use Rattle.std.specs.declared.vec.Vec.{Vec}
 use Rattle.sw_container_steps.specs.Reads.{info_of, listing_of, times_of}
 use Rattle.sw_container_steps.specs.declared.cont_answer.ContAnswer.{ContAnswer}
 use Rattle.sw_container_steps.specs.declared.cont_change.ContChange.{ContChange}
 use Rattle.sw_container_steps.specs.declared.cont_entry.ContEntry.{ContEntry}
-use Rattle.sw_container_steps.specs.declared.info.Info.{Info}
 use Rattle.sw_diskfile.specs.declared.file_name.FileName.{FileName}
 use Rattle.sw_hashpath.specs.declared.name.Name.{Name}
 use Rattle.sw_hashpath.specs.declared.place.Place.{Place}
-use Rattle.sw_listing.specs.declared.entry.Entry.{Entry}
+use Rattle.sw_keeper.specs.declared.tables.Tables.{Tables}
 use Rattle.sw_listing.specs.declared.query.Query.{Query}
 use Rattle.sw_object_steps.specs.Journals.{Hash}
-use Rattle.sw_object_steps.specs.declared.answer.Answer.{Answer}
 use Rattle.sw_object_steps.specs.declared.change.Change.{Change}
-use Rattle.sw_object_steps.specs.declared.dir_fault.DirFault.{DirFault}
 use Rattle.sw_object_steps.specs.declared.entry.ObjEntry.{ObjEntry}
-use Rattle.sw_object_steps.specs.declared.got.Got.{Got}
-use Rattle.sw_object_steps.specs.declared.stored.Stored.{Stored}
 use Rattle.sw_peer.specs.ContSights.{IsContMade, IsLooked, is_wanting_cont, is_wanting_look}
 use Rattle.sw_peer.specs.Sights.{Calls, IsFilesRead, IsHashesRead, IsListed, IsMade, IsRead, IsSame, IsWriteRead, Restarts, Sight}
 use Rattle.sw_peer.specs.Sights.{is_wanting, is_wanting_part, is_wanting_read}
@@ -27,12 +20,11 @@ use Rattle.sw_peer.specs.declared.cont_event.ContEvent.{ContEvent}
 use Rattle.sw_peer.specs.declared.cont_event.ContEvent.TheVariants as cont_events
 use Rattle.sw_peer.specs.declared.line.Event.{Event}
 use Rattle.sw_peer.specs.declared.line.Event.TheVariants.{AtContainer, Changed, Listed, Read, ReadPart, Restarted}
+use Rattle.sw_peer.specs.declared.line.Line.{Line}
 use Rattle.sw_peer.specs.declared.link.Link.{Link}
 use Rattle.sw_peer.specs.declared.link.Link.TheVariants.{Local}
 use Rattle.sw_peer.specs.declared.link.Lost.{Lost}
 use Rattle.sw_peer.specs.declared.part_read.PartRead.TheVariants.{Files, Hashes, Write}
-use Rattle.sw_suffix.specs.declared.dir_line.DirLine.{DirLine}
-use Rattle.sw_suffix.specs.declared.told.SuffixHash.{SuffixHash}
 use Rattle.sw_machine.specs.Machine.{Came, Carries, Machine, RunLine, Runs, Went, came_in, went_in}
 use Rattle.sw_machine.specs.Messages.{Message, WasSent}
 
@@ -66,184 +58,100 @@ RunsOnJoin = (s t u : Sight) → RunsOn s t → RunsOn t u → RunsOn s u
 abbrev pub SameGoesOn : Type 0
 SameGoesOn = (s : Sight) (m : Machine) (t : Sight) → StandsFor s m → IsSame s t → (goes : GoesOn s m [] t) × (goes.after ≡ m)
 
--- ---- one step: it goes on by its line, or by none where it wanted memory and left none
+-- what a device may send as things are goes on its way
+abbrev pub SendingGoesOn : Type 0
+SendingGoesOn = (s : Sight) (m : Machine) (from : ℕ) (message : Message) → StandsFor s m → Carries s.nodes m from message
+    → (goes : GoesOn s m (Went from message ∷ []) s) × (goes.after ≡ record m { sent = m.sent ++ message ∷ [] })
 
--- the line of a step at an object or a restart, with the entries that it added
-abbrev pub line_of : ℕ → Link → Event → List ObjEntry → RunLine
-line_of device link event added = Came (record { device = device; link = link; event = event; added = added })
+-- ---- steps and calls of a door that is alone
 
-abbrev pub IsLineOf : ℕ → Link → Event → Bool → List RunLine → Type 0
-IsLineOf device link event wanting lines =
-    ((added : List ObjEntry) × (lines ≡ line_of device link event added ∷ [])) ⊎ ((wanting ≡ true) × (lines ≡ []))
+-- the line of a step by the entries that it added: at an object, and at a container
+abbrev pub obj_line : ℕ → Link → Event → List ObjEntry → Line
+obj_line device link event added = record { device = device; link = link; event = event; added = added }
 
-abbrev pub GoesOnBy : Sight → Machine → ℕ → Link → Event → Bool → Sight → Type 0
-GoesOnBy s m device link event wanting t = (lines : List RunLine) × IsLineOf device link event wanting lines × GoesOn s m lines t
+abbrev pub cont_line : ℕ → Link → ContEvent → List ContEntry → Line
+cont_line device link event entries = record { device = device; link = link; event = AtContainer event entries; added = [] }
 
--- the same of a step at a container
-abbrev pub IsContLineOf : ℕ → Link → ContEvent → Bool → List RunLine → Type 0
-IsContLineOf device link event wanting lines =
-    ((entries : List ContEntry) × (lines ≡ line_of device link (AtContainer event entries) [] ∷ [])) ⊎ ((wanting ≡ true) × (lines ≡ []))
+-- it goes on by one such line, or by none where it wanted memory and left none
+abbrev pub GoesOnBy : {E : Type 0} → Sight → Machine → (List E → Line) → Bool → Sight → Type 0
+GoesOnBy {E} s m line wanting t =
+    (lines : List RunLine) × (((added : List E) × (lines ≡ Came (line added) ∷ [])) ⊎ ((wanting ≡ true) × (lines ≡ []))) × GoesOn s m lines t
 
-abbrev pub GoesOnByCont : Sight → Machine → ℕ → Link → ContEvent → Bool → Sight → Type 0
-GoesOnByCont s m device link event wanting t = (lines : List RunLine) × IsContLineOf device link event wanting lines × GoesOn s m lines t
-
--- a step that may change an object. One that comes in a message is the coming of one that was sent
-abbrev pub ChangeGoesOn : Type 0
-ChangeGoesOn = (link : Link) (device : ℕ) (name : Name) (change : Change) (s : Sight) (answer : Answer) (t : Sight) (m : Machine)
-    → StandsFor s m → t.alone ≡ true → WasSent m.sent link device (Changed name change answer) → IsMade link device name change s answer t
-    → GoesOnBy s m device link (Changed name change answer) (is_wanting answer) t
-
--- a read
-abbrev pub ReadGoesOn : Type 0
-ReadGoesOn = (link : Link) (device : ℕ) (name : Name) (s : Sight) (got : Got) (t : Sight) (m : Machine)
-    → StandsFor s m → t.alone ≡ true → IsRead link device name s got t → GoesOnBy s m device link (Read name got) (is_wanting_read got) t
-
--- a read of a partition: of what is compared
-abbrev pub HashesReadGoesOn : Type 0
-HashesReadGoesOn = (link : Link) (device part : ℕ) (s : Sight) (got : Result (Vec SuffixHash Global) DirFault) (t : Sight) (m : Machine)
-    → StandsFor s m → t.alone ≡ true → IsHashesRead link device part s got t
-    → GoesOnBy s m device link (ReadPart (Hashes part got)) (is_wanting_part got) t
-
--- of the files of a suffix
-abbrev pub FilesReadGoesOn : Type 0
-FilesReadGoesOn = (link : Link) (device part suffix : ℕ) (s : Sight) (got : Result (Vec DirLine Global) DirFault) (t : Sight) (m : Machine)
-    → StandsFor s m → t.alone ≡ true → IsFilesRead link device part suffix s got t
-    → GoesOnBy s m device link (ReadPart (Files part suffix got)) (is_wanting_part got) t
-
--- and of a file
-abbrev pub WriteReadGoesOn : Type 0
-WriteReadGoesOn = (link : Link) (device part : ℕ) (hash : Hash) (file : FileName) (s : Sight) (got : Result (Option Stored) DirFault) (t : Sight) (m : Machine)
-    → StandsFor s m → t.alone ≡ true → IsWriteRead link device part hash file s got t
-    → GoesOnBy s m device link (ReadPart (Write part hash file got)) (is_wanting_part got) t
-
--- a step that may change a container
-abbrev pub ContChangeGoesOn : Type 0
-ContChangeGoesOn = (link : Link) (device : ℕ) (place : Place) (change : ContChange) (s : Sight) (answer : ContAnswer) (t : Sight) (m : Machine)
-    → StandsFor s m → t.alone ≡ true → ((entries : List ContEntry) → WasSent m.sent link device (AtContainer (cont_events.Changed place change answer) entries))
-    → IsContMade link device place change s answer t → GoesOnByCont s m device link (cont_events.Changed place change answer) (is_wanting_cont answer) t
-
--- a read of one container: of its times
-abbrev pub TimesGoOn : Type 0
-TimesGoOn = (link : Link) (device : ℕ) (place : Place) (s : Sight) (got : Result (Option (ℕ × Option ℕ)) ContAnswer) (t : Sight) (m : Machine)
-    → StandsFor s m → t.alone ≡ true → IsLooked link device place times_of (λ got. cont_events.Timed place got) s got t
-    → GoesOnByCont s m device link (cont_events.Timed place got) (is_wanting_look got) t
-
--- of what is told of it
-abbrev pub InfoGoesOn : Type 0
-InfoGoesOn = (link : Link) (device : ℕ) (place : Place) (s : Sight) (got : Result Info ContAnswer) (t : Sight) (m : Machine)
-    → StandsFor s m → t.alone ≡ true → IsLooked link device place info_of (λ got. cont_events.Informed place got) s got t
-    → GoesOnByCont s m device link (cont_events.Informed place got) (is_wanting_look got) t
-
--- and a listing
-abbrev pub ListingGoesOn : Type 0
-ListingGoesOn = (link : Link) (device : ℕ) (place : Place) (query : Query) (s : Sight) (got : Result (List Entry) ContAnswer) (t : Sight) (m : Machine)
-    → StandsFor s m → t.alone ≡ true → IsLooked link device place (listing_of query) (λ got. cont_events.Listed place query got) s got t
-    → GoesOnByCont s m device link (cont_events.Listed place query got) (is_wanting_look got) t
-
--- a listing of all files of a device, and a restart of it, add no entries
-abbrev pub FilesListedGoOn : Type 0
-FilesListedGoOn = (device : ℕ) (failed : Bool) (s t : Sight) (m : Machine) → StandsFor s m → IsListed device failed s t
-    → GoesOn s m (line_of device Local (Listed failed) [] ∷ []) t
-
-abbrev pub RestartGoesOn : Type 0
-RestartGoesOn = (device : ℕ) (s t : Sight) (m : Machine) → StandsFor s m → t.alone ≡ true → Restarts device s t
-    → GoesOn s m (line_of device Local Restarted [] ∷ []) t
-
--- ---- a whole call at the device itself, of each kind
-
--- every machine goes on by it
-abbrev pub EachGoesOn : Sight → ℕ → Event → Bool → Sight → Type 0
-EachGoesOn s device event wanting t = (m : Machine) → StandsFor s m → GoesOnBy s m device Local event wanting t
-
-abbrev pub EachGoesOnCont : Sight → ℕ → ContEvent → Bool → Sight → Type 0
-EachGoesOnCont s device event wanting t = (m : Machine) → StandsFor s m → GoesOnByCont s m device Local event wanting t
-
-abbrev pub ChangeCalled : Type 0
-ChangeCalled = (device : ℕ) (name : Name) (change : Change) (s : Sight) (answer : Answer) (t : Sight) → t.alone ≡ true
-    → Calls (IsMade Local device name change) s Local (Ok answer) t → EachGoesOn s device (Changed name change answer) (is_wanting answer) t
-
-abbrev pub ReadCalled : Type 0
-ReadCalled = (device : ℕ) (name : Name) (s : Sight) (got : Got) (t : Sight) → t.alone ≡ true
-    → Calls (IsRead Local device name) s Local (Ok got) t → EachGoesOn s device (Read name got) (is_wanting_read got) t
-
-abbrev pub HashesReadCalled : Type 0
-HashesReadCalled = (device part : ℕ) (s : Sight) (got : Result (Vec SuffixHash Global) DirFault) (t : Sight) → t.alone ≡ true
-    → Calls (IsHashesRead Local device part) s Local (Ok got) t → EachGoesOn s device (ReadPart (Hashes part got)) (is_wanting_part got) t
-
-abbrev pub FilesReadCalled : Type 0
-FilesReadCalled = (device part suffix : ℕ) (s : Sight) (got : Result (Vec DirLine Global) DirFault) (t : Sight) → t.alone ≡ true
-    → Calls (IsFilesRead Local device part suffix) s Local (Ok got) t → EachGoesOn s device (ReadPart (Files part suffix got)) (is_wanting_part got) t
-
-abbrev pub WriteReadCalled : Type 0
-WriteReadCalled = (device part : ℕ) (hash : Hash) (file : FileName) (s : Sight) (got : Result (Option Stored) DirFault) (t : Sight) → t.alone ≡ true
-    → Calls (IsWriteRead Local device part hash file) s Local (Ok got) t → EachGoesOn s device (ReadPart (Write part hash file got)) (is_wanting_part got) t
-
-abbrev pub ContChangeCalled : Type 0
-ContChangeCalled = (device : ℕ) (place : Place) (change : ContChange) (s : Sight) (answer : ContAnswer) (t : Sight) → t.alone ≡ true
-    → Calls (IsContMade Local device place change) s Local (Ok answer) t
-    → EachGoesOnCont s device (cont_events.Changed place change answer) (is_wanting_cont answer) t
-
-abbrev pub TimesCalled : Type 0
-TimesCalled = (device : ℕ) (place : Place) (s : Sight) (got : Result (Option (ℕ × Option ℕ)) ContAnswer) (t : Sight) → t.alone ≡ true
-    → Calls (IsLooked Local device place times_of (λ got. cont_events.Timed place got)) s Local (Ok got) t
-    → EachGoesOnCont s device (cont_events.Timed place got) (is_wanting_look got) t
-
-abbrev pub InfoCalled : Type 0
-InfoCalled = (device : ℕ) (place : Place) (s : Sight) (got : Result Info ContAnswer) (t : Sight) → t.alone ≡ true
-    → Calls (IsLooked Local device place info_of (λ got. cont_events.Informed place got)) s Local (Ok got) t
-    → EachGoesOnCont s device (cont_events.Informed place got) (is_wanting_look got) t
-
-abbrev pub ListingCalled : Type 0
-ListingCalled = (device : ℕ) (place : Place) (query : Query) (s : Sight) (got : Result (List Entry) ContAnswer) (t : Sight) → t.alone ≡ true
-    → Calls (IsLooked Local device place (listing_of query) (λ got. cont_events.Listed place query got)) s Local (Ok got) t
-    → EachGoesOnCont s device (cont_events.Listed place query got) (is_wanting_look got) t
-
--- ---- a whole call over any link: its step came once, several times or never, and was heard or not
-
--- the run sends nothing
+-- it goes on, and nothing is sent
 abbrev pub GoesOnUnsent : Sight → Machine → Sight → Type 0
 GoesOnUnsent s m t = (lines : List RunLine) × (went_in lines ≡ []) × GoesOn s m lines t
 
--- a step that may change an object: where it is said in a message, one was sent that comes as it
-abbrev pub ChangeCallRuns : Type 0
-ChangeCallRuns = (link : Link) (device : ℕ) (name : Name) (change : Change) (s : Sight) (result : Result Answer Lost) (t : Sight) (m : Machine)
-    → StandsFor s m → t.alone ≡ true → ((answer : Answer) → WasSent m.sent link device (Changed name change answer))
-    → Calls (IsMade link device name change) s link result t → GoesOnUnsent s m t
+module _ {A E : Type 0} (step : Link → Sight → A → Sight → Type 0) (line : Link → A → List E → Line) (wanting : A → Bool) where
+  -- a call at the device itself goes on by the line of its step
+  abbrev pub CallGoesOn : Type 0
+  CallGoesOn = (s : Sight) (x : A) (t : Sight) → t.alone ≡ true → Calls (step Local) s Local (Ok x) t → (m : Machine) → StandsFor s m
+      → GoesOnBy s m (line Local x) (wanting x) t
 
--- the same at a container
-abbrev pub ContChangeCallRuns : Type 0
-ContChangeCallRuns = (link : Link) (device : ℕ) (place : Place) (change : ContChange) (s : Sight) (result : Result ContAnswer Lost) (t : Sight) (m : Machine)
-    → StandsFor s m → t.alone ≡ true
-    → ((answer : ContAnswer) (entries : List ContEntry) → WasSent m.sent link device (AtContainer (cont_events.Changed place change answer) entries))
-    → Calls (IsContMade link device place change) s link result t → GoesOnUnsent s m t
+  -- steps that may change something go on where a message was sent that comes as they do, if they are said in one
+  pub record ChangesGoOn : Type 0 where
+    pub one : (link : Link) (s : Sight) (x : A) (t : Sight) (m : Machine) → StandsFor s m → t.alone ≡ true
+        → ((added : List E) → WasSent m.sent (line link x added)) → step link s x t → GoesOnBy s m (line link x) (wanting x) t
+    pub call : CallGoesOn
+    -- over any link it came once, several times or never, and was heard or not
+    pub calls : (link : Link) (s : Sight) (result : Result A Lost) (t : Sight) (m : Machine) → StandsFor s m → t.alone ≡ true
+        → ((x : A) (added : List E) → WasSent m.sent (line link x added)) → Calls (step link) s link result t → GoesOnUnsent s m t
 
--- a read
-abbrev pub ReadCallRuns : Type 0
-ReadCallRuns = (link : Link) (device : ℕ) (name : Name) (s : Sight) (result : Result Got Lost) (t : Sight) → t.alone ≡ true
-    → Calls (IsRead link device name) s link result t → RunsOn s t
+  -- reads always do
+  pub record ReadsGoOn : Type 0 where
+    pub one : (link : Link) (s : Sight) (x : A) (t : Sight) (m : Machine) → StandsFor s m → t.alone ≡ true → step link s x t
+        → GoesOnBy s m (line link x) (wanting x) t
+    pub call : CallGoesOn
+    pub calls : (link : Link) (s : Sight) (result : Result A Lost) (t : Sight) → t.alone ≡ true → Calls (step link) s link result t → RunsOn s t
 
-abbrev pub HashesCallRuns : Type 0
-HashesCallRuns = (link : Link) (device part : ℕ) (s : Sight) (result : Result (Result (Vec SuffixHash Global) DirFault) Lost) (t : Sight) → t.alone ≡ true
-    → Calls (IsHashesRead link device part) s link result t → RunsOn s t
+-- ---- at objects
 
-abbrev pub FilesCallRuns : Type 0
-FilesCallRuns = (link : Link) (device part suffix : ℕ) (s : Sight) (result : Result (Result (Vec DirLine Global) DirFault) Lost) (t : Sight) → t.alone ≡ true
-    → Calls (IsFilesRead link device part suffix) s link result t → RunsOn s t
+abbrev pub ObjectChangesGoOn : Type 0
+ObjectChangesGoOn = (device : ℕ) (name : Name) (change : Change)
+    → ChangesGoOn (λ link. IsMade link device name change) (λ link answer. obj_line device link (Changed name change answer)) is_wanting
 
-abbrev pub WriteCallRuns : Type 0
-WriteCallRuns = (link : Link) (device part : ℕ) (hash : Hash) (file : FileName) (s : Sight) (result : Result (Result (Option Stored) DirFault) Lost) (t : Sight)
-    → t.alone ≡ true → Calls (IsWriteRead link device part hash file) s link result t → RunsOn s t
+abbrev pub ObjectReadsGoOn : Type 0
+ObjectReadsGoOn = (device : ℕ) (name : Name)
+    → ReadsGoOn (λ link. IsRead link device name) (λ link got. obj_line device link (Read name got)) is_wanting_read
 
-abbrev pub LookCallRuns : Type 0
-LookCallRuns = (link : Link) (device : ℕ) (place : Place) (query : Query)
-    → ((s : Sight) (result : Result (Result (Option (ℕ × Option ℕ)) ContAnswer) Lost) (t : Sight) → t.alone ≡ true
-    → Calls (IsLooked link device place times_of (λ got. cont_events.Timed place got)) s link result t → RunsOn s t)
-    × ((s : Sight) (result : Result (Result Info ContAnswer) Lost) (t : Sight) → t.alone ≡ true
-    → Calls (IsLooked link device place info_of (λ got. cont_events.Informed place got)) s link result t → RunsOn s t)
-    × ((s : Sight) (result : Result (Result (List Entry) ContAnswer) Lost) (t : Sight) → t.alone ≡ true
-    → Calls (IsLooked link device place (listing_of query) (λ got. cont_events.Listed place query got)) s link result t → RunsOn s t)
+-- reads of a partition: of what is compared, of the files of a suffix, and of a file
+abbrev pub HashesReadsGoOn : Type 0
+HashesReadsGoOn = (device part : ℕ)
+    → ReadsGoOn (λ link. IsHashesRead link device part) (λ link got. obj_line device link (ReadPart (Hashes part got))) is_wanting_part
 
--- what a device may send as things are goes on its way
-abbrev pub SendingGoesOn : Type 0
-SendingGoesOn = (s : Sight) (m : Machine) (from : ℕ) (message : Message) → StandsFor s m → Carries m from message
-    → (goes : GoesOn s m (Went from message ∷ []) s) × (goes.after ≡ record m { sent = m.sent ++ message ∷ [] })
+abbrev pub FilesReadsGoOn : Type 0
+FilesReadsGoOn = (device part suffix : ℕ)
+    → ReadsGoOn (λ link. IsFilesRead link device part suffix) (λ link got. obj_line device link (ReadPart (Files part suffix got))) is_wanting_part
+
+abbrev pub WriteReadsGoOn : Type 0
+WriteReadsGoOn = (device part : ℕ) (hash : Hash) (file : FileName)
+    → ReadsGoOn (λ link. IsWriteRead link device part hash file) (λ link got. obj_line device link (ReadPart (Write part hash file got))) is_wanting_part
+
+-- ---- at containers
+
+abbrev pub ContainerChangesGoOn : Type 0
+ContainerChangesGoOn = (device : ℕ) (place : Place) (change : ContChange)
+    → ChangesGoOn (λ link. IsContMade link device place change) (λ link answer. cont_line device link (cont_events.Changed place change answer)) is_wanting_cont
+
+-- reads of one container, whose line tells of them so
+abbrev pub LooksGoOn : {A : Type 0} → ℕ → Place → (Option Tables → ℕ → Result A ContAnswer) → (Result A ContAnswer → ContEvent) → Type 0
+LooksGoOn device place reading event =
+    ReadsGoOn (λ link. IsLooked link device place reading event) (λ link got. cont_line device link (event got)) is_wanting_look
+
+abbrev pub TimesGoOn : Type 0
+TimesGoOn = (device : ℕ) (place : Place) → LooksGoOn device place times_of (λ got. cont_events.Timed place got)
+
+abbrev pub InfosGoOn : Type 0
+InfosGoOn = (device : ℕ) (place : Place) → LooksGoOn device place info_of (λ got. cont_events.Informed place got)
+
+abbrev pub ListingsGoOn : Type 0
+ListingsGoOn = (device : ℕ) (place : Place) (query : Query) → LooksGoOn device place (listing_of query) (λ got. cont_events.Listed place query got)
+
+-- ---- of a whole device: a listing of all its files, and a restart, add no entries
+
+abbrev pub DeviceListingsGoOn : Type 0
+DeviceListingsGoOn = (device : ℕ) (failed : Bool) (s t : Sight) (m : Machine) → StandsFor s m → IsListed device failed s t
+    → GoesOn s m (Came (obj_line device Local (Listed failed) []) ∷ []) t
+
+abbrev pub RestartsGoOn : Type 0
+RestartsGoOn = (device : ℕ) (s t : Sight) (m : Machine) → StandsFor s m → t.alone ≡ true → Restarts device s t
+    → GoesOn s m (Came (obj_line device Local Restarted []) ∷ []) t

@@ -109,7 +109,7 @@ PlacesAreTold = (nodes : Nodes) (m : Machine) (device : ℕ) (place : Place) →
 -- what came in a message had been sent: before the run, or in it before it came
 abbrev pub MessagesWereSent : Type 0
 MessagesWereSent = (nodes : Nodes) (m : Machine) (lines : List RunLine) (line : Line) (more : List RunLine) (after : Machine)
-    → Runs nodes m (lines ++ Came line ∷ more) after → WasSent (m.sent ++ went_in lines) line.link line.device line.event
+    → Runs nodes m (lines ++ Came line ∷ more) after → WasSent (m.sent ++ went_in lines) line
 
 -- what was sent after a run had been sent before it, or was in it
 abbrev pub RunSends : Type 0

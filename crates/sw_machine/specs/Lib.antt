@@ -2,4 +2,5 @@ pub mod Sides
 pub mod Messages
 pub mod Machine
 pub mod Laws
+pub mod Entering
 pub mod Doors

@@ -41,7 +41,7 @@ use Rattle.sw_state.specs.declared.state.State.{State}
 use Rattle.sw_state.specs.declared.write.Write.{Write}
 use Rattle.sw_step.specs.Rules.{has_made}
 use Rattle.sw_machine.specs.Messages.{Message, Row_of, Rows_of, WasSent, Write_of}
-use Rattle.sw_machine.specs.Sides.{Side, SideMakes, SideReads, SideRestarts, known_at, side_of}
+use Rattle.sw_machine.specs.Sides.{Side, SideMakes, SideReads, SideRestarts, TellsAt, known_at, side_of}
 
 -- ---- what becomes known
 
@@ -126,18 +126,20 @@ went_in [] = []
 went_in (Came line ∷ lines) = went_in lines
 went_in (Went from message ∷ lines) = message ∷ went_in lines
 
--- ---- what a device may send as things are: a write that it stands for, and rows of a container that it has
+-- ---- what a device may send as things are
 
--- the device has the row under this place
+-- it has the row under this place
 abbrev pub HasRow : Machine → ℕ → Place → Row → Type 0
 HasRow m device place row = Contains (map (λ n. n.row) (rows_of (m.containers.half.holds device place)).list) row
 
-abbrev pub Carries : Machine → ℕ → Message → Type 0
-Carries m from (Write_of to name write) = Contains (writes_of (m.objects.half.holds from name.hash).state) write
-Carries m from (Row_of to place row) = HasRow m from place row
-Carries m from (Rows_of to place rows) = All (λ row. HasRow m from place row) rows
-
 module _ (nodes : Nodes) where
+  -- A write that it stands for, and rows of a container that it has. Of a lock that doesn't tell its contents nobody knows what it has
+  abbrev pub Carries : Machine → ℕ → Message → Type 0
+  Carries m from (Write_of to name write) =
+      TellsAt nodes.lock m.objects from name.hash → Contains (writes_of (m.objects.half.holds from name.hash).state) write
+  Carries m from (Row_of to place row) = TellsAt (cont_lock nodes) m.containers from place → HasRow m from place row
+  Carries m from (Rows_of to place rows) = TellsAt (cont_lock nodes) m.containers from place → All (λ row. HasRow m from place row) rows
+
   -- ---- what comes to a device at its objects
 
   -- a step that may change something
@@ -215,7 +217,7 @@ module _ (nodes : Nodes) where
   -- a step of the machine, as its line tells it
   abbrev pub Steps : Machine → RunLine → Machine → Type 0
   Steps m (Came line) after =
-      WasSent m.sent line.link line.device line.event × Comes m line.device line.event line.added after × (after.sent ≡ m.sent)
+      WasSent m.sent line × Comes m line.device line.event line.added after × (after.sent ≡ m.sent)
   Steps m (Went from message) after = Carries m from message × (after ≡ record m { sent = m.sent ++ message ∷ [] })
 
   -- the steps of these lines, one after another

@@ -8,7 +8,7 @@ use Rattle.sw_object_steps.specs.declared.change.Change.TheVariants.{Receive}
 use Rattle.sw_peer.specs.declared.cont_event.ContEvent.TheVariants as cont_events
 use Rattle.sw_peer.specs.declared.line.Event.{Event}
 use Rattle.sw_peer.specs.declared.line.Event.TheVariants.{AtContainer, Changed}
-use Rattle.sw_peer.specs.declared.link.Link.{Link}
+use Rattle.sw_peer.specs.declared.line.Line.{Line}
 use Rattle.sw_peer.specs.declared.link.Link.TheVariants.{Sent}
 use Rattle.sw_rows.specs.declared.row.Row.{Row}
 use Rattle.sw_state.specs.declared.write.Write.{Write}
@@ -32,5 +32,6 @@ MayChange (AtContainer (cont_events.Changed place change answer) entries) = ⊤
 MayChange event = ⊥
 
 -- What was sent is on its way for good: each step from then on may be its coming, again and again. No other changing step comes in a message
-abbrev pub WasSent : List Message → Link → ℕ → Event → Type 0
-WasSent sent link device event = link ≡ Sent → MayChange event → (message : Message) × Contains sent message × Arrives message device event
+abbrev pub WasSent : List Message → Line → Type 0
+WasSent sent line =
+    line.link ≡ Sent → MayChange line.event → (message : Message) × Contains sent message × Arrives message line.device line.event

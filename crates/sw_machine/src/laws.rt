@@ -1,10 +1,8 @@
 //! Laws of runs. Each function does nothing: its clause is the law.
 
-ghost use Rattle.sw_machine.specs.Doors.{ChangeCallRuns, ChangeCalled, ChangeGoesOn, ContChangeCallRuns, ContChangeCalled, ContChangeGoesOn, FilesCallRuns};
-ghost use Rattle.sw_machine.specs.Doors.{FilesListedGoOn, FilesReadCalled, FilesReadGoesOn, GoingOnJoins, HashesCallRuns, HashesReadCalled};
-ghost use Rattle.sw_machine.specs.Doors.{HashesReadGoesOn, InfoCalled, InfoGoesOn, ListingCalled, ListingGoesOn, LookCallRuns, ReadCallRuns, ReadCalled};
-ghost use Rattle.sw_machine.specs.Doors.{ReadGoesOn, RestartGoesOn, RunsOnJoin, SameGoesOn, SendingGoesOn, TimesCalled, TimesGoOn, WriteCallRuns};
-ghost use Rattle.sw_machine.specs.Doors.{WriteReadCalled, WriteReadGoesOn};
+ghost use Rattle.sw_machine.specs.Doors.{ContainerChangesGoOn, DeviceListingsGoOn, FilesReadsGoOn, GoingOnJoins, HashesReadsGoOn, InfosGoOn, ListingsGoOn};
+ghost use Rattle.sw_machine.specs.Doors.{ObjectChangesGoOn, ObjectReadsGoOn, RestartsGoOn, RunsOnJoin, SameGoesOn, SendingGoesOn, TimesGoOn, WriteReadsGoOn};
+ghost use Rattle.sw_machine.specs.Entering.{JournalsGrow, LinesTellHashes, LinesTellPlaces};
 ghost use Rattle.sw_machine.specs.Laws.{HashesAreTold, HashesMayStand, HashesStand, MessagesWereSent, PlacesAreTold, PlacesMayStand, RowsAreMerged};
 ghost use Rattle.sw_machine.specs.Laws.{RunKeepsTheGreatest, RunSends, RunsJoin};
 
@@ -35,6 +33,17 @@ pub fn without_doubts_told()
     ensures containers { PlacesAreTold }
 {}
 
+/// Where a device isn't restarted, its journals grow by the entries that the lines added to them, failed steps or not: so a front is the number of those.
+pub fn journals_grow()
+    ensures { JournalsGrow }
+{}
+
+/// So where no doubt of it is left at the end, a device holds what it held and what the entries of the lines leave: of objects, and of containers.
+pub fn lines_tell()
+    ensures objects { LinesTellHashes }
+    ensures containers { LinesTellPlaces }
+{}
+
 /// What came in a message had been sent.
 pub fn messages_were_sent()
     ensures { MessagesWereSent }
@@ -61,59 +70,31 @@ pub fn same_goes_on()
     ensures { SameGoesOn }
 {}
 
-/// A door that is alone goes on with a run by each step at an object: one that may change it, a read of it, and a read of a partition, of what is compared,
-/// of the files of a suffix, and of a file.
-pub fn steps_at_objects_go_on()
-    ensures change { ChangeGoesOn }
-    ensures read { ReadGoesOn }
-    ensures hashes { HashesReadGoesOn }
-    ensures files { FilesReadGoesOn }
-    ensures write { WriteReadGoesOn }
-{}
-
-/// By each step at a container: one that may change it, a read of its times or of what is told of it, and a listing.
-pub fn steps_at_containers_go_on()
-    ensures change { ContChangeGoesOn }
-    ensures times { TimesGoOn }
-    ensures info { InfoGoesOn }
-    ensures listing { ListingGoesOn }
-{}
-
-/// By each listing of all files of a device, and by each restart of it.
-pub fn steps_of_devices_go_on()
-    ensures files { FilesListedGoOn }
-    ensures restart { RestartGoesOn }
-{}
-
 /// And by what a device may send as things are.
 pub fn sending_goes_on()
     ensures { SendingGoesOn }
 {}
 
-/// By each call at an object, at the device itself.
-pub fn calls_at_objects_go_on()
-    ensures change { ChangeCalled }
-    ensures read { ReadCalled }
-    ensures hashes { HashesReadCalled }
-    ensures files { FilesReadCalled }
-    ensures write { WriteReadCalled }
+/// A door that is alone goes on with a run by each step and each call at an object: one that may change it, a read of it, and reads of a partition, of what
+/// is compared, of the files of a suffix, and of a file.
+pub fn objects_go_on()
+    ensures changes { ObjectChangesGoOn }
+    ensures reads { ObjectReadsGoOn }
+    ensures hashes { HashesReadsGoOn }
+    ensures files { FilesReadsGoOn }
+    ensures write { WriteReadsGoOn }
 {}
 
-/// By each call at a container, at the device itself.
-pub fn calls_at_containers_go_on()
-    ensures change { ContChangeCalled }
-    ensures times { TimesCalled }
-    ensures info { InfoCalled }
-    ensures listing { ListingCalled }
+/// By each at a container: one that may change it, a read of its times or of what is told of it, and a listing.
+pub fn containers_go_on()
+    ensures changes { ContainerChangesGoOn }
+    ensures times { TimesGoOn }
+    ensures infos { InfosGoOn }
+    ensures listings { ListingsGoOn }
 {}
 
-/// By each call over any link, whatever became of its message; one that may change something where such a message was sent.
-pub fn calls_run()
-    ensures change { ChangeCallRuns }
-    ensures cont_change { ContChangeCallRuns }
-    ensures read { ReadCallRuns }
-    ensures hashes { HashesCallRuns }
-    ensures files { FilesCallRuns }
-    ensures write { WriteCallRuns }
-    ensures looks { LookCallRuns }
+/// By each listing of all files of a device, and by each restart of it.
+pub fn devices_go_on()
+    ensures listings { DeviceListingsGoOn }
+    ensures restarts { RestartsGoOn }
 {}

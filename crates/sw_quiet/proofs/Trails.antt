@@ -1,15 +1,13 @@
 -- What a call is over a door that keeps a trail, it is over one that keeps none.
 use Rattle.std.proofs.Common.{◌≡◌, ℕ, Bool, true, false, List, [], ◌∷◌, ◌++◌, refl, sym, ap, subst, inl, None, Result, Ok, Err}
-use Rattle.std.specs.Bool.{⊤}
 use Rattle.sw_core.proofs.Anew.{restarts}
 use Rattle.sw_core.specs.Worlds.{AllNodes, SetsDown, restart_line, sight_of}
 use Rattle.sw_diskfile.specs.declared.file_name.FileName.{FileName}
-use Rattle.sw_hashpath.specs.HashParts.{suffix_of}
 use Rattle.sw_hashpath.specs.declared.name.Name.{Name}
 use Rattle.sw_object_steps.specs.Journals.{Hash}
 use Rattle.sw_object_steps.specs.Parts.{AreHashes, AreLines, IsFile}
 use Rattle.sw_peer.specs.Sights.{Calls, Comes, IsAt, IsFilesRead, IsHashesRead, IsInPart, IsMade, IsPartRead, IsRead, IsSame, IsWriteRead}
-use Rattle.sw_peer.specs.Sights.{Moves, Nodes, Restarts, Sight}
+use Rattle.sw_peer.specs.Sights.{Moves, Nodes, Restarts, Sight, in_part, in_suffix, is_one}
 use Rattle.sw_object_steps.specs.declared.change.Change.{Change}
 use Rattle.sw_object_steps.specs.declared.dir_fault.DirFault.{DirFault}
 use Rattle.sw_peer.specs.declared.link.Link.{Link}
@@ -42,28 +40,29 @@ read-blind link device name s t x step = record {
   trail = inl refl;
 }
 
-pub part-blind : {A : Type 0} (link : Link) (device part : ℕ) (at : Hash → Type 0) (damages : Bool)
+pub part-blind : {A : Type 0} (link : Link) (device part : ℕ) (at : Nodes → Hash → Bool) (damages : Bool)
     (reading : Nodes → Bool → (Hash → State) → A → Type 0) (read : Result A DirFault → PartRead)
     → IsBlind (IsPartRead link device part at damages reading read)
 part-blind link device part at damages reading read s t x step = record {
-  moves = moves-quiet (IsInPart s.nodes.power device part at) s t step.moves;
+  moves = moves-quiet (IsInPart s.nodes.power device part (at s.nodes)) s t step.moves;
   holds_all = step.holds_all;
   step = step.step;
+  sound = step.sound;
   trail = inl refl;
 }
 
 pub hashes-blind : (link : Link) (device part : ℕ) → IsBlind (IsHashesRead link device part)
 hashes-blind link device part =
-    part-blind link device part (λ hash. ⊤) false (λ nodes told s got. AreHashes nodes.power part told s got.items) (λ got. Hashes part got)
+    part-blind link device part (in_part part) false (λ nodes told s got. AreHashes nodes.power part told s got.items) (λ got. Hashes part got)
 
 pub files-blind : (link : Link) (device part suffix : ℕ) → IsBlind (IsFilesRead link device part suffix)
 files-blind link device part suffix =
-    part-blind link device part (λ hash. suffix_of hash ≡ suffix) false
+    part-blind link device part (in_suffix part suffix) false
     (λ nodes told s got. AreLines nodes.power part suffix told s got.items) (λ got. Files part suffix got)
 
 pub write-blind : (link : Link) (device part : ℕ) (hash : Hash) (file : FileName) → IsBlind (IsWriteRead link device part hash file)
 write-blind link device part hash file =
-    part-blind link device part (λ other. other ≡ hash) true (λ nodes told s got. IsFile nodes.fits hash file told s got) (λ got. Write part hash file got)
+    part-blind link device part (is_one hash) true (λ nodes told s got. IsFile nodes.fits hash file told s got) (λ got. Write part hash file got)
 
 module _ {A : Type 0} (step : Sight → A → Sight → Type 0) (blind : IsBlind step) where
   comes-quiet : (s : Sight) (xs : List A) (t : Sight) → Comes step s xs t → Comes step (without_trail s) xs (without_trail t)
@@ -80,18 +79,9 @@ module _ {A : Type 0} (step : Sight → A → Sight → Type 0) (blind : IsBlind
 restarts-blind : (device : ℕ) (s t : Sight) → Restarts device s t → Restarts device (without_trail s) (without_trail t)
 restarts-blind device s t r = record {
   nodes = r.nodes;
-  others = r.others;
-  told = r.told;
-  opening = r.opening;
-  entries = r.entries;
-  doubts = r.doubts;
-  max_entries = r.max_entries;
-  max_bytes = r.max_bytes;
-  faults = r.faults;
-  holds = r.holds;
-  elsewhere = r.elsewhere;
-  alone = r.alone;
+  objects = r.objects;
   containers = r.containers;
+  alone = r.alone;
   counts = r.counts;
   trail = refl;
 }

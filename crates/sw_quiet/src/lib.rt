@@ -4,8 +4,8 @@
 //! not grow with the requests that it served. A [`QuietWorld`] is the same nodes, as a door (`sw_peer`) whose sight has no trail. Each call is
 //! one of the world within, whose line is let go before the call returns.
 //!
-//! What is promised: each call, and each restart, is still a step of the machine, so that the nodes stand for the machine after it ([`laws`]).
-//! Its line is one that the law gives, and that nobody keeps.
+//! What is promised: each call is still one of a door, and a device that is lifted and set down was restarted ([`laws`]). So a run of the machine
+//! (`sw_machine`) goes on by each, with a line that its law gives, and that nobody keeps.
 #![tactic(auto)]
 
 pub mod laws;

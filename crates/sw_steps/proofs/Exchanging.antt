@@ -1,21 +1,20 @@
 -- A push and a later one back, in a list of steps that was made.
 use Rattle.std.proofs.Common.{◌≡◌, ◌≢◌, ℕ, Bool, true, false, nat_eq, List, [], ◌∷◌, ◌++◌, refl, sym, ◌∙◌, ap, subst, ◌⊎◌, inl, inr, Result, Ok}
 use Rattle.std.proofs.lemmas.Bool.{eq-eqb, eqb-true}
-use Rattle.sw_object_machine.proofs.PartFacts.{part-at}
 use Rattle.sw_hashpath.specs.HashParts.{suffix_of}
 use Rattle.sw_lossy.specs.Losses.{begun}
 use Rattle.sw_lossy.specs.declared.acts.Acts.{Acts}
 use Rattle.sw_outside.specs.declared.errors.NoMemory.{NoMemory}
 use Rattle.sw_pass.specs.declared.outcome.Outcome.{Outcome}
 use Rattle.sw_peer.proofs.Calls.{calls-moves, made-step, read-step}
-use Rattle.sw_object_steps.specs.Flat.{History}
+use Rattle.sw_object_steps.specs.Rules.{ObjHistory}
 use Rattle.sw_object_steps.specs.Journals.{Hash}
 use Rattle.sw_object_steps.specs.Parts.{IsOfPart}
 use Rattle.sw_peer.specs.Sights.{IsAt, IsMade, IsRead, Moves, Nodes, Restarts, Sight}
 use Rattle.sw_peer.specs.declared.link.Link.TheVariants.{Local}
 use Rattle.sw_replicator.proofs.Exchanging.{exchange_meets}
 use Rattle.sw_replicator.specs.Laws.{CollidesOnce, HoldSame}
-use Rattle.sw_replicator.specs.Meeting.{Collides, IsOfPair}
+use Rattle.sw_replicator.specs.Meeting.{Collides, IsOfPair, state_at}
 use Rattle.sw_state.specs.States.{together}
 use Rattle.sw_steps.proofs.Running.{over-moves, sight_after}
 use Rattle.sw_steps.specs.Exchanging.{Exchanges, HasExchange, HoldBoth}
@@ -28,6 +27,10 @@ use Rattle.sw_steps.specs.declared.step.Step.TheVariants as steps
 split-made : (xs ys : List Step) (s t : Sight) → AreMade (xs ++ ys) s t → (mid : Sight) × AreMade xs s mid × AreMade ys mid t
 split-made [] ys s t made = (s, refl, made)
 split-made (x ∷ xs) ys s t made = let rest = split-made xs ys made.0 t made.2 in (rest.0, (made.0, made.1, rest.1), rest.2)
+
+-- a hash of the partition is under its lock
+part-at : (nodes : Nodes) (device part : ℕ) (hash : Hash) → IsOfPart nodes.power part hash → nodes.lock device hash ≡ nodes.part_lock device part
+part-at nodes device part hash is = nodes.one_lock device hash ∙ ap (nodes.part_lock device) is.part_is
 
 -- ---- what stays along steps: that locks tell what they have
 
@@ -61,8 +64,8 @@ module _ (hash : Hash) where
       by d true is told =
           let at : d ≡ device = eqb-true d device is in
           subst (λ (e : ℕ). (t.objects.seen (s.nodes.lock e hash)).told ≡ true) (sym at)
-          (r.told hash (subst (λ (e : ℕ). (s.objects.seen (s.nodes.lock e hash)).told ≡ true) at told))
-      by d false is told = ap (λ (h : History). h.told) (r.others d hash apart) ∙ told
+          (r.objects.told hash (subst (λ (e : ℕ). (s.objects.seen (s.nodes.lock e hash)).told ≡ true) at told))
+      by d false is told = ap (λ (h : ObjHistory). h.told) (r.objects.others d hash apart) ∙ told
         where
           apart : d ≢ device
           apart equal = let yes_match : nat_eq d device ≡ true = eq-eqb d device equal in cc
@@ -77,7 +80,7 @@ module _ (hash : Hash) where
   step-stays (steps.List device) s t made = record {
     nodes = made.1.nodes;
     alone = λ alone. sym made.1.alone ∙ alone;
-    tells = λ d told. told-still s t d made.1.nodes (ap (λ (h : History). h.told) (made.1.same (s.nodes.lock d hash)) ∙ told);
+    tells = λ d told. told-still s t d made.1.nodes (ap (λ (h : ObjHistory). h.told) (made.1.same (s.nodes.lock d hash)) ∙ told);
   }
   step-stays (steps.Restart device) s t made = stays-restarted device s t made
   step-stays (steps.Push from to part acts) s t made =
@@ -205,8 +208,8 @@ steps_meet all s t made alone a b part has apart told hash is = (e, meets)
           told_then = (known-in e.third a at_third (tells-third a told.0), known-in e.third b at_third (tells-third b told.1));
         }) hash at_first same)
       where
-        by : ((e.fourth.objects.holds b hash ≡ together (e.first.objects.holds b hash) (e.first.objects.holds a hash))
-            × (e.fourth.objects.holds a hash ≡ together (e.first.objects.holds a hash) (e.fourth.objects.holds b hash)))
+        by : ((state_at e.fourth b hash ≡ together (state_at e.first b hash) (state_at e.first a hash))
+            × (state_at e.fourth a hash ≡ together (state_at e.first a hash) (state_at e.fourth b hash)))
             ⊎ CollidesOnce a b part hash (begun has.there e.first) (sight_after e.pushed) (begun has.back e.third)
             (sight_after e.pushed_back) → HoldBoth a b part hash e.first e.second e.third e.fourth
         by (inl joined) = inl joined

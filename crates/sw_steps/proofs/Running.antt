@@ -1,55 +1,39 @@
 -- A push is a run of the machine.
 use Rattle.std.proofs.Common.{◌≡◌, ◌≢◌, ℕ, true, false, ◌∙◌, ap, subst, Result, Ok, Err}
-use Rattle.sw_object_machine.proofs.PartFacts.{part-at}
-use Rattle.sw_object_machine.specs.Doors.{HasRun}
-use Rattle.sw_object_machine.specs.Machine.{Machine}
+use Rattle.sw_machine.specs.Doors.{RunsOn}
 use Rattle.sw_lossy.specs.Losses.{around, begun}
 use Rattle.sw_lossy.specs.declared.acts.Acts.{Acts}
 use Rattle.sw_outside.specs.declared.errors.NoMemory.{NoMemory}
 use Rattle.sw_pass.specs.declared.outcome.Outcome.{Outcome}
-use Rattle.sw_object_steps.specs.Journals.{Hash}
-use Rattle.sw_object_steps.specs.Parts.{IsOfPart}
 use Rattle.sw_peer.specs.Sights.{Sight}
 use Rattle.sw_replicator.proofs.Keeping.{run-keeps}
-use Rattle.sw_replicator.proofs.Reading.{later}
 use Rattle.sw_replicator.specs.Meeting.{PairMoves}
 use Rattle.sw_replicator.specs.Pushing.{IsPush}
 use Rattle.sw_steps.proofs.Along.{run-goes}
-use Rattle.sw_steps.proofs.Going.{Goes}
 use Rattle.sw_steps.specs.Laws.{PushingRuns}
 use Rattle.sw_steps.specs.Passing.{IsPushedOver}
 
-module _ (start : Machine) (from to part : ℕ) (hash : Hash) (apart : from ≢ to) where
-  push-goes : (s : Sight) (result : Result Outcome NoMemory) (t : Sight) → IsPush from to part s result t → Goes start from to part hash s t
-  push-goes s (Ok outcome) t push = run-goes start from to part hash apart s t push.0 true push.1
-  push-goes s (Err wanting) t push = run-goes start from to part hash apart s t push.0 false push.1
-
-  -- at nodes that nobody else changes the run goes on by a push
-  pub push-runs : (s : Sight) (result : Result Outcome NoMemory) (t : Sight) → IsPush from to part s result t → t.alone ≡ true
-      → IsOfPart s.nodes.power part hash → HasRun start s → HasRun start t
-  push-runs s result t push alone is has =
-      let goes : Goes start from to part hash s t = push-goes s result t push in
-      let told = subst (λ (l : ℕ). (s.objects.seen l).told ≡ true) (part-at s.nodes from part hash is) (has.stands.told from hash) in
-      goes.runs (alone, (later from to part from s t goes.moves).told ∙ told) is has
+-- at nodes that nobody else changes the run goes on by a push
+push-runs : (from to part : ℕ) → from ≢ to → (s : Sight) (result : Result Outcome NoMemory) (t : Sight) → IsPush from to part s result t → t.alone ≡ true
+    → RunsOn s t
+push-runs from to part apart s (Ok outcome) t push = (run-goes from to part apart s t push.0 true push.1).runs
+push-runs from to part apart s (Err wanting) t push = (run-goes from to part apart s t push.0 false push.1).runs
 
 -- a run knows nothing of what a door around counts
-run-in : (start : Machine) (s : Sight) (acts : Acts) (messages faults asks : ℕ) → HasRun start s → HasRun start (around s acts messages faults asks)
-run-in start s acts messages faults asks has = record {
-  lines = has.lines;
-  kept = has.kept;
-  after = has.after;
-  run = has.run;
-  stands = record { states = has.stands.states; seen = has.stands.seen; told = has.stands.told };
-}
-
-run-out : (start : Machine) (s : Sight) (acts : Acts) (messages faults asks : ℕ) → HasRun start (around s acts messages faults asks) → HasRun start s
-run-out start s acts messages faults asks has = record {
-  lines = has.lines;
-  kept = has.kept;
-  after = has.after;
-  run = has.run;
-  stands = record { states = has.stands.states; seen = has.stands.seen; told = has.stands.told };
-}
+run-within : (s t : Sight) (acts now : Acts) (sent faults asks messages more asked : ℕ)
+    → RunsOn (around s acts sent faults asks) (around t now messages more asked) → RunsOn s t
+run-within s t acts now sent faults asks messages more asked runs m stands =
+    let run = runs m (record { objects = stands.objects; containers = stands.containers }) in
+    (
+      run.0,
+      record {
+        nodes = run.1.nodes;
+        after = run.1.after;
+        run = run.1.run;
+        stands = record { objects = run.1.stands.objects; containers = run.1.stands.containers };
+        kept = run.1.kept;
+      },
+    )
 
 -- a door that begins a pass
 pub begun-as : {D : Type 0} (sight : D → Sight) (old new : D) (acts now : Acts) (messages faults asks : ℕ) → new ≡ old → now ≡ acts → messages ≡ 0
@@ -66,9 +50,9 @@ abbrev pub sight_after : {from to part : ℕ} {acts : Acts} {s : Sight} {result 
 sight_after {t = t} over = around t over.acts_behind over.messages over.faults over.asks
 
 pub pushing_runs : PushingRuns
-pushing_runs start from to part acts s result t hash over apart alone is has =
-    run-out start t over.acts_behind over.messages over.faults over.asks
-    (push-runs start from to part hash apart (begun acts s) result (sight_after over) over.pushes alone is (run-in start s acts 0 0 0 has))
+pushing_runs from to part acts s result t over apart alone =
+    run-within s t acts over.acts_behind 0 0 0 over.messages over.faults over.asks
+    (push-runs from to part apart (begun acts s) result (sight_after over) over.pushes alone)
 
 -- where it moves
 pub over-moves : (from to part : ℕ) (acts : Acts) (s : Sight) (result : Result Outcome NoMemory) (t : Sight) (over : IsPushedOver from to part acts s result t)

@@ -1,18 +1,24 @@
 -- Steps that are made one after another.
-use Rattle.std.proofs.Common.{◌≡◌, ℕ, ◌+◌, ◌<◌, ◌≤◌, ◌^◌, List, [], ◌∷◌, ◌++◌, take, drop, get_or, length, refl, sym, ◌∙◌, ap, subst, arith, append_assoc}
+use Rattle.std.proofs.Common.{◌≡◌, ℕ, Bool, true, ◌+◌, ◌<◌, ◌≤◌, ◌^◌, List, [], ◌∷◌, ◌++◌, take, drop, get_or, length, refl, sym, ◌∙◌, ap, subst, arith, append_assoc}
 use Rattle.std.proofs.Common.{Option, None, Result, Ok, Err, OnOk, OnErr, All}
 use Rattle.std.proofs.Math.Seq.{take-length}
 use Rattle.std.proofs.lemmas.List.{take-append-drop, take_more}
 use Rattle.std.proofs.lemmas.List.Elements.{All-get_or}
 use Rattle.sw_core.proofs.Wholes.{shown-whole}
-use Rattle.sw_object_machine.specs.Doors.{HasRun}
+use Rattle.sw_hashpath.specs.declared.name.Name.{Name}
+use Rattle.sw_machine.proofs.Doors.{device-listings, object-changes, object-reads, restarts}
+use Rattle.sw_machine.proofs.Going.{same-goes}
+use Rattle.sw_machine.specs.Doors.{RunsOn}
 use Rattle.sw_core.specs.Worlds.{nodes_of, shown}
 use Rattle.sw_hashpath.specs.declared.secrets.Secrets.{Secrets}
-use Rattle.sw_peer.proofs.Calls.{calls-moves, made-step, read-step}
-use Rattle.sw_peer.specs.Sights.{IsAt, IsMade, IsRead, Moves, Nodes, Sight}
+use Rattle.sw_peer.proofs.Calls.{calls-moves, made-step, read-step, same-refl}
+use Rattle.sw_object_steps.specs.declared.answer.Answer.{Answer}
+use Rattle.sw_object_steps.specs.declared.change.Change.{Change}
+use Rattle.sw_object_steps.specs.declared.got.Got.{Got}
+use Rattle.sw_peer.specs.Sights.{Calls, IsAt, IsListed, IsMade, IsRead, Moves, Nodes, Restarts, Sight}
 use Rattle.sw_peer.specs.declared.link.Link.TheVariants.{Local}
 use Rattle.sw_steps.proofs.Running.{over-nodes}
-use Rattle.sw_steps.specs.Stepping.{AreMade, AreMadeUpTo, IsStepMade, IsStepTried, MayBeMade, RunsOn}
+use Rattle.sw_steps.specs.Stepping.{AreMade, AreMadeUpTo, IsStepMade, IsStepTried, MayBeMade}
 use Rattle.sw_steps.specs.declared.step.Step.{Step}
 use Rattle.sw_steps.specs.declared.step.Step.TheVariants as steps
 
@@ -32,7 +38,24 @@ any-err (Err e) p = p
 
 -- where nothing came, every run goes on
 pub same-runs : {A : Type 0} (see : A → Sight) (old new : A) → new ≡ old → RunsOn (see old) (see new)
-same-runs {A} see old new same start has = subst (λ (w : A). HasRun start (see w)) (sym same) has
+same-runs {A} see old new same =
+    subst (λ (w : A). RunsOn (see old) (see w)) (sym same) (λ m stands. ([], (same-goes (see old) m (see old) stands (same-refl (see old))).0))
+
+-- every run goes on by a step at a device itself
+pub changed-runs : (device : ℕ) (name : Name) (change : Change) (s : Sight) (answer : Answer) (t : Sight) → t.alone ≡ true
+    → Calls (IsMade Local device name change) s Local (Ok answer) t → RunsOn s t
+changed-runs device name change s answer t alone calls m stands =
+    let one = (object-changes device name change).call s answer t alone calls m stands in (one.0, one.2)
+
+pub read-runs : (device : ℕ) (name : Name) (s : Sight) (got : Got) (t : Sight) → t.alone ≡ true → Calls (IsRead Local device name) s Local (Ok got) t
+    → RunsOn s t
+read-runs device name s got t = (object-reads device name).calls Local s (Ok got) t
+
+pub listed-runs : (device : ℕ) (failed : Bool) (s t : Sight) → IsListed device failed s t → RunsOn s t
+listed-runs device failed s t listed m stands = (_, device-listings device failed s t m stands listed)
+
+pub restarted-runs : (device : ℕ) (s t : Sight) → t.alone ≡ true → Restarts device s t → RunsOn s t
+restarted-runs device s t alone anew m stands = (_, restarts device s t m stands alone anew)
 
 -- ---- the nodes stay
 

@@ -6,6 +6,7 @@ use Rattle.sw_object_steps.specs.Journals.{Hash}
 use Rattle.sw_object_steps.specs.Parts.{IsOfPart}
 use Rattle.sw_peer.specs.Sights.{Sight}
 use Rattle.sw_replicator.specs.Laws.{BothTell, CollidesOnce, HoldSame}
+use Rattle.sw_replicator.specs.Meeting.{state_at}
 use Rattle.sw_state.specs.States.{together}
 use Rattle.sw_steps.specs.Passing.{IsPushedOver}
 use Rattle.sw_steps.specs.Stepping.{AreMade}
@@ -39,8 +40,8 @@ pub record Exchanges (a b part : ℕ) (all : List Step) (has : HasExchange a b p
 -- the join of what both held before the first
 abbrev pub HoldBoth : (a b part : ℕ) → Hash → Sight → Sight → Sight → Sight → Type 0
 HoldBoth a b part hash s m n t =
-    ((t.objects.holds b hash ≡ together (s.objects.holds b hash) (s.objects.holds a hash))
-    × (t.objects.holds a hash ≡ together (s.objects.holds a hash) (t.objects.holds b hash)))
+    ((state_at t b hash ≡ together (state_at s b hash) (state_at s a hash))
+    × (state_at t a hash ≡ together (state_at s a hash) (state_at t b hash)))
     ⊎ CollidesOnce a b part hash s m n t
 
 abbrev pub MeetsWhereDone : (a b part : ℕ) (all : List Step) (has : HasExchange a b part all) (s t : Sight) → Hash → Exchanges a b part all has s t → Type 0

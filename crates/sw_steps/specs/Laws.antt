@@ -1,12 +1,9 @@
 -- What is promised of steps and passes. (This project's own.)
 use Rattle.std.specs.Prelude.{◌≡◌, ◌≢◌, ℕ, true, List, Result}
-use Rattle.sw_object_machine.specs.Doors.{HasRun}
-use Rattle.sw_object_machine.specs.Machine.{Machine}
+use Rattle.sw_machine.specs.Doors.{RunsOn}
 use Rattle.sw_lossy.specs.declared.acts.Acts.{Acts}
 use Rattle.sw_outside.specs.declared.errors.NoMemory.{NoMemory}
 use Rattle.sw_pass.specs.declared.outcome.Outcome.{Outcome}
-use Rattle.sw_object_steps.specs.Journals.{Hash}
-use Rattle.sw_object_steps.specs.Parts.{IsOfPart}
 use Rattle.sw_peer.specs.Sights.{Sight}
 use Rattle.sw_steps.specs.Exchanging.{AreMet}
 use Rattle.sw_steps.specs.Passing.{IsPushedOver}
@@ -14,10 +11,10 @@ use Rattle.sw_steps.specs.Stepping.{AreMade}
 use Rattle.sw_steps.specs.declared.step.Step.{Step}
 
 -- A push is a run of the machine, whatever comes of it: what was lost, came twice, hindered it or wanted memory. Each transfer carries a
--- write that its sender stands for. The partition is one of the nodes': it has a hash
+-- write that its sender stands for, as far as the sender's lock tells what it has
 abbrev pub PushingRuns : Type 0
-PushingRuns = (start : Machine) (from to part : ℕ) (acts : Acts) (s : Sight) (result : Result Outcome NoMemory) (t : Sight) (hash : Hash)
-    → IsPushedOver from to part acts s result t → from ≢ to → t.alone ≡ true → IsOfPart s.nodes.power part hash → HasRun start s → HasRun start t
+PushingRuns = (from to part : ℕ) (acts : Acts) (s : Sight) (result : Result Outcome NoMemory) (t : Sight) → IsPushedOver from to part acts s result t
+    → from ≢ to → t.alone ≡ true → RunsOn s t
 
 -- Where a list of steps is made that has a push from a to b and a later one back, and both are done, both devices hold the join of what both
 -- held, of each hash that the steps between them left

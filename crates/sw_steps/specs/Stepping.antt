@@ -1,7 +1,5 @@
 -- Steps of the nodes, one after another, and the passes among them. (This project's own.)
 use Rattle.std.specs.Prelude.{◌≡◌, ◌≢◌, ℕ, ◌^◌, ◌<◌, true, false, Bool, List, [], ◌∷◌, ◌++◌, Ok, Err, ◌⊎◌}
-use Rattle.sw_object_machine.specs.Doors.{HasRun}
-use Rattle.sw_object_machine.specs.Machine.{Machine}
 use Rattle.sw_hashdir.specs.Steps.{is_hashed}
 use Rattle.sw_hashpath.specs.declared.secrets.Secrets.{Secrets}
 use Rattle.sw_outside.specs.declared.errors.NoMemory.{NoMemory}
@@ -54,7 +52,3 @@ pub record AreMadeUpTo (all : List Step) (s t : Sight) : Type 0 where
   pub mid : Sight
   pub made : AreMade done s mid
   pub tried : IsStepTried step mid t
-
--- every run of the machine that the nodes stood for goes on to them as they are then
-abbrev pub RunsOn : Sight → Sight → Type 0
-RunsOn s t = (start : Machine) → HasRun start s → HasRun start t

@@ -1,9 +1,10 @@
 ghost use Rattle.std.specs.Prelude.{◌≡◌, ◌≢◌, ◌<◌, ◌^◌, true, false, All, None, OnOk, OnErr};
 ghost use Rattle.sw_core.specs.Worlds.{sight_of};
 ghost use Rattle.sw_hashdir.specs.Steps.{is_hashed};
+ghost use Rattle.sw_machine.specs.Doors.{RunsOn};
 ghost use Rattle.sw_peer.specs.Sights.{is_wanting, is_wanting_read};
 ghost use Rattle.sw_steps.specs.Exchanging.{AreMet};
-ghost use Rattle.sw_steps.specs.Stepping.{AreMade, AreMadeUpTo, IsStepMade, IsStepTried, MayBeMade, RunsOn};
+ghost use Rattle.sw_steps.specs.Stepping.{AreMade, AreMadeUpTo, IsStepMade, IsStepTried, MayBeMade};
 ghost use Rattle.sw_steps.specs.declared.step.Step.TheVariants as step_kinds;
 
 use crate::passing::push_over;
@@ -181,8 +182,6 @@ fn push_at<V: Volume + Drop>(
         (sight_of V.tells V.holds V.faults door.old.door) (sight_of V.tells V.holds V.faults door.new.door)) }
     ensures runs { RunsOn (sight_of V.tells V.holds V.faults door.old.door) (sight_of V.tells V.holds V.faults door.new.door) }
 {
-    // which tells that the partition has a hash, so that its reads are steps of the machine
-    let _ = door.door.power();
     match push_over(alloc, door, from, to, part, acts) {
         Ok(_) => Ok(()),
         Err(NoMemory) => Err(NoMemory),

@@ -21,6 +21,10 @@ impl<V: Volume + Drop> FaithfulDoor for QuietWorld<V> {
 }
 
 impl<V: Volume + Drop> ObjectDoor for QuietWorld<V> {
+    fn may_stand(&self, device: u8, hash: &[u8; 16]) {
+        self.world.may_stand(device, hash)
+    }
+
     fn change(
         &mut self,
         alloc: Global,

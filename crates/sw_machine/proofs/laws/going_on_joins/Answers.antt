@@ -1,4 +1,4 @@
-use Rattle.sw_machine.proofs.Doors.{going-joins, runs-join}
+use Rattle.sw_machine.proofs.Going.{going-joins, runs-join}
 use Rattle.sw_machine.proofs.laws.going_on_joins.Goals as goal
 
 pub returns-clause-one : goal.returns-clause-one

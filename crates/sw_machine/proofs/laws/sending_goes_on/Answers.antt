@@ -1,5 +1,5 @@
-use Rattle.sw_machine.proofs.Doors.{sending-goes-on}
+use Rattle.sw_machine.proofs.Going.{sending-goes}
 use Rattle.sw_machine.proofs.laws.sending_goes_on.Goals as goal
 
 pub returns : goal.returns
-returns c = sending-goes-on
+returns c = sending-goes

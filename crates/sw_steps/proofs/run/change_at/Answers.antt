@@ -1,12 +1,11 @@
 use Rattle.std.proofs.Common.{refl, ap, Ok, subst, inl, inr}
-use Rattle.sw_object_machine.proofs.Sessions.{run-changed-call}
 use Rattle.sw_core.proofs.Wholes.{still-whole}
 use Rattle.sw_core.specs.Worlds.{sight_of}
 use Rattle.sw_peer.proofs.Calls.{calls-moves, made-step}
 use Rattle.sw_peer.specs.Sights.{Calls, IsAt, IsMade, Moves, Nodes}
 use Rattle.sw_object_steps.specs.declared.change.Change.{Change}
 use Rattle.sw_peer.specs.declared.link.Link.TheVariants.{Local}
-use Rattle.sw_steps.proofs.Stepping.{any-err, on-err, on-ok}
+use Rattle.sw_steps.proofs.Stepping.{any-err, changed-runs, on-err, on-ok}
 use Rattle.sw_steps.proofs.run.change_at.Goals as goal
 
 pub returns-in_err-change-clause-tried : goal.returns-in_err-change-clause-tried
@@ -29,7 +28,7 @@ returns-clause-tried g c =
 pub returns-clause-runs : goal.returns-clause-runs
 returns-clause-runs g c =
     let v = g.V.Volume in let s = sight_of v.tells v.holds v.faults c.args.world.now in let t = sight_of v.tells v.holds v.faults c.change.new.self in
-    λ start has. run-changed-call start c.args.device c.args.name.now _ s c.in-Ok.answer t refl c.in-Ok.ensures.made has
+    changed-runs c.args.device c.args.name.now _ s c.in-Ok.answer t refl c.in-Ok.ensures.made
 
 pub returns-clause-whole : goal.returns-clause-whole
 returns-clause-whole g c =

@@ -1,9 +1,8 @@
 use Rattle.std.proofs.Common.{Bool, Err, inl, inr, ap, subst, ◌∙◌}
-use Rattle.sw_object_machine.proofs.Sessions.{run-listed}
 use Rattle.sw_core.specs.Listing.{is_failed}
 use Rattle.sw_core.specs.Worlds.{sight_of}
 use Rattle.sw_peer.specs.Sights.{IsListed}
-use Rattle.sw_steps.proofs.Stepping.{same-runs}
+use Rattle.sw_steps.proofs.Stepping.{listed-runs, same-runs}
 use Rattle.sw_steps.proofs.run.list_at.Goals as goal
 use Rattle.sw_steps.proofs.run.list_at.Goals.{in-Ok, in-Err-Failed, in-Err-NoMemory}
 
@@ -36,8 +35,7 @@ returns-clause-tried g c =
 pub returns-clause-runs : goal.returns-clause-runs
 returns-clause-runs g c =
     let v = g.V.Volume in let see = sight_of v.tells v.holds v.faults in
-    λ start has.
     elim c.files.ensures.listed [
-      | inl listed ↦ run-listed start c.args.device (is_failed c.files.result) (see c.args.world.now) (see c.files.new.self) listed has
-      | inr none ↦ same-runs see c.args.world.now c.files.new.self none.1 start has
+      | inl listed ↦ listed-runs c.args.device (is_failed c.files.result) (see c.args.world.now) (see c.files.new.self) listed
+      | inr none ↦ same-runs see c.args.world.now c.files.new.self none.1
     ]

@@ -1,6 +1,5 @@
-use Rattle.std.proofs.Common.{◌≤◌, ℕ, refl, ap, subst}
+use Rattle.std.proofs.Common.{refl, ap}
 use Rattle.sw_core.proofs.Wholes.{still-whole}
-use Rattle.sw_object_machine.proofs.Witness.{hash_with, of-part}
 use Rattle.sw_core.specs.Worlds.{sight_of}
 use Rattle.sw_peer.specs.Sights.{Nodes}
 use Rattle.sw_steps.proofs.Running.{over-nodes, pushing_runs}
@@ -24,18 +23,10 @@ pub returns-in-Ok-clause-runs : goal.returns-in-Ok-clause-runs
 returns-in-Ok-clause-runs g c =
     let v = g.V.Volume in let see = sight_of v.tells v.holds v.faults in
     let old = c.args.door.now.door in let new = c.push_over.new.door.door in
-    let most : old.power ≤ 32 = subst (λ (n : ℕ). n ≤ 32) c.power.ensures.value c.power.ensures.most in
-    λ start has.
-    pushing_runs start c.args.from c.args.to c.args.part c.args.acts (see old) c.push_over.result (see new) (hash_with old.power c.args.part 0)
-    c.push_over.ensures
-    c.requires.apart refl (of-part old.power c.args.part 0 most c.requires.part) has
+    pushing_runs c.args.from c.args.to c.args.part c.args.acts (see old) c.push_over.result (see new) c.push_over.ensures c.requires.apart refl
 
 pub returns-in-Err-clause-runs : goal.returns-in-Err-clause-runs
 returns-in-Err-clause-runs g c =
     let v = g.V.Volume in let see = sight_of v.tells v.holds v.faults in
     let old = c.args.door.now.door in let new = c.push_over.new.door.door in
-    let most : old.power ≤ 32 = subst (λ (n : ℕ). n ≤ 32) c.power.ensures.value c.power.ensures.most in
-    λ start has.
-    pushing_runs start c.args.from c.args.to c.args.part c.args.acts (see old) c.push_over.result (see new) (hash_with old.power c.args.part 0)
-    c.push_over.ensures
-    c.requires.apart refl (of-part old.power c.args.part 0 most c.requires.part) has
+    pushing_runs c.args.from c.args.to c.args.part c.args.acts (see old) c.push_over.result (see new) c.push_over.ensures c.requires.apart refl

@@ -1,11 +1,10 @@
 use Rattle.std.proofs.Common.{refl, ap, Ok, inr}
-use Rattle.sw_object_machine.proofs.Sessions.{run-read-call}
 use Rattle.sw_core.proofs.Wholes.{still-whole}
 use Rattle.sw_core.specs.Worlds.{sight_of}
 use Rattle.sw_peer.proofs.Calls.{calls-moves, read-step}
 use Rattle.sw_peer.specs.Sights.{IsAt, IsRead, Moves, Nodes}
 use Rattle.sw_peer.specs.declared.link.Link.TheVariants.{Local}
-use Rattle.sw_steps.proofs.Stepping.{on-err, on-ok}
+use Rattle.sw_steps.proofs.Stepping.{on-err, on-ok, read-runs}
 use Rattle.sw_steps.proofs.run.read_at.Goals as goal
 
 pub returns-clause-made : goal.returns-clause-made
@@ -18,7 +17,7 @@ returns-clause-tried g c =
 pub returns-clause-runs : goal.returns-clause-runs
 returns-clause-runs g c =
     let v = g.V.Volume in let s = sight_of v.tells v.holds v.faults c.args.world.now in let t = sight_of v.tells v.holds v.faults c.get.new.self in
-    λ start has. run-read-call start c.args.device c.args.name.now s c.in-Ok.got t refl c.in-Ok.ensures.read has
+    read-runs c.args.device c.args.name.now s c.in-Ok.got t refl c.in-Ok.ensures.read
 
 pub returns-clause-whole : goal.returns-clause-whole
 returns-clause-whole g c =

@@ -1,14 +1,15 @@
 use Rattle.std.proofs.Common.{refl, take}
 use Rattle.std.proofs.lemmas.Result.{err_from_is_err_and}
 use Rattle.sw_core.specs.Worlds.{sight_of}
+use Rattle.sw_machine.proofs.Going.{runs-join}
 use Rattle.sw_steps.proofs.Exchanging.{steps_meet}
-use Rattle.sw_steps.proofs.Stepping.{all-made, begun-all, made-nodes, may-next, next-made, stopped}
+use Rattle.sw_steps.proofs.Stepping.{all-made, begun-all, made-nodes, may-next, next-made, same-runs, stopped}
 use Rattle.sw_steps.proofs.run.run_steps.Goals as goal
 
 pub loop-step-init : goal.loop-step-init
-loop-step-init g c = let v = g.V.Volume in record {
+loop-step-init g c = let v = g.V.Volume in let see = sight_of v.tells v.holds v.faults in record {
   made = begun-all c.args.steps.now (sight_of v.tells v.holds v.faults c.args.door.now.door);
-  runs = λ start has. has;
+  runs = same-runs see c.args.door.now.door c.args.door.now.door refl;
   whole = c.requires.whole;
 }
 
@@ -30,13 +31,15 @@ returns-in_err-make-clause-some g c =
     (see c.make.new.door.door) c.loop-step-test.true c.step-item.is c.loop-step.invariant.made c.in_err-make.ensures.tried)
 
 pub returns-in_err-make-clause-runs : goal.returns-in_err-make-clause-runs
-returns-in_err-make-clause-runs g c = λ start has. c.make.ensures.runs start (c.loop-step.invariant.runs start has)
+returns-in_err-make-clause-runs g c =
+    let v = g.V.Volume in let see = sight_of v.tells v.holds v.faults in
+    runs-join (see c.args.door.now.door) (see c.loop-step.door.door) (see c.make.new.door.door) c.loop-step.invariant.runs c.make.ensures.runs
 
 pub loop-step-preserved : goal.loop-step-preserved
 loop-step-preserved g c = let v = g.V.Volume in let see = sight_of v.tells v.holds v.faults in record {
   made = next-made c.args.steps.now c.loop-step.step-index c.step-item.result (see c.args.door.now.door) (see c.loop-step.door.door)
       (see c.make.new.door.door) c.loop-step-test.true c.step-item.is c.loop-step.invariant.made c.in_ok-make.ensures.made;
-  runs = λ start has. c.make.ensures.runs start (c.loop-step.invariant.runs start has);
+  runs = runs-join (see c.args.door.now.door) (see c.loop-step.door.door) (see c.make.new.door.door) c.loop-step.invariant.runs c.make.ensures.runs;
   whole = c.in_ok-make.ensures.whole;
 }
 

@@ -1,6 +1,7 @@
 use Rattle.std.proofs.Common.{◌≡◌, None, take}
 use Rattle.sw_core.specs.Worlds.{sight_of}
-use Rattle.sw_steps.specs.Stepping.{AreMade, RunsOn}
+use Rattle.sw_machine.specs.Doors.{RunsOn}
+use Rattle.sw_steps.specs.Stepping.{AreMade}
 use Rattle.sw_steps.proofs.run.run_steps.Given as goal
 
 abbrev pub invariant-loop-step : goal.invariant-loop-step
