@@ -3,11 +3,11 @@ use Rattle.std.proofs.Common.{◌≡◌, ℕ, zero, suc, ◌*◌, ◌^◌, ◌<�
 use Rattle.std.proofs.Common.{inr}
 use Rattle.std.proofs.Common.{refl, sym, ◌∙◌, ap, subst}
 use Rattle.std.specs.Bool.{⊤}
-use Rattle.std.specs.List.{slice_get}
+use Rattle.std.specs.List.{All, slice_get}
 use Rattle.sw_machine.proofs.Doors.{runs-join}
 use Rattle.sw_machine.specs.Doors.{RunsOn}
 use Rattle.sw_machine.specs.Machine.{Machine, RunLine, Runs, machine_of}
-use Rattle.sw_core.specs.Worlds.{AllNodes, IsWorld, nodes_of, opened, sight_of}
+use Rattle.sw_core.specs.Worlds.{AllNodes, IsWorld, SlotTellsOn, nodes_of, opened, sight_of}
 use Rattle.sw_core.specs.declared.slot.Slot.TheVariants as slots
 use Rattle.sw_objdir.specs.Directories.{Kept}
 use Rattle.sw_object_steps.specs.Journals.{Hash}
@@ -21,7 +21,7 @@ use Rattle.sw_session.specs.Passages.{Passage}
 use Rattle.sw_cluster.proofs.Connecting.{connection-goes}
 use Rattle.sw_nodes.proofs.Keeping.{restart-runs, runs-itself}
 use Rattle.sw_nodes.proofs.Serving.{goes_on}
-use Rattle.sw_cluster.proofs.Storing.{rests-before, stored}
+use Rattle.sw_cluster.proofs.Storing.{AllTellOn, all-tell-on, rests-before, stored, tell-before}
 use Rattle.sw_cluster.specs.Ending.{IsStored}
 use Rattle.sw_cluster.specs.Connections.{IsConnection}
 use Rattle.sw_cluster.specs.Leaving.{AreLeft, IsOut}
@@ -153,7 +153,7 @@ module _ {V : Type 0} (tells : V → Bool) (files : V → Folders) (faults : V �
     module _ (began whole w : AllNodes V) (stores : S) (rests_now : ℕ → ℕ → Option V) (is : IsWorld w)
         (resting : (l : ℕ) (k : Kept V) → slice_get w.slots l ≡ Some (slots.Open k) → at_place rests_now (2 ^ ring.lock_bits) l ≡ Some k.volume)
         (same_out : (device : ℕ) → w.lifted ≡ Some device → (d s : ℕ) → places_at ring device d s ≡ true → rests_now d s ≡ rests stores d s)
-        (lines : List RunLine) (machine : Machine)
+        (told_on : AllTellOn tells files faults ring w) (lines : List RunLine) (machine : Machine)
         (run : Runs (nodes_of (length ring.devices) ring.lock_bits ring.power ring.secrets) (machine_of (sight_of tells files faults began)) lines machine)
         (objects : (sight_of tells files faults whole).objects ≡ machine.objects.half) where
       abbrev AllStored : Type 0
@@ -162,11 +162,12 @@ module _ {V : Type 0} (tells : V → Bool) (files : V → Folders) (faults : V �
       pub left-stored : AreLeft tells files faults store_calls rests out ring whole w stores → AllStored
       left-stored (inl (same, ready)) =
           stored tells files faults ring began whole (subst (λ (x : AllNodes V). IsWorld x) same is) ready.whole ready.nodes lines machine run objects rests_now
-          (λ l k at. resting l k (ap (λ (x : AllNodes V). slice_get x.slots l) same ∙ at))
+          (λ l k at. resting l k (ap (λ (x : AllNodes V). slice_get x.slots l) same ∙ at)) (subst (AllTellOn tells files faults ring) same told_on)
       left-stored (inr gone) =
           stored tells files faults ring began whole gone.fails.up.world gone.fails.up.whole gone.ready.nodes lines machine run objects rests_now
           (rests-before tells files faults ring whole w gone.ready.lock_bits gone.device gone.fails.given gone.fails.up (rests stores) rests_now
           gone.fails.resting resting same_out)
+          (tell-before tells files faults ring whole w gone.ready.lock_bits gone.device gone.fails.given gone.fails.up told_on)
 
   -- what was served, once the volumes were given back
   module _ {S : Type 0} (store_calls : S → ℕ) (rests : S → ℕ → ℕ → Option V) (out : S → ℕ → ℕ → Bool) (volumes : List V)
@@ -174,7 +175,8 @@ module _ {V : Type 0} (tells : V → Bool) (files : V → Folders) (faults : V �
       (left : AreLeft tells files faults store_calls rests out ring whole w stores) (goes : Goes (opened ring volumes) whole)
       (rests_now : ℕ → ℕ → Option V) (is : IsWorld w)
       (resting : (l : ℕ) (k : Kept V) → slice_get w.slots l ≡ Some (slots.Open k) → at_place rests_now (2 ^ ring.lock_bits) l ≡ Some k.volume)
-      (same_out : (device : ℕ) → w.lifted ≡ Some device → (d s : ℕ) → places_at ring device d s ≡ true → rests_now d s ≡ rests stores d s) where
+      (same_out : (device : ℕ) → w.lifted ≡ Some device → (d s : ℕ) → places_at ring device d s ≡ true → rests_now d s ≡ rests stores d s)
+      (told_on : All (SlotTellsOn tells files faults) w.slots) where
     pub has-served : HasServed tells files faults ring (opened ring volumes) whole rests_now
     has-served =
         let went = goes.runs (machine_of (see (opened ring volumes))) (record { objects = refl; containers = refl }) in
@@ -183,6 +185,6 @@ module _ {V : Type 0} (tells : V → Bool) (files : V → Folders) (faults : V �
           machine = went.1.after;
           run = went.1.run;
           stands = went.1.stands;
-          stored = left-stored store_calls rests out (opened ring volumes) whole w stores rests_now is resting same_out went.0 went.1.after went.1.run
+          stored = left-stored store_calls rests out (opened ring volumes) whole w stores rests_now is resting same_out (all-tell-on tells files faults ring w told_on) went.0 went.1.after went.1.run
               went.1.stands.objects left;
         }

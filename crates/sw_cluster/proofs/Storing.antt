@@ -1,11 +1,12 @@
 -- What the files of a world's volumes stand for where they rest.
-use Rattle.std.proofs.Common.{◌≡◌, ℕ, ◌+◌, ◌-◌, ◌*◌, ◌/◌, ◌%◌, ◌^◌, ◌<◌, ◌≤◌, Bool, true, List, length, arith, Option, Some, None}
+use Rattle.std.proofs.Common.{◌≡◌, ℕ, ◌+◌, ◌-◌, ◌*◌, ◌/◌, ◌%◌, ◌^◌, ◌<◌, ◌≤◌, Bool, true, ◌&&◌, List, length, arith, Option, Some, None}
 use Rattle.std.proofs.Common.{refl, sym, ◌∙◌, ap, subst, ◌⊎◌, inl, inr}
-use Rattle.std.specs.List.{slice_get}
+use Rattle.std.specs.List.{All, slice_get}
+use Rattle.std.proofs.lemmas.Option.{slice_get_within}
 use Rattle.std.proofs.lemmas.Bool.{cases_lt}
 use Rattle.std.proofs.lemmas.Nat.{div-mul-add, mod-mul-add, pow_pos, rows}
 use Rattle.sw_hashpath.specs.HashParts.{partition_of}
-use Rattle.sw_hashdir.specs.Places.{holds}
+use Rattle.sw_hashdir.specs.Places.{holds, in_order}
 use Rattle.sw_objdir.proofs.Looking.{held-told}
 use Rattle.sw_objdir.specs.Directories.{Kept, is_told}
 use Rattle.sw_object_steps.specs.Journals.{Hash}
@@ -18,13 +19,14 @@ use Rattle.sw_stores.specs.Places.{at_place}
 use Rattle.sw_stores.specs.Volumes.{AreResting}
 use Rattle.sw_volume.specs.Tree.{Folders}
 use Rattle.sw_core.proofs.Placed.{stripe-below}
+use Rattle.sw_core.proofs.Keeping.{all-at}
 use Rattle.sw_core.proofs.Wholes.{open-at}
 use Rattle.sw_machine.proofs.Runs.{hashes-stand}
 use Rattle.sw_machine.specs.Machine.{KnownWrite, Machine, RunLine, Runs, machine_of, writes_among, writes_at}
 use Rattle.sw_object_steps.specs.Halves.{ObjHalf}
 use Rattle.sw_object_steps.specs.Rules.{ObjHistory}
 use Rattle.sw_object_steps.specs.Values.{ObjValue}
-use Rattle.sw_core.specs.Worlds.{AllNodes, AreLifted, HasLimits, IsWorld, Lifts, first_of, held_of, lock_of, nodes_of, past_of, seen_of, shown, sight_of}
+use Rattle.sw_core.specs.Worlds.{AllNodes, AreLifted, HasLimits, IsWorld, Lifts, SlotTellsOn, TellsOn, first_of, held_of, lock_of, nodes_of, past_of, seen_of, shown, sight_of}
 use Rattle.sw_core.specs.Worlds.{stripe_at}
 use Rattle.sw_core.specs.declared.slot.Slot.{Slot}
 use Rattle.sw_core.specs.declared.slot.Slot.TheVariants as slots
@@ -36,6 +38,9 @@ use Rattle.sw_nodes.specs.Nodes.{places_at}
 pub same-devices : (lifted : Option ℕ) (devices n : ℕ) → lifted ≡ None → shown lifted devices ≡ n → devices ≡ n
 same-devices lifted devices n whole is = sym (ap (λ (o : Option ℕ). shown o devices) whole) ∙ is
 
+some-is : {A : Type 0} {x y : A} → Some x ≡ Some y → x ≡ y
+some-is is = cc
+
 module _ {V : Type 0} (tells : V → Bool) (files : V → Folders) (faults : V → ℕ) (ring : Ring) where
   lock-same : (w : AllNodes V) → w.lock_bits ≡ ring.lock_bits → w.power ≡ ring.power → (device : ℕ) (hash : Hash)
       → lock_of w.lock_bits w.power device hash ≡ lock_of ring.lock_bits ring.power device hash
@@ -46,6 +51,15 @@ module _ {V : Type 0} (tells : V → Bool) (files : V → Folders) (faults : V �
   abbrev see : AllNodes V → Sight
   see w = sight_of tells files faults w
 
+  -- each directory that told its contents, and was in order, does so still
+  abbrev pub AllTellOn : AllNodes V → Type 0
+  AllTellOn w = (l : ℕ) (k : Kept V) → slice_get w.slots l ≡ Some (slots.Open k) → TellsOn tells files faults k
+
+  pub all-tell-on : (w : AllNodes V) → All (SlotTellsOn tells files faults) w.slots → AllTellOn w
+  all-tell-on w all l k at =
+      let found = all-at (SlotTellsOn tells files faults) w.slots l all (slice_get_within w.slots l (slots.Open k) at) in
+      subst (SlotTellsOn tells files faults) (some-is (sym found.1 ∙ at)) found.2
+
   abbrev ring_nodes : SightNodes
   ring_nodes = nodes_of (length ring.devices) ring.lock_bits ring.power ring.secrets
 
@@ -54,7 +68,8 @@ module _ {V : Type 0} (tells : V → Bool) (files : V → Folders) (faults : V �
       (nodes : nodes_of (shown w.lifted w.devices) w.lock_bits w.power w.secrets ≡ nodes_of (length ring.devices) ring.lock_bits ring.power ring.secrets)
       (lines : List RunLine) (machine : Machine) (run : Runs ring_nodes (machine_of (see began)) lines machine)
       (objects : (see w).objects ≡ machine.objects.half) (rests : ℕ → ℕ → Option V)
-      (resting : (l : ℕ) (k : Kept V) → slice_get w.slots l ≡ Some (slots.Open k) → at_place rests (2 ^ ring.lock_bits) l ≡ Some k.volume) where
+      (resting : (l : ℕ) (k : Kept V) → slice_get w.slots l ≡ Some (slots.Open k) → at_place rests (2 ^ ring.lock_bits) l ≡ Some k.volume)
+      (told_on : AllTellOn w) where
     devices-are : w.devices ≡ length ring.devices
     devices-are = same-devices w.lifted w.devices (length ring.devices) whole (ap (λ (n : SightNodes). n.devices) nodes)
 
@@ -119,6 +134,12 @@ module _ {V : Type 0} (tells : V → Bool) (files : V → Folders) (faults : V �
                   subst (λ (s : _). Is (holds s ring.power (files there.0.volume) hash)) secrets
                   (subst (λ (p : ℕ). Is (holds there.0.secrets p (files there.0.volume) hash)) power
                   (sym (held-told tells files faults there.0 hash is_told) ∙ (ap (λ (v : ObjValue). v.state) held ∙ stands.1)));
+              order = λ told.
+                  let is_told : is_told tells files faults there.0 ≡ true =
+                  ap (λ (h : ObjHistory). h.told) seen ∙ (hash-stands device hash told).0 in
+                  subst (λ (s : _). (tells there.0.volume && in_order s ring.power (files there.0.volume)) ≡ true) secrets
+                  (subst (λ (p : ℕ). (tells there.0.volume && in_order there.0.secrets p (files there.0.volume)) ≡ true) power
+                  (told_on (lock_of ring.lock_bits ring.power device hash) there.0 there.1 is_told));
               counts = sym (ap (λ (h : ObjHistory). h.faults) seen);
             }
 
@@ -132,6 +153,18 @@ module _ {V : Type 0} (tells : V → Bool) (files : V → Folders) (faults : V �
 
     lifted-in : AreLifted (first_of ring.lock_bits device) (past_of ring.lock_bits device) whole.slots after.slots given
     lifted-in = subst (λ (b : ℕ). AreLifted (first_of b device) (past_of b device) whole.slots after.slots given) bits up.lifted
+
+    -- the directories of the device tell on as they were taken out, and the others stayed
+    pub tell-before : ((l : ℕ) (k : Kept V) → slice_get after.slots l ≡ Some (slots.Open k) → TellsOn tells files faults k)
+        → (l : ℕ) (k : Kept V) → slice_get whole.slots l ≡ Some (slots.Open k) → TellsOn tells files faults k
+    tell-before told l k at = by (cases_lt l (first_of ring.lock_bits device)) (cases_lt l (past_of ring.lock_bits device))
+      where
+        by : (l < first_of ring.lock_bits device) ⊎ (first_of ring.lock_bits device ≤ l) → (l < past_of ring.lock_bits device)
+            ⊎ (past_of ring.lock_bits device ≤ l) → TellsOn tells files faults k
+        by (inl low) any = told l k (lifted-in.outside l (inl low) ∙ at)
+        by (inr from) (inr behind) = told l k (lifted-in.outside l (inr behind) ∙ at)
+        by (inr from) (inl below) =
+            up.told l k (subst (λ (b : ℕ). first_of b device ≤ l) (sym bits) from) (subst (λ (b : ℕ). l < past_of b device) (sym bits) below) at
 
     -- where the volumes came to rest that were there before: those of the device are as they rested then
     pub rests-before : (then now : ℕ → ℕ → Option V) → AreResting then (2 ^ ring.lock_bits) (first_of ring.lock_bits device) given

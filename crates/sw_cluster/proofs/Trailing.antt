@@ -2,7 +2,7 @@
 use Rattle.std.proofs.Common.{◌≡◌, ℕ, ◌*◌, ◌^◌, ◌<◌, ◌≤◌, ◌==◌, Bool, true, false, ◌&&◌, not, List, [], ◌++◌, length, Option, Some, None}
 use Rattle.std.proofs.Common.{refl, sym, ◌∙◌, ap, subst, Result, Ok, Err, inl, inr, if◌then◌else◌, MutBor}
 use Rattle.std.specs.Bool.{⊤}
-use Rattle.std.specs.List.{slice_get}
+use Rattle.std.specs.List.{All, slice_get}
 use Rattle.sw_objdir.specs.Directories.{Kept}
 use Rattle.sw_message.specs.declared.request.Request.{Request}
 use Rattle.sw_message.specs.declared.response.Response.{Response}
@@ -33,7 +33,7 @@ use Rattle.sw_core.proofs.Containing.{empty-holds}
 use Rattle.sw_machine.proofs.Doors.{runs-join}
 use Rattle.sw_machine.specs.Doors.{GoesOn, RunsOn}
 use Rattle.sw_machine.specs.Machine.{RunLine, Runs, came_in, machine_of}
-use Rattle.sw_core.specs.Worlds.{AllNodes, IsWorld, Lifts, first_of, nodes_of}
+use Rattle.sw_core.specs.Worlds.{AllNodes, IsWorld, Lifts, SlotTellsOn, first_of, nodes_of}
 use Rattle.sw_core.specs.Worlds.{opened, place_lock, shown, sight_of, without_lines}
 use Rattle.sw_core.specs.declared.slot.Slot.TheVariants as slots
 use Rattle.sw_cluster.specs.Ending.{IsRunOver, IsTrail, status_by}
@@ -42,7 +42,7 @@ use Rattle.sw_nodes.specs.Nodes.{IsReady, NodesAnswer, NodesHalt, faults_by, out
 use Rattle.sw_nodes.specs.Server.{MayAnswer, MayHalt}
 use Rattle.sw_cluster.specs.Statuses as statuses
 use Rattle.sw_nodes.specs.declared.server.Nodes.{Nodes}
-use Rattle.sw_cluster.proofs.Storing.{rests-before, same-devices, stored}
+use Rattle.sw_cluster.proofs.Storing.{AllTellOn, all-tell-on, rests-before, same-devices, stored, tell-before}
 
 some-is : {A : Type 0} {x y : A} → Some x ≡ Some y → x ≡ y
 some-is is = cc
@@ -75,7 +75,8 @@ module _ {V : Type 0} (tells : V → Bool) (files : V → Folders) (faults : V �
       (lines : List RunLine) (run : GoesOn (see began) (machine_of (see began)) lines (see w)) (rests : ℕ → ℕ → Option V)
       (none : (device : ℕ) (place : Place) → (see began).containers.holds device place ≡ None) (new : began.lines ≡ []) (kept : after.lines ≡ w.lines)
       (same : (device : ℕ) (place : Place) → (see after).containers.holds device place ≡ (see w).containers.holds device place)
-      (resting : (l : ℕ) (k : Kept V) → slice_get w.slots l ≡ Some (slots.Open k) → at_place rests (2 ^ ring.lock_bits) l ≡ Some k.volume) where
+      (resting : (l : ℕ) (k : Kept V) → slice_get w.slots l ≡ Some (slots.Open k) → at_place rests (2 ^ ring.lock_bits) l ≡ Some k.volume)
+      (told_on : AllTellOn tells files faults ring w) where
     -- the lines of the run are those of the world
     lines-are : came_in lines ≡ w.lines
     lines-are = ap (λ (ls : List Line). ls ++ came_in lines) (sym new) ∙ sym (some-is run.kept)
@@ -89,7 +90,7 @@ module _ {V : Type 0} (tells : V → Bool) (files : V → Folders) (faults : V �
       came = lines-are ∙ sym kept;
       machine = run.after;
       run = ran;
-      stored = stored tells files faults ring began w is whole nodes lines run.after ran run.stands.objects rests resting;
+      stored = stored tells files faults ring began w is whole nodes lines run.after ran run.stands.objects rests resting told_on;
       none = none;
       holds = λ device place. same device place ∙ ap (λ (c : ContHalf). c.holds device place) run.stands.containers;
     }
@@ -162,7 +163,7 @@ module _ {V : Type 0} (tells : V → Bool) (files : V → Folders) (faults : V �
       pub tells_trail : (now : ℕ → ℕ → Option V) → IsWorld (without_lines w)
           → ((l : ℕ) (k : Kept V) → slice_get w.slots l ≡ Some (slots.Open k) → at_place now (2 ^ ring.lock_bits) l ≡ Some k.volume)
           → ((device : ℕ) → w.lifted ≡ Some device → (d s : ℕ) → places_at ring device d s ≡ true → now d s ≡ rests stores_now.now d s)
-          → IsTrail tells files faults ring began w now w.lines
+          → AllTellOn tells files faults ring w → IsTrail tells files faults ring began w now w.lines
 
     pub way-begun : (volumes : List V) → length volumes ≡ length ring.devices * 2 ^ ring.lock_bits → began ≡ opened ring volumes
         → ((d s : ℕ) → out stores.now d s ≡ places_of ring d s) → IsUnderWay ring began stores
@@ -248,9 +249,9 @@ module _ {V : Type 0} (tells : V → Bool) (files : V → Folders) (faults : V �
       faults_are = way.faults_are;
       calls_are = whole-called ring w.lifted w.lines (store_calls stores.now) (store_calls stores_now.now) way.calls_are;
       same_stores = way.same_stores;
-      tells_trail = λ now is resting same.
+      tells_trail = λ now is resting same told_on.
           let run = run-of w way.runs in
-          trail-of began w w (relined w is) way.ready.whole way.ready.nodes run.0 run.1 now way.none way.new refl (λ device place. refl) resting;
+          trail-of began w w (relined w is) way.ready.whole way.ready.nodes run.0 run.1 now way.none way.new refl (λ device place. refl) resting told_on;
     }
 
     module _ (fault : ServerFault) (after : AllNodes V) (stores_now : MutBor S) (h : IsHalted fault after stores_now) where
@@ -283,10 +284,11 @@ module _ {V : Type 0} (tells : V → Bool) (files : V → Folders) (faults : V �
         calls_are = out-called ring after.lifted h.device after.lines h.w.lines (store_calls stores.now) (store_calls h.stores_then.now)
             (store_calls stores_now.now) h.tried out-is (ap (λ (x : AllNodes V). x.lines) h.up.rest) h.most h.way.calls_are h.calls_are;
         same_stores = h.same_stores;
-        tells_trail = λ now is resting same.
+        tells_trail = λ now is resting same told_on.
             let run = run-of h.w h.way.runs in
             trail-of began h.w after h.up.world h.up.whole h.way.ready.nodes run.0 run.1 now h.way.none h.way.new (ap (λ (x : AllNodes V). x.lines) h.up.rest)
-            (λ device place. ap (λ (x : AllNodes V). (see x).containers.holds device place) h.up.rest) (rests-old now resting same);
+            (λ device place. ap (λ (x : AllNodes V). (see x).containers.holds device place) h.up.rest) (rests-old now resting same)
+            (tell-before tells files faults ring h.w after old-bits h.device h.given h.up told_on);
       }
 
     -- the count of faults of the stores at the end
@@ -367,11 +369,11 @@ module _ {V : Type 0} (tells : V → Bool) (files : V → Folders) (faults : V �
         TicksEach clock clock_now moments
         → IsWorld world → ((l : ℕ) (k : Kept V) → slice_get world.slots l ≡ Some (slots.Open k) → at_place rests_now (2 ^ ring.lock_bits) l ≡ Some k.volume)
         → ((device : ℕ) → world.lifted ≡ Some device → (d s : ℕ) → places_at ring device d s ≡ true → rests_now d s ≡ rests after.stores.now d s)
-        → stores_now.faults ≡ store_faults after.stores.now → stores_now.calls ≡ store_calls after.stores.now
+        → All (SlotTellsOn tells files faults) world.slots → stores_now.faults ≡ store_faults after.stores.now → stores_now.calls ≡ store_calls after.stores.now
         → (calls calls_now : ℕ) → PutsForSession source.before moments calls calls_now result
         → IsRunOver tells files faults ring start.network.door rests_now (counts store_calls store_faults start.stores.now) stores_now source
         (output_of sink calls calls_now) clock clock_now (record { steps = steps; moments = read }) status
-    nodes-run world rests_now stores_now clock clock_now steps read status status_is steps_are taken read_is ticks is resting same_out faults_are
+    nodes-run world rests_now stores_now clock clock_now steps read status status_is steps_are taken read_is ticks is resting same_out told_on faults_are
         calls_are calls calls_now puts = record {
           after = after.network.door;
           ends = record {
@@ -388,7 +390,9 @@ module _ {V : Type 0} (tells : V → Bool) (files : V → Folders) (faults : V �
           told = subst (λ (ls : List Line). IsTrail tells files faults ring start.network.door after.network.door rests_now ls) (sym steps_are)
               (nodes-ended.tells_trail rests_now (subst (λ (w : AllNodes V). IsWorld w) taken is)
               (λ l k at. resting l k (ap (λ (w : AllNodes V). slice_get w.slots l) taken ∙ at))
-              (λ device lifted. same_out device (ap (λ (w : AllNodes V). w.lifted) taken ∙ lifted)));
+              (λ device lifted. same_out device (ap (λ (w : AllNodes V). w.lifted) taken ∙ lifted))
+              (all-tell-on tells files faults ring after.network.door
+              (subst (All (SlotTellsOn tells files faults)) (ap (λ (w : AllNodes V). w.slots) taken) told_on)));
           meets = exchange_meets tells files faults;
           moments = subst (TicksEach clock clock_now) (sym read_is) ticks;
           store_faults_are = faults_are ∙ (nodes-ended.faults_are ∙ ap (faults_at store_faults store_calls rests out start.network.door start.stores)

@@ -13,7 +13,7 @@ use Rattle.sw_ring.specs.declared.ring.Ring.{Ring}
 use Rattle.sw_machine.specs.Machine.{Machine, RunLine, Runs, came_in, machine_of, writes_at}
 use Rattle.sw_state.specs.States.{state_of, writes_of}
 use Rattle.sw_core.specs.Worlds.{AllNodes, lock_of, nodes_of, opened, sight_of, stripe_at}
-use Rattle.sw_hashdir.specs.Places.{holds}
+use Rattle.sw_hashdir.specs.Places.{holds, in_order}
 use Rattle.sw_hashpath.specs.HashParts.{partition_of}
 use Rattle.sw_outside.specs.Counts.{raised}
 use Rattle.sw_outside.specs.declared.store_error.StoreError.{StoreError}
@@ -49,13 +49,16 @@ pub record Ends {S : Type 0} (last : Request → Bool) (may : Serves S) (halts :
 
 module _ {V : Type 0} (tells : V → Bool) (files : V → Folders) (faults : V → ℕ) where
   -- At the place of each lock rests a volume, whose count of faults is the lock's in the machine. Where the lock told its contents as the run began, its
-  -- files stand for what they stood for then, joined with the writes that reached there since, whatever failed there or elsewhere
+  -- files stand for what they stood for then, joined with the writes that reached there since, whatever failed there or elsewhere; and they are in order,
+  -- so that a next run begins with a lock that tells its contents
   pub record IsStored (ring : Ring) (began : AllNodes V) (machine : Machine) (rests : ℕ → ℕ → Option V) (device : ℕ) (hash : Hash) : Type 0 where
     pub volume : V
     pub resting : rests device (stripe_at ring.lock_bits ring.power (partition_of hash ring.power)) ≡ Some volume
     pub stands : ((sight_of tells files faults began).objects.seen (lock_of ring.lock_bits ring.power device hash)).told ≡ true
         → holds ring.secrets ring.power (files volume) hash
         ≡ state_of (writes_of ((sight_of tells files faults began).objects.holds device hash).state ++ writes_at machine device hash)
+    pub order : ((sight_of tells files faults began).objects.seen (lock_of ring.lock_bits ring.power device hash)).told ≡ true
+        → (tells volume && in_order ring.secrets ring.power (files volume)) ≡ true
     pub counts : (machine.objects.half.seen (lock_of ring.lock_bits ring.power device hash)).faults ≡ faults volume
 
   -- The trail tells what happened: its steps are those that came in a run of the machine from what the nodes began with, so each is answered by

@@ -1,7 +1,7 @@
-ghost use Rattle.std.specs.Prelude.{◌≡◌, ℕ, ◌*◌, ◌^◌, ◌<◌, ◌≤◌, false, true, List, length, Some, IfOk, IfErr, OnOk, OnErr};
+ghost use Rattle.std.specs.Prelude.{◌≡◌, ℕ, ◌*◌, ◌^◌, ◌<◌, ◌≤◌, false, true, List, length, All, Some, IfOk, IfErr, OnOk, OnErr};
 ghost use Rattle.std.specs.List.{slice_get};
 ghost use Rattle.sw_core.specs.Stopping.{gap_first, gap_past};
-ghost use Rattle.sw_core.specs.Worlds.{IsWorld, opened};
+ghost use Rattle.sw_core.specs.Worlds.{IsWorld, SlotTellsOn, opened};
 ghost use Rattle.sw_core.specs.declared.slot.Slot.TheVariants as slots;
 ghost use Rattle.sw_objdir.specs.Directories.{Kept};
 ghost use Rattle.sw_stores.specs.Places.{at_place};
@@ -74,6 +74,7 @@ pub fn give_back<S: Stores>(ring: &Ring, world: World<S::V>, stores: &mut S)
         → at_place (S.rests stores.new) (2 ^ ring.now.lock_bits) l ≡ Some k.volume }
     ensures others { (device : ℕ) → world.lifted ≡ Some device → (d s : ℕ) → places_at ring.now device d s ≡ true
         → S.rests stores.new d s ≡ S.rests stores.old d s }
+    ensures told { All (SlotTellsOn S.V.tells S.V.holds S.V.faults) world.slots }
     ensures faults { S.faults stores.new ≡ S.faults stores.old }
     ensures calls { S.calls stores.new ≡ S.calls stores.old }
 {

@@ -1,6 +1,6 @@
 -- What a world is, and what its user knows of its nodes. (This project's own.)
 use Rattle.std.specs.Prelude.{◌≡◌, refl, ℕ, ◌+◌, ◌-◌, ◌*◌, ◌/◌, ◌%◌, ◌^◌, ◌<◌, ◌≤◌, ◌⊎◌, Bool, true, false, ◌&&◌, nat_le, nat_lt, List, [], ◌∷◌, ◌++◌, length}
-use Rattle.std.specs.Prelude.{map, Option}
+use Rattle.std.specs.Prelude.{map, Option, ⊤}
 use Rattle.std.specs.Prelude.{Some, None, is_none, IsSome}
 use Rattle.std.specs.List.{All, flat_map, slice_get}
 use Rattle.std.specs.Str.{bytes_eq}
@@ -254,6 +254,12 @@ pub record AreLifted {V : Type 0} (first past : ℕ) (old new : List (Slot V)) (
 -- a directory that told its contents, and was in order, does so still
 abbrev pub TellsOn : {V : Type 0} → (V → Bool) → (V → Folders) → (V → ℕ) → Kept V → Type 0
 TellsOn tells files faults k = is_told tells files faults k ≡ true → (tells k.volume && in_order k.secrets k.power (files k.volume)) ≡ true
+
+-- the directory of a lock does, where it is open
+abbrev pub SlotTellsOn : {V : Type 0} → (V → Bool) → (V → Folders) → (V → ℕ) → Slot V → Type 0
+SlotTellsOn tells files faults (slots.Open k) = TellsOn tells files faults k
+SlotTellsOn tells files faults (slots.Lifted secrets) = ⊤
+SlotTellsOn tells files faults slots.Empty = ⊤
 
 -- a volume was put in at one lock, where one was out
 abbrev pub IsSetDown : {V : Type 0} → ℕ → V → Slot V → Slot V → Type 0

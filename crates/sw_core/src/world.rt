@@ -1,7 +1,7 @@
-ghost use Rattle.std.specs.Prelude.{◌≡◌, ◌*◌, ◌<◌, ◌≤◌, ◌^◌, ◌⊎◌, false, [], length, Err, IfOk, IfErr, OnErr, None, Some};
+ghost use Rattle.std.specs.Prelude.{◌≡◌, ◌*◌, ◌<◌, ◌≤◌, ◌^◌, ◌⊎◌, false, [], length, All, Err, IfOk, IfErr, OnErr, None, Some};
 ghost use Rattle.sw_core.specs.Listing.{AreCalm, ListsFiles, is_failed};
 ghost use Rattle.sw_core.specs.Stopping.{Gives};
-ghost use Rattle.sw_core.specs.Worlds.{IsWorld, IsSameWorld, Lifts, SetsDown, lock_of, opened, part_lock_of, sight_of, volumes_of, without_lines};
+ghost use Rattle.sw_core.specs.Worlds.{IsWorld, IsSameWorld, Lifts, SetsDown, SlotTellsOn, lock_of, opened, part_lock_of, sight_of, volumes_of, without_lines};
 ghost use Rattle.sw_peer.specs.Sights.{IsListed};
 ghost use Rattle.sw_volume.specs.declared.errors.VolumeError.TheVariants.{NoMemory as Wanting};
 
@@ -128,6 +128,7 @@ impl<V: Volume + Drop> World<V> {
         ensures all { result.volumes.items ≡ volumes_of self }
         ensures gives { Gives self.lifted self result.volumes.items }
         ensures world { IsWorld self }
+        ensures told { All (SlotTellsOn V.tells V.holds V.faults) self.slots }
     {
         Parts {
             volumes: volumes_in(self.slots, self.room),

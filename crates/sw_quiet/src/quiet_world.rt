@@ -1,6 +1,6 @@
-ghost use Rattle.std.specs.Prelude.{◌≡◌, ◌*◌, ◌<◌, ◌≤◌, ◌^◌, [], length, IfOk, IfErr, OnErr, None, Some};
+ghost use Rattle.std.specs.Prelude.{◌≡◌, ◌*◌, ◌<◌, ◌≤◌, ◌^◌, [], length, All, IfOk, IfErr, OnErr, None, Some};
 ghost use Rattle.sw_core.specs.Stopping.{Gives};
-ghost use Rattle.sw_core.specs.Worlds.{IsWorld, Lifts, opened, volumes_of, without_lines};
+ghost use Rattle.sw_core.specs.Worlds.{IsWorld, Lifts, SlotTellsOn, opened, volumes_of, without_lines};
 ghost use Rattle.sw_quiet.specs.Quiet.{SetsDownQuietly};
 
 mod door;
@@ -48,6 +48,7 @@ impl<V: Volume + Drop> QuietWorld<V> {
         ensures all { result.volumes.items ≡ volumes_of self }
         ensures gives { Gives self.lifted self result.volumes.items }
         ensures world { IsWorld self }
+        ensures told { All (SlotTellsOn V.tells V.holds V.faults) self.slots }
     {
         let QuietWorld { world } = self;
         world.stop()

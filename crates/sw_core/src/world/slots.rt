@@ -3,7 +3,7 @@
 ghost use Rattle.std.specs.Prelude.{◌≡◌, ℕ, ◌+◌, ◌<◌, ◌≤◌, ◌⊎◌, [], length, All, IfOk, option_to_list};
 ghost use Rattle.std.specs.List.{flat_map, slice_get};
 ghost use Rattle.sw_core.specs.Listing.{is_failed};
-ghost use Rattle.sw_core.specs.Worlds.{AreLifted, AreSetDown, IsSetDown, TellsOn, restart_line, volume_in};
+ghost use Rattle.sw_core.specs.Worlds.{AreLifted, AreSetDown, IsSetDown, SlotTellsOn, TellsOn, restart_line, volume_in};
 ghost use Rattle.sw_core.specs.declared.slot.Slot.TheVariants as slots;
 ghost use Rattle.sw_objdir.specs.Directories.{Kept};
 ghost use Rattle.sw_peer.specs.declared.line.Event.TheVariants.{Listed};
@@ -114,7 +114,8 @@ fn lift_slot<V: Volume + Drop>(place: &mut Slot<V>) -> V
 pub(crate) fn volumes_in<V: Volume + Drop>(places: Vec<Slot<V>>, room: Vec<V>) -> Vec<V>
     requires none { room.items ≡ [] }
     requires room { length places.items ≤ room.cap }
-    ensures { result.items ≡ flat_map volume_in places.items }
+    ensures volumes { result.items ≡ flat_map volume_in places.items }
+    ensures told { All (SlotTellsOn V.tells V.holds V.faults) places.items }
 {
     let mut volumes = room;
     for place in places {
@@ -127,7 +128,8 @@ pub(crate) fn volumes_in<V: Volume + Drop>(places: Vec<Slot<V>>, room: Vec<V>) -
 
 /// The volume of a place, where it is there.
 fn volume_at<V: Volume + Drop>(place: Slot<V>) -> Option<V>
-    ensures { option_to_list result ≡ volume_in place }
+    ensures volume { option_to_list result ≡ volume_in place }
+    ensures told { SlotTellsOn V.tells V.holds V.faults place }
 {
     match place {
         Slot::Open(dir) => Some(dir.into_volume()),

@@ -59,5 +59,5 @@ returns-clause-over g c =
           (sym c.into_world.ensures) ended.2)
           (subst (λ (w : AllNodes _). Goes v.tells v.holds v.faults c.args.ring.now w ended.0) begun.2
           (ends-go v.tells v.holds v.faults c.args.ring.now c.args.port c.args.connections c.args.world ended.0 _ _ _ _ _ _ _ _ ended.1))
-          (s.rests c.give_back.new.stores) c.give_back.ensures.world c.give_back.ensures.rests c.give_back.ensures.others);
+          (s.rests c.give_back.new.stores) c.give_back.ensures.world c.give_back.ensures.rests c.give_back.ensures.others c.give_back.ensures.told);
     }

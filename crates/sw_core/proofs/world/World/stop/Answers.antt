@@ -17,4 +17,4 @@ returns-clause-gives g c =
       lifted = i.lifted;
       containers = i.containers;
     } in
-    rw (sym c.self.view_is) (gives w c.self.invariant.0 c.volumes_in.result.items c.volumes_in.ensures)
+    rw (sym c.self.view_is) (gives w c.self.invariant.0 c.volumes_in.result.items c.volumes_in.ensures.volumes)
