@@ -30,6 +30,7 @@ use Rattle.sw_cluster.specs.Rounds.{EndsServing, HasServed, EndsConnections, Res
 use Rattle.sw_cluster.specs.Told.{Counts, DoorsTold, Output}
 use Rattle.sw_cluster.specs.Rounds.{StopsRestarting, StopsWaiting, read_in, written_in}
 use Rattle.sw_cluster.specs.declared.rounds.ServeFault.{ServeFault}
+use Rattle.sw_cluster.specs.Limits.{serve_bytes}
 use Rattle.sw_cluster.specs.declared.rounds.ServeFault.TheVariants as serve_faults
 
 module _ {V : Type 0} (tells : V → Bool) (files : V → Folders) (faults : V → ℕ) (ring : Ring) where
@@ -172,19 +173,19 @@ module _ {V : Type 0} (tells : V → Bool) (files : V → Folders) (faults : V �
   -- what was served, once the volumes were given back
   module _ {S : Type 0} (store_calls : S → ℕ) (rests : S → ℕ → ℕ → Option V) (out : S → ℕ → ℕ → Bool) (volumes : List V)
       (whole w : AllNodes V) (stores : S)
-      (left : AreLeft tells files faults store_calls rests out ring whole w stores) (goes : Goes (opened ring volumes) whole)
+      (left : AreLeft tells files faults store_calls rests out ring whole w stores) (goes : Goes (opened serve_bytes ring volumes) whole)
       (rests_now : ℕ → ℕ → Option V) (is : IsWorld w)
       (resting : (l : ℕ) (k : Kept V) → slice_get w.slots l ≡ Some (slots.Open k) → at_place rests_now (2 ^ ring.lock_bits) l ≡ Some k.volume)
       (same_out : (device : ℕ) → w.lifted ≡ Some device → (d s : ℕ) → places_at ring device d s ≡ true → rests_now d s ≡ rests stores d s)
       (told_on : All (SlotTellsOn tells files faults) w.slots) where
-    pub has-served : HasServed tells files faults ring (opened ring volumes) whole rests_now
+    pub has-served : HasServed tells files faults ring (opened serve_bytes ring volumes) whole rests_now
     has-served =
-        let went = goes.runs (machine_of (see (opened ring volumes))) (record { objects = refl; containers = refl }) in
+        let went = goes.runs (machine_of (see (opened serve_bytes ring volumes))) (record { objects = refl; containers = refl }) in
         record {
           lines = went.0;
           machine = went.1.after;
           run = went.1.run;
           stands = went.1.stands;
-          stored = left-stored store_calls rests out (opened ring volumes) whole w stores rests_now is resting same_out (all-tell-on tells files faults ring w told_on) went.0 went.1.after went.1.run
+          stored = left-stored store_calls rests out (opened serve_bytes ring volumes) whole w stores rests_now is resting same_out (all-tell-on tells files faults ring w told_on) went.0 went.1.after went.1.run
               went.1.stands.objects left;
         }

@@ -110,7 +110,7 @@ module _ {V : Type 0} (tells : V → Bool) (files : V → Folders) (faults : V �
 
         by : (k : Kept V) × (slice_get w.slots (lock_of ring.lock_bits ring.power device hash) ≡ Some (slots.Open k)) × (k.secrets ≡ w.secrets) ×
             (k.power ≡ w.power)
-            × HasLimits k
+            × HasLimits w.max_bytes k
             → IsStored tells files faults ring began machine rests device hash
         by there =
             let seen : seen_of tells files faults (Some (slots.Open there.0)) ≡ machine.objects.half.seen (lock_of ring.lock_bits ring.power device hash) =

@@ -42,6 +42,7 @@ use Rattle.sw_nodes.specs.Nodes.{IsReady, NodesAnswer, NodesHalt, faults_by, out
 use Rattle.sw_nodes.specs.Server.{MayAnswer, MayHalt}
 use Rattle.sw_cluster.specs.Statuses as statuses
 use Rattle.sw_nodes.specs.declared.server.Nodes.{Nodes}
+use Rattle.sw_cluster.specs.Limits.{run_bytes}
 use Rattle.sw_cluster.proofs.Storing.{AllTellOn, all-tell-on, rests-before, same-devices, stored, tell-before}
 
 some-is : {A : Type 0} {x y : A} → Some x ≡ Some y → x ≡ y
@@ -165,7 +166,7 @@ module _ {V : Type 0} (tells : V → Bool) (files : V → Folders) (faults : V �
           → ((device : ℕ) → w.lifted ≡ Some device → (d s : ℕ) → places_at ring device d s ≡ true → now d s ≡ rests stores_now.now d s)
           → AllTellOn tells files faults ring w → IsTrail tells files faults ring began w now w.lines
 
-    pub way-begun : (volumes : List V) → length volumes ≡ length ring.devices * 2 ^ ring.lock_bits → began ≡ opened ring volumes
+    pub way-begun : (volumes : List V) → length volumes ≡ length ring.devices * 2 ^ ring.lock_bits → began ≡ opened run_bytes ring volumes
         → ((d s : ℕ) → out stores.now d s ≡ places_of ring d s) → IsUnderWay ring began stores
     way-begun volumes count is are_out = record {
       ring_is = refl;
@@ -351,7 +352,7 @@ module _ {V : Type 0} (tells : V → Bool) (files : V → Folders) (faults : V �
       (start : Nodes S V) (source sink : Passage) (moments : List ℕ) (after : Nodes S V) (result : Result ⊤ SessionFault)
       (session : SessionOver store_faults store_calls rests out ring_in world_in stores_in start source sink moments after result)
       (same : start.ring.now ≡ ring)
-      (begun : (volumes : List V) × (length volumes ≡ length ring.devices * 2 ^ ring.lock_bits) × (start.network.door ≡ opened ring volumes))
+      (begun : (volumes : List V) × (length volumes ≡ length ring.devices * 2 ^ ring.lock_bits) × (start.network.door ≡ opened run_bytes ring volumes))
       (are_out : (d s : ℕ) → out start.stores.now d s ≡ places_of ring d s) where
     way : IsUnderWay store_faults store_calls rests out start.network.door start.stores start.ring.now start.network.door start.stores
     way = subst (λ (r : Ring). IsUnderWay store_faults store_calls rests out start.network.door start.stores r start.network.door start.stores) (sym same)

@@ -27,6 +27,7 @@ use Rattle.sw_nodes.specs.Exchanging.{ExchangeMeets}
 use Rattle.sw_nodes.specs.Restarts.{AreCalled}
 use Rattle.sw_nodes.specs.Server.{MayAnswer, MayHalt}
 use Rattle.sw_core.specs.declared.trail.Trail.{Trail}
+use Rattle.sw_cluster.specs.Limits.{run_bytes}
 use Rattle.sw_cluster.specs.Statuses as statuses
 use Rattle.sw_cluster.specs.Told.{Counts, IsSilent, Output, passage_of}
 
@@ -95,7 +96,7 @@ module _ {V : Type 0} (tells : V → Bool) (files : V → Folders) (faults : V �
     pub volumes : List V
     pub started : AreStarted first rests (2 ^ ring.lock_bits) 0 volumes
     pub count : length volumes ≡ length ring.devices * 2 ^ ring.lock_bits
-    pub over : IsRunOver ring (opened ring volumes) rests_now
+    pub over : IsRunOver ring (opened run_bytes ring volumes) rests_now
         (record stores { calls = raised_by (length ring.devices * 2 ^ ring.lock_bits) stores.calls }) stores_now source sink clock clock_now trail status
 
 -- the status of a command whose volumes couldn't be started

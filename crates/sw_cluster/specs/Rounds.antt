@@ -20,6 +20,7 @@ use Rattle.sw_volume.specs.Tree.{Folders}
 use Rattle.sw_volume.specs.Volume.{raised_by}
 use Rattle.sw_cluster.specs.Connections.{IsConnection, PutsForConnection}
 use Rattle.sw_cluster.specs.Ending.{AreUnstarted, IsStored}
+use Rattle.sw_cluster.specs.Limits.{serve_bytes}
 use Rattle.sw_cluster.specs.Statuses as statuses
 use Rattle.sw_cluster.specs.Told.{Counts, DoorsTold, IsSilent, Output}
 use Rattle.sw_cluster.specs.declared.rounds.ServeFault.{ServeFault}
@@ -238,7 +239,7 @@ module _ {V : Type 0} (tells : V → Bool) (files : V → Folders) (faults : V �
     pub volumes : List V
     pub started : AreStarted first rests (2 ^ ring.lock_bits) 0 volumes
     pub count : length volumes ≡ length ring.devices * 2 ^ ring.lock_bits
-    pub over : IsServedOver port connections (opened ring volumes) rests_now doors doors_now out clock clock_now
+    pub over : IsServedOver port connections (opened serve_bytes ring volumes) rests_now doors doors_now out clock clock_now
         (record stores { calls = raised_by (length ring.devices * 2 ^ ring.lock_bits) stores.calls }) stores_now status
 
 -- it couldn't be listened, and then no volume was touched

@@ -10,6 +10,7 @@
 
 mod command;
 mod connection;
+mod limits;
 mod locate;
 mod opening;
 mod rounds;

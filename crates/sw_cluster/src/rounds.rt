@@ -9,9 +9,11 @@ ghost use Rattle.sw_nodes.specs.Nodes.{IsReady, places_of};
 ghost use Rattle.sw_cluster.specs.Rounds.{AllServed, AreHeard, EndsServing, EndsConnections, IsServed, IsServedOver, RestartsDevice, RestartsFirst};
 ghost use Rattle.sw_cluster.specs.Rounds.{ServesAt, ServesListened};
 ghost use Rattle.sw_cluster.specs.Rounds.{Round, SaysLine, read_in, serve_status, written_in};
+ghost use Rattle.sw_cluster.specs.Limits.{serve_bytes};
 ghost use Rattle.sw_cluster.specs.Told.{counts, doors_told, output};
 
 use crate::connection::serve_connection;
+use crate::limits::SERVE_BYTES;
 use crate::status::{COMPLETE, DOOR_FAULT, NO_MEMORY, STORE_FAULT, WRITE_FAULT};
 use crate::volumes::{give_back, open_nodes, status_of_start};
 use itoa::Buffer;
@@ -85,7 +87,7 @@ fn serve_listened<W: Sink, S: Stores, N: Doors, C: Clock>(
         (output W.taken W.faults W.calls out.old out.new) (C.readings clock.old) (C.readings clock.new)
         (counts S.calls S.faults stores.old) (counts S.calls S.faults stores.new) result }
 {
-    match open_nodes(alloc, ring, stores) {
+    match open_nodes(alloc, ring, SERVE_BYTES, stores) {
         Ok(world) => serve_over(
             alloc,
             ring,
@@ -113,7 +115,7 @@ fn serve_over<W: Sink, S: Stores, N: Doors, C: Clock>(
     doors: &mut N,
     clock: &mut C,
 ) -> u8
-    requires begun { (volumes : List S.V) × (length volumes ≡ length ring.now.devices * 2 ^ ring.now.lock_bits) × (world ≡ opened ring.now volumes) }
+    requires begun { (volumes : List S.V) × (length volumes ≡ length ring.now.devices * 2 ^ ring.now.lock_bits) × (world ≡ opened serve_bytes ring.now volumes) }
     requires out { (d s : ℕ) → S.out stores.old d s ≡ places_of ring.now d s }
     requires doors { length (N.finished doors.old) ≤ length (N.accepts doors.old) }
     ensures home { (d s : ℕ) → S.out stores.new d s ≡ false }

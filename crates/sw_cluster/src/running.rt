@@ -3,8 +3,10 @@ ghost use Rattle.sw_core.specs.Worlds.{opened};
 ghost use Rattle.sw_session.specs.Passages.{passage};
 ghost use Rattle.sw_cluster.specs.Ending.{IsRun, IsRunOver, IsUnbegun};
 ghost use Rattle.sw_nodes.specs.Nodes.{places_of};
+ghost use Rattle.sw_cluster.specs.Limits.{run_bytes};
 ghost use Rattle.sw_cluster.specs.Told.{counts, output};
 
+use crate::limits::RUN_BYTES;
 use crate::status::status_of;
 use crate::volumes::{give_back, open_nodes, status_of_start};
 use std::alloc::Global;
@@ -43,7 +45,7 @@ pub fn run_session<R: Source, W: Sink, S: Stores, C: Clock>(
         (output W.taken W.faults W.calls out.old out.new)
         (C.readings clock.old) (C.readings clock.new) trail.new result }
 {
-    match open_nodes(alloc, ring, stores) {
+    match open_nodes(alloc, ring, RUN_BYTES, stores) {
         Ok(world) => session(alloc, ring, world, source, out, stores, clock, trail),
         Err(error) => status_of_start(error),
     }
@@ -62,7 +64,7 @@ fn session<R: Source, W: Sink, S: Stores, C: Clock>(
 ) -> u8
     requires no_steps { trail.old.steps ≡ [] }
     requires no_moments { trail.old.moments ≡ [] }
-    requires begun { (volumes : List S.V) × (length volumes ≡ length ring.now.devices * 2 ^ ring.now.lock_bits) × (world ≡ opened ring.now volumes) }
+    requires begun { (volumes : List S.V) × (length volumes ≡ length ring.now.devices * 2 ^ ring.now.lock_bits) × (world ≡ opened run_bytes ring.now volumes) }
     requires out { (d s : ℕ) → S.out stores.old d s ≡ places_of ring.now d s }
     ensures home { (d s : ℕ) → S.out stores.new d s ≡ false }
     ensures run { IsRunOver S.V.tells S.V.holds S.V.faults ring.now world (S.rests stores.new)

@@ -21,15 +21,16 @@ use sw_stores::Stores;
 use sw_stores::volumes::{give_around, give_range, start_range};
 
 /// Opens the nodes of a ring over the volumes of all its locks, which the stores start, each by one call. Where that can't be done, those that were
-/// started rest in the stores again.
+/// started rest in the stores again. The bodies in the journal of an object lock have at most `max_bytes` together.
 pub fn open_nodes<S: Stores>(
     alloc: Global,
     ring: &Ring,
+    max_bytes: u64,
     stores: &mut S,
 ) -> Result<World<S::V>, StoreError>
     requires home { (d s : ℕ) → S.out stores.old d s ≡ false }
     ensures begun { IfOk result (λ world. (volumes : List S.V) × AreStarted S.first (S.rests stores.old) (2 ^ ring.now.lock_bits) 0 volumes
-        × (length volumes ≡ length ring.now.devices * 2 ^ ring.now.lock_bits) × (world ≡ opened ring.now volumes)) }
+        × (length volumes ≡ length ring.now.devices * 2 ^ ring.now.lock_bits) × (world ≡ opened max_bytes ring.now volumes)) }
     ensures out { OnOk result ((d s : ℕ) → S.out stores.new d s ≡ places_of ring.now d s) }
     ensures calls { OnOk result (S.calls stores.new ≡ raised_by (length ring.now.devices * 2 ^ ring.now.lock_bits) (S.calls stores.old)) }
     ensures kept { OnOk result (S.faults stores.new ≡ S.faults stores.old) }
@@ -43,7 +44,7 @@ pub fn open_nodes<S: Stores>(
         Ok(volumes) => volumes,
         Err(error) => return Err(error),
     };
-    match World::open(alloc, ring, Parts { volumes }) {
+    match World::open(alloc, ring, max_bytes, Parts { volumes }) {
         Ok(world) => Ok(world),
         Err(parts) => {
             give_range(stores, stripes, 0, parts.volumes);

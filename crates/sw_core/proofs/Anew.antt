@@ -16,7 +16,7 @@ use Rattle.sw_peer.specs.Sights.{Restarts}
 use Rattle.sw_volume.specs.Tree.{Folders}
 use Rattle.sw_core.proofs.Placed.{stripe-below}
 use Rattle.sw_core.proofs.Wholes.{open-at}
-use Rattle.sw_core.specs.Limits.{journal_bytes, journal_entries}
+use Rattle.sw_core.specs.Limits.{journal_entries}
 use Rattle.sw_core.specs.Worlds.{AllNodes, HasLimits, IsWorld, Lifts, SetsDown, TellsOn, held_of, lock_of, past_of, first_of, restart_line, seen_of, sight_of}
 use Rattle.sw_core.specs.Worlds.{stripe_at}
 use Rattle.sw_core.specs.declared.slot.Slot.{Slot}
@@ -67,12 +67,12 @@ module _ {V : Type 0} (tells : V → Bool) (files : V → Folders) (faults : V �
   there hash = let at = open-at old is whole (locked hash) (inside hash) in (at.0, at.1)
 
   abbrev begun : Hash → Kept V
-  begun hash = started (there hash).0.volume (there hash).0.secrets old.power journal_entries journal_bytes
+  begun hash = started (there hash).0.volume (there hash).0.secrets old.power journal_entries old.max_bytes
 
   powers : (hash : Hash) → (there hash).0.power ≡ old.power
   powers hash = (open-at old is whole (locked hash) (inside hash)).3
 
-  limits : (hash : Hash) → HasLimits (there hash).0
+  limits : (hash : Hash) → HasLimits old.max_bytes (there hash).0
   limits hash = (open-at old is whole (locked hash) (inside hash)).4
 
   here : (hash : Hash) → slice_get new.slots (locked hash) ≡ Some (slots.Open (begun hash))
@@ -90,7 +90,7 @@ module _ {V : Type 0} (tells : V → Bool) (files : V → Folders) (faults : V �
 
   told-begun : (hash : Hash) → is_told tells files faults (there hash).0 ≡ true → is_told tells files faults (begun hash) ≡ true
   told-begun hash told =
-      subst (λ (p : ℕ). is_told tells files faults (started (there hash).0.volume (there hash).0.secrets p journal_entries journal_bytes) ≡ true)
+      subst (λ (p : ℕ). is_told tells files faults (started (there hash).0.volume (there hash).0.secrets p journal_entries old.max_bytes) ≡ true)
       (powers hash) (tells-on hash told)
 
   -- the same files stand for the same

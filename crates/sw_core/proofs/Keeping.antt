@@ -28,7 +28,7 @@ use Rattle.sw_core.proofs.Anew.{apart-from}
 use Rattle.sw_core.proofs.Placed.{stripe-below}
 use Rattle.sw_core.proofs.Slots.{same-some}
 use Rattle.sw_core.proofs.Wholes.{none-some, open-at}
-use Rattle.sw_core.specs.Limits.{journal_bytes, journal_entries}
+use Rattle.sw_core.specs.Limits.{journal_entries}
 use Rattle.sw_core.specs.Listing.{AreLookedAt, IsLookedAt}
 use Rattle.sw_core.specs.Worlds.{AllNodes, AreLifted, AreSetDown, HasRoom, IsSlot, IsWorld, first_of, held_of, is_out, lock_of, past_of, seen_of, sight_of}
 use Rattle.sw_core.specs.Worlds.{stripe_at}
@@ -79,10 +79,10 @@ out-cases bits device l = elim (cases_Bool (is_out bits (Some device) l)) [
 
 -- ---- opened
 
-module _ {V : Type 0} (secrets : Secrets) (power : ℕ) (volumes : List V) (lifted new : List (Slot V)) (count : length lifted ≡ length volumes)
-    (out : All (λ slot. slot ≡ slots.Lifted secrets) lifted) (down : AreSetDown power 0 volumes lifted new) where
+module _ {V : Type 0} (secrets : Secrets) (power max_bytes : ℕ) (volumes : List V) (lifted new : List (Slot V)) (count : length lifted ≡ length volumes)
+    (out : All (λ slot. slot ≡ slots.Lifted secrets) lifted) (down : AreSetDown power max_bytes 0 volumes lifted new) where
   abbrev begun : V → Slot V
-  begun v = slots.Open (started v secrets power journal_entries journal_bytes)
+  begun v = slots.Open (started v secrets power journal_entries max_bytes)
 
   begun-at : (l : ℕ) (v : V) → slice_get volumes l ≡ Some v → slice_get new l ≡ Some (begun v)
   begun-at l v is =
@@ -110,6 +110,7 @@ module _ {V : Type 0} (secrets : Secrets) (power : ℕ) (volumes : List V) (lift
         secrets = secrets;
         slots = new;
         lines = lines;
+        max_bytes = max_bytes;
         asks = asks;
         lifted = None;
         containers = containers;
@@ -124,7 +125,7 @@ module _ {V : Type 0} (secrets : Secrets) (power : ℕ) (volumes : List V) (lift
     out = λ device is. cc;
     slots = λ l h.
         let v = there-is volumes l (omega (arith, h, down.count, count)) in
-        (started v.0 secrets power journal_entries journal_bytes, begun-at l v.0 v.1, refl, refl, (refl, refl));
+        (started v.0 secrets power journal_entries max_bytes, begun-at l v.0 v.1, refl, refl, (refl, refl));
   }
 
 -- ---- lifted and set down
@@ -156,19 +157,19 @@ module _ {V : Type 0} (w : AllNodes V) (is : IsWorld w) (device : ℕ) where
     where
       slot : (l : ℕ) → l < length w.slots → ((is_out w.lock_bits (Some device) l ≡ true) × (first_of w.lock_bits device ≤ l) × (l < past_of w.lock_bits device))
           ⊎ ((is_out w.lock_bits (Some device) l ≡ false) × ((l < first_of w.lock_bits device) ⊎ (past_of w.lock_bits device ≤ l)))
-          → IsSlot w.secrets w.power (is_out w.lock_bits (Some device) l) (slice_get new l)
+          → IsSlot w.secrets w.power w.max_bytes (is_out w.lock_bits (Some device) l) (slice_get new l)
       slot l h (inl out) =
           let there = open-at w is whole l h in
-          subst (λ (b : Bool). IsSlot w.secrets w.power b (slice_get new l)) (sym out.0)
+          subst (λ (b : Bool). IsSlot w.secrets w.power w.max_bytes b (slice_get new l)) (sym out.0)
           (up.within l there.0 out.1 out.2 there.1 ∙ ap (λ (s : Secrets). Some (slots.Lifted s)) there.2)
       slot l h (inr apart) =
           let there = open-at w is whole l h in
-          subst (λ (b : Bool). IsSlot w.secrets w.power b (slice_get new l)) (sym apart.0)
+          subst (λ (b : Bool). IsSlot w.secrets w.power w.max_bytes b (slice_get new l)) (sym apart.0)
           (there.0, up.outside l apart.1 ∙ there.1, there.2, there.3, there.4)
 
   pub set-world : (new : List (Slot V)) (volumes : List V) (lines : List Line) (containers : List (ContSlot MemState)) → w.lifted ≡ Some device →
       length volumes ≡ 2 ^ w.lock_bits
-      → AreSetDown w.power (first_of w.lock_bits device) volumes w.slots new
+      → AreSetDown w.power w.max_bytes (first_of w.lock_bits device) volumes w.slots new
       → IsWorld (record w { slots = new; lines = lines; lifted = None; containers = containers })
   set-world new volumes lines containers out amount down = record {
     devices = is.devices;
@@ -181,29 +182,29 @@ module _ {V : Type 0} (w : AllNodes V) (is : IsWorld w) (device : ℕ) where
     slots = λ l h. slot l (subst (λ (n : ℕ). l < n) down.count h) (out-cases w.lock_bits device l);
   }
     where
-      was : (l : ℕ) → l < length w.slots → IsSlot w.secrets w.power (is_out w.lock_bits (Some device) l) (slice_get w.slots l)
-      was l h = subst (λ (o : Option ℕ). IsSlot w.secrets w.power (is_out w.lock_bits o l) (slice_get w.slots l)) out (is.slots l h)
+      was : (l : ℕ) → l < length w.slots → IsSlot w.secrets w.power w.max_bytes (is_out w.lock_bits (Some device) l) (slice_get w.slots l)
+      was l h = subst (λ (o : Option ℕ). IsSlot w.secrets w.power w.max_bytes (is_out w.lock_bits o l) (slice_get w.slots l)) out (is.slots l h)
 
       slot : (l : ℕ) → l < length w.slots → ((is_out w.lock_bits (Some device) l ≡ true) × (first_of w.lock_bits device ≤ l) × (l < past_of w.lock_bits device))
           ⊎ ((is_out w.lock_bits (Some device) l ≡ false) × ((l < first_of w.lock_bits device) ⊎ (past_of w.lock_bits device ≤ l)))
-          → IsSlot w.secrets w.power false (slice_get new l)
+          → IsSlot w.secrets w.power w.max_bytes false (slice_get new l)
       slot l h (inl at) =
           let stood : slice_get w.slots l ≡ Some (slots.Lifted w.secrets) =
-          subst (λ (b : Bool). IsSlot w.secrets w.power b (slice_get w.slots l)) at.0 (was l h) in
+          subst (λ (b : Bool). IsSlot w.secrets w.power w.max_bytes b (slice_get w.slots l)) at.0 (was l h) in
           let from : first_of w.lock_bits device ≤ l = at.1 in
           let to : l < past_of w.lock_bits device = at.2 in
           let i : ℕ = l - first_of w.lock_bits device in
           let place : first_of w.lock_bits device + i ≡ l = omega (arith, from) in
           let less : i < length volumes = omega (arith, from, to, amount) in
           let v = there-is volumes i less in (
-            started v.0 w.secrets w.power journal_entries journal_bytes,
+            started v.0 w.secrets w.power journal_entries w.max_bytes,
             ap (slice_get new) (sym place) ∙ down.within i v.0 w.secrets v.1 (ap (slice_get w.slots) place ∙ stood),
             refl,
             refl,
             (refl, refl),
           )
       slot l h (inr apart) =
-          let there = subst (λ (b : Bool). IsSlot w.secrets w.power b (slice_get w.slots l)) apart.0 (was l h) in
+          let there = subst (λ (b : Bool). IsSlot w.secrets w.power w.max_bytes b (slice_get w.slots l)) apart.0 (was l h) in
           (there.0, down.outside l (further l apart.1) ∙ there.1, there.2, there.3, there.4)
         where
           further : (l : ℕ) → (l < first_of w.lock_bits device) ⊎ (past_of w.lock_bits device ≤ l)
@@ -251,12 +252,12 @@ module _ {V : Type 0} (tells : V → Bool) (files : V → Folders) (faults : V �
     slots = λ l h. slot l (subst (λ (n : ℕ). l < n) looked.count h);
   }
     where
-      slot : (l : ℕ) → l < length w.slots → IsSlot w.secrets w.power (is_out w.lock_bits w.lifted l) (slice_get new l)
+      slot : (l : ℕ) → l < length w.slots → IsSlot w.secrets w.power w.max_bytes (is_out w.lock_bits w.lifted l) (slice_get new l)
       slot l h =
           let there = open-at w is whole l h in
           let now = looked.within l there.0 there.1 in
           let same = now.2.looks.same in
-          subst (λ (o : Option ℕ). IsSlot w.secrets w.power (is_out w.lock_bits o l) (slice_get new l)) (sym whole) (
+          subst (λ (o : Option ℕ). IsSlot w.secrets w.power w.max_bytes (is_out w.lock_bits o l) (slice_get new l)) (sym whole) (
             now.0,
             now.1,
             same.secrets ∙ there.2,

@@ -7,7 +7,7 @@ use Rattle.std.proofs.lemmas.List.{append-nil}
 use Rattle.std.proofs.lemmas.Option.{slice_get-get_or, slice_get_within, slice_get_past}
 use Rattle.std.proofs.lemmas.List.{get_or-set_same, get_or-set_other}
 use Rattle.std.proofs.lemmas.Bool.{cases_lt}
-use Rattle.sw_core.specs.Limits.{journal_bytes, journal_entries}
+use Rattle.sw_core.specs.Limits.{journal_entries}
 use Rattle.sw_core.specs.Worlds.{AreLifted, AreSetDown, IsSetDown, TellsOn, volume_in}
 use Rattle.sw_core.specs.declared.slot.Slot.{Slot}
 use Rattle.sw_core.specs.declared.slot.Slot.TheVariants as slots
@@ -61,19 +61,19 @@ length-push (z ∷ xs) x = let more = length-push xs x in omega arith
 module _ {V : Type 0} where
   -- ---- volumes put in
 
-  pub none-down : (power first : ℕ) (slots : List (Slot V)) → AreSetDown power first [] slots slots
-  none-down power first slots = record { within = λ i v secrets none there. cc; outside = λ l out. refl; count = refl }
+  pub none-down : (power max_bytes first : ℕ) (slots : List (Slot V)) → AreSetDown power max_bytes first [] slots slots
+  none-down power max_bytes first slots = record { within = λ i v secrets none there. cc; outside = λ l out. refl; count = refl }
 
-  lifted-down : (power : ℕ) (v : V) (x y : Slot V) (secrets : Secrets) → x ≡ slots.Lifted secrets → IsSetDown power v x y
-      → y ≡ slots.Open (started v secrets power journal_entries journal_bytes)
-  lifted-down power v (slots.Lifted s) y secrets e is = let same : s ≡ secrets = cc in rw (← same) is
-  lifted-down power v (slots.Open k) y secrets e is = cc
-  lifted-down power v slots.Empty y secrets e is = cc
+  lifted-down : (power max_bytes : ℕ) (v : V) (x y : Slot V) (secrets : Secrets) → x ≡ slots.Lifted secrets → IsSetDown power max_bytes v x y
+      → y ≡ slots.Open (started v secrets power journal_entries max_bytes)
+  lifted-down power max_bytes v (slots.Lifted s) y secrets e is = let same : s ≡ secrets = cc in rw (← same) is
+  lifted-down power max_bytes v (slots.Open k) y secrets e is = cc
+  lifted-down power max_bytes v slots.Empty y secrets e is = cc
 
-  pub one-down : (power first place : ℕ) (given : List V) (v : V) (old now : List (Slot V)) (x y : Slot V) → place ≡ first + length given → place < length now
-      → AreSetDown power first given old now → slice_get now place ≡ Some x → IsSetDown power v x y →
-      AreSetDown power first (given ++ v ∷ []) old (slice_set now place y)
-  one-down power first place given v old now x y here below all there is = record {
+  pub one-down : (power max_bytes first place : ℕ) (given : List V) (v : V) (old now : List (Slot V)) (x y : Slot V) → place ≡ first + length given → place < length now
+      → AreSetDown power max_bytes first given old now → slice_get now place ≡ Some x → IsSetDown power max_bytes v x y →
+      AreSetDown power max_bytes first (given ++ v ∷ []) old (slice_set now place y)
+  one-down power max_bytes first place given v old now x y here below all there is = record {
     within = λ i w secrets gives out. within i w secrets out (at-push_cases given v i w gives);
     outside = λ l out. at-set_other now place l y (apart l out) ∙ all.outside l (further l out);
     count = length-set now place y ∙ all.count;
@@ -89,7 +89,7 @@ module _ {V : Type 0} where
 
       within : (i : ℕ) (w : V) (secrets : Secrets) → slice_get old (first + i) ≡ Some (slots.Lifted secrets) →
           (slice_get given i ≡ Some w) ⊎ ((i ≡ length given) × (v ≡ w))
-          → slice_get (slice_set now place y) (first + i) ≡ Some (slots.Open (started w secrets power journal_entries journal_bytes))
+          → slice_get (slice_set now place y) (first + i) ≡ Some (slots.Open (started w secrets power journal_entries max_bytes))
       within i w secrets out (inl before) =
           let low : i < length given = slice_get_within given i w before in
           at-set_other now place (first + i) y (λ same. absurd (omega arith)) ∙ all.within i w secrets before out
@@ -98,8 +98,8 @@ module _ {V : Type 0} where
           let was : slice_get now (first + i) ≡ slice_get old (first + i) = all.outside (first + i) (inr (omega arith)) in
           let lifted : x ≡ slots.Lifted secrets = same-some x (slots.Lifted secrets) (sym there ∙ (ap (slice_get now) (sym same) ∙ (was ∙ out))) in
           ap (slice_get (slice_set now place y)) same
-          ∙ (at-set_same now place y below ∙ ap Some (lifted-down power v x y secrets lifted is ∙ ap
-          (λ u. slots.Open (started u secrets power journal_entries journal_bytes)) last.1))
+          ∙ (at-set_same now place y below ∙ ap Some (lifted-down power max_bytes v x y secrets lifted is ∙ ap
+          (λ u. slots.Open (started u secrets power journal_entries max_bytes)) last.1))
 
   -- ---- directories taken out
 

@@ -80,7 +80,7 @@ module _ {V : Type 0} where
       where
         each : (length (flat_map volume_in w.slots) ≡ length w.slots) ×
             ((l : ℕ) (k : Kept V) → slice_get w.slots l ≡ Some (slots.Open k) → slice_get (flat_map volume_in w.slots) l ≡ Some k.volume)
-        each = open-volumes w.slots (λ l h. let at = subst (λ (o : Option ℕ). IsSlot w.secrets w.power (is_out w.lock_bits o l) (slice_get w.slots l)) whole
+        each = open-volumes w.slots (λ l h. let at = subst (λ (o : Option ℕ). IsSlot w.secrets w.power w.max_bytes (is_out w.lock_bits o l) (slice_get w.slots l)) whole
             (is.slots l h) in (at.0, at.1))
 
     module _ (device : ℕ) (out : w.lifted ≡ Some device) where
@@ -126,8 +126,8 @@ module _ {V : Type 0} where
       gap-length = length-take (2 ^ w.lock_bits) rest ∙ min-eq_left {n = 2 ^ w.lock_bits} {m = length rest}
           (let all = enough in let amount = rest-length in omega (arith, all, amount))
 
-      slot : (l : ℕ) → l < length w.slots → IsSlot w.secrets w.power (is_out w.lock_bits (Some device) l) (slice_get w.slots l)
-      slot l h = subst (λ (o : Option ℕ). IsSlot w.secrets w.power (is_out w.lock_bits o l) (slice_get w.slots l)) out (is.slots l h)
+      slot : (l : ℕ) → l < length w.slots → IsSlot w.secrets w.power w.max_bytes (is_out w.lock_bits (Some device) l) (slice_get w.slots l)
+      slot l h = subst (λ (o : Option ℕ). IsSlot w.secrets w.power w.max_bytes (is_out w.lock_bits o l) (slice_get w.slots l)) out (is.slots l h)
 
       -- a place outside the gap is open, and one in it is out
       outside : (l : ℕ) → l < length w.slots → (l < f) ⊎ (p ≤ l) → (k : Kept V) × (slice_get w.slots l ≡ Some (slots.Open k))
@@ -138,7 +138,7 @@ module _ {V : Type 0} where
               → (l < f) ⊎ (p ≤ l) → (k : Kept V) × (slice_get w.slots l ≡ Some (slots.Open k))
           by (inl here) (inl low) = absurd (omega (arith, low, here.1))
           by (inl here) (inr high) = absurd (omega (arith, high, here.2))
-          by (inr there) any = let at = subst (λ (b : Bool). IsSlot w.secrets w.power b (slice_get w.slots l)) there.0 (slot l h) in (at.0, at.1)
+          by (inr there) any = let at = subst (λ (b : Bool). IsSlot w.secrets w.power w.max_bytes b (slice_get w.slots l)) there.0 (slot l h) in (at.0, at.1)
 
       inside : (l : ℕ) → l < length w.slots → f ≤ l → l < p → slice_get w.slots l ≡ Some (slots.Lifted w.secrets)
       inside l h low high = by (out-cases w.lock_bits device l)
@@ -146,7 +146,7 @@ module _ {V : Type 0} where
           by : ((is_out w.lock_bits (Some device) l ≡ true) × (first_of w.lock_bits device ≤ l) × (l < past_of w.lock_bits device))
               ⊎ ((is_out w.lock_bits (Some device) l ≡ false) × ((l < first_of w.lock_bits device) ⊎ (past_of w.lock_bits device ≤ l)))
               → slice_get w.slots l ≡ Some (slots.Lifted w.secrets)
-          by (inl here) = subst (λ (b : Bool). IsSlot w.secrets w.power b (slice_get w.slots l)) here.0 (slot l h)
+          by (inl here) = subst (λ (b : Bool). IsSlot w.secrets w.power w.max_bytes b (slice_get w.slots l)) here.0 (slot l h)
           by (inr there) = absurd (apart there.1)
             where
               apart : (l < first_of w.lock_bits device) ⊎ (past_of w.lock_bits device ≤ l) → ⊥

@@ -5,9 +5,6 @@ use Rattle.sw_object_steps.specs.Rules.{ObjJournal}
 abbrev pub journal_entries : ℕ
 journal_entries = 262144
 
--- the bytes of the bodies in it, together
-abbrev pub journal_bytes : ℕ
-journal_bytes = 33554432
-
+-- of a lock where no directory is open
 abbrev pub empty_journal : ObjJournal
-empty_journal = record { entries = []; doubts = []; max_entries = journal_entries; max_bytes = journal_bytes }
+empty_journal = record { entries = []; doubts = []; max_entries = journal_entries; max_bytes = 0 }

@@ -6,7 +6,7 @@ use Rattle.std.specs.List.{All, flat_map, slice_get}
 use Rattle.std.specs.Str.{bytes_eq}
 use Rattle.std.specs.declared.alloc.Global.{Global}
 use Rattle.std.specs.declared.vec.Vec.{Vec}
-use Rattle.sw_core.specs.Limits.{empty_journal, journal_bytes, journal_entries}
+use Rattle.sw_core.specs.Limits.{empty_journal, journal_entries}
 use Rattle.sw_core.specs.declared.slot.Slot.{Slot}
 use Rattle.sw_core.specs.declared.slot.Slot.TheVariants as slots
 use Rattle.sw_container_locks.specs.Halves.{half_of}
@@ -46,6 +46,7 @@ pub record AllNodes (V : Type 0) : Type 0 where
   pub secrets : Secrets
   pub slots : List (Slot V)  -- one a lock
   pub lines : List Line  -- of what came since they were last taken
+  pub max_bytes : ℕ  -- how many bytes the bodies in the journal of an object lock have at most, together
   pub asks : ℕ  -- how many messages asked for hashes or files
   pub lifted : Option ℕ  -- the device whose volumes are out
   pub containers : List (ContSlot MemState)  -- the container locks, one beside each object lock
@@ -76,14 +77,15 @@ abbrev pub is_out : ℕ → Option ℕ → ℕ → Bool
 is_out lock_bits None l = false
 is_out lock_bits (Some device) l = nat_le (first_of lock_bits device) l && nat_lt l (past_of lock_bits device)
 
--- the journal has the limits of every object lock
-abbrev pub HasLimits : {V : Type 0} → Kept V → Type 0
-HasLimits k = (k.journal.max_entries ≡ journal_entries) × (k.journal.max_bytes ≡ journal_bytes)
+-- the journal has the limits of every object lock of these nodes
+abbrev pub HasLimits : {V : Type 0} → ℕ → Kept V → Type 0
+HasLimits max_bytes k = (k.journal.max_entries ≡ journal_entries) × (k.journal.max_bytes ≡ max_bytes)
 
 -- what stands at a lock: an open directory of these secrets and this part power, or those secrets alone
-abbrev pub IsSlot : {V : Type 0} → Secrets → ℕ → Bool → Option (Slot V) → Type 0
-IsSlot {V} secrets power false slot = (k : Kept V) × (slot ≡ Some (slots.Open k)) × (k.secrets ≡ secrets) × (k.power ≡ power) × HasLimits k
-IsSlot secrets power true slot = slot ≡ Some (slots.Lifted secrets)
+abbrev pub IsSlot : {V : Type 0} → Secrets → ℕ → ℕ → Bool → Option (Slot V) → Type 0
+IsSlot {V} secrets power max_bytes false slot =
+    (k : Kept V) × (slot ≡ Some (slots.Open k)) × (k.secrets ≡ secrets) × (k.power ≡ power) × HasLimits max_bytes k
+IsSlot secrets power max_bytes true slot = slot ≡ Some (slots.Lifted secrets)
 
 -- so many devices, of which each has so many locks
 pub record IsWorld {V : Type 0} (w : AllNodes V) : Type 0 where
@@ -94,7 +96,7 @@ pub record IsWorld {V : Type 0} (w : AllNodes V) : Type 0 where
   pub greatest : w.power ≤ 32
   pub count : length w.slots ≡ w.devices * 2 ^ w.lock_bits
   pub out : (device : ℕ) → w.lifted ≡ Some device → device < w.devices
-  pub slots : (l : ℕ) → l < length w.slots → IsSlot w.secrets w.power (is_out w.lock_bits w.lifted l) (slice_get w.slots l)
+  pub slots : (l : ℕ) → l < length w.slots → IsSlot w.secrets w.power w.max_bytes (is_out w.lock_bits w.lifted l) (slice_get w.slots l)
 
 -- ---- what its user knows
 
@@ -205,14 +207,15 @@ module _ {V : Type 0} (tells : V → Bool) (files : V → Folders) (faults : V �
 -- ---- beginning and ending
 
 -- the nodes of a ring over these volumes, in which nothing has happened
-abbrev pub opened : {V : Type 0} → Ring → List V → AllNodes V
-opened ring volumes = record {
+abbrev pub opened : {V : Type 0} → ℕ → Ring → List V → AllNodes V
+opened max_bytes ring volumes = record {
   devices = length ring.devices;
   lock_bits = ring.lock_bits;
   power = ring.power;
   secrets = ring.secrets;
-  slots = map (λ v. slots.Open (started v ring.secrets ring.power journal_entries journal_bytes)) volumes;
+  slots = map (λ v. slots.Open (started v ring.secrets ring.power journal_entries max_bytes)) volumes;
   lines = [];
+  max_bytes = max_bytes;
   asks = 0;
   lifted = None;
   containers = empty_locks volumes;
@@ -238,6 +241,7 @@ pub record IsSameWorld {V : Type 0} (old new : AllNodes V) : Type 0 where
   pub lock_bits : new.lock_bits ≡ old.lock_bits
   pub power : new.power ≡ old.power
   pub secrets : new.secrets ≡ old.secrets
+  pub max_bytes : new.max_bytes ≡ old.max_bytes
   pub asks : new.asks ≡ old.asks
   pub lifted : new.lifted ≡ old.lifted
 
@@ -262,15 +266,15 @@ SlotTellsOn tells files faults (slots.Lifted secrets) = ⊤
 SlotTellsOn tells files faults slots.Empty = ⊤
 
 -- a volume was put in at one lock, where one was out
-abbrev pub IsSetDown : {V : Type 0} → ℕ → V → Slot V → Slot V → Type 0
-IsSetDown power v (slots.Lifted secrets) new = new ≡ slots.Open (started v secrets power journal_entries journal_bytes)
-IsSetDown power v (slots.Open k) new = new ≡ slots.Open k
-IsSetDown power v slots.Empty new = new ≡ slots.Empty
+abbrev pub IsSetDown : {V : Type 0} → ℕ → ℕ → V → Slot V → Slot V → Type 0
+IsSetDown power max_bytes v (slots.Lifted secrets) new = new ≡ slots.Open (started v secrets power journal_entries max_bytes)
+IsSetDown power max_bytes v (slots.Open k) new = new ≡ slots.Open k
+IsSetDown power max_bytes v slots.Empty new = new ≡ slots.Empty
 
 -- these volumes were put in from one lock on, each as a directory that begins anew
-pub record AreSetDown {V : Type 0} (power first : ℕ) (volumes : List V) (old new : List (Slot V)) : Type 0 where
+pub record AreSetDown {V : Type 0} (power max_bytes first : ℕ) (volumes : List V) (old new : List (Slot V)) : Type 0 where
   pub within : (i : ℕ) (v : V) (secrets : Secrets) → slice_get volumes i ≡ Some v → slice_get old (first + i) ≡ Some (slots.Lifted secrets)
-      → slice_get new (first + i) ≡ Some (slots.Open (started v secrets power journal_entries journal_bytes))
+      → slice_get new (first + i) ≡ Some (slots.Open (started v secrets power journal_entries max_bytes))
   pub outside : (l : ℕ) → (l < first) ⊎ (first + length volumes ≤ l) → slice_get new l ≡ slice_get old l
   pub count : length new ≡ length old
 
@@ -290,7 +294,7 @@ restart_line device = record { device = device; link = Local; event = Restarted;
 
 -- it was set down over these volumes, and its container locks began anew over what they held
 pub record SetsDown {V : Type 0} (old : AllNodes V) (device : ℕ) (volumes : List V) (new : AllNodes V) : Type 0 where
-  pub down : AreSetDown old.power (first_of old.lock_bits device) volumes old.slots new.slots
+  pub down : AreSetDown old.power old.max_bytes (first_of old.lock_bits device) volumes old.slots new.slots
   pub containers : HalfRestarts (place_lock old.lock_bits old.power) true device (containers_at old.lock_bits old.power old.containers)
       (containers_at old.lock_bits old.power new.containers)
   pub rest : new ≡ record old { slots = new.slots; lines = old.lines ++ restart_line device ∷ []; lifted = None; containers = new.containers }

@@ -41,6 +41,8 @@ pub struct World<V: Volume + Drop> {
     secrets: Secrets,
     slots: Vec<Slot<V>>,
     lines: Vec<KeptLine>,
+    /// How many bytes the bodies in the journal of an object lock have at most, together.
+    max_bytes: u64,
     /// How many messages asked for hashes or files.
     asks: u64,
     lifted: Option<u8>,
@@ -65,6 +67,7 @@ impl<V: Volume + Drop> Model for World<V> {
       secrets = w.secrets;
       slots = w.slots.items;
       lines = w.lines.items;
+      max_bytes = w.max_bytes;
       asks = w.asks;
       lifted = w.lifted;
       containers = w.containers;
@@ -77,6 +80,7 @@ impl<V: Volume + Drop> Model for World<V> {
       secrets = w.secrets;
       slots = w.slots.items;
       lines = w.lines.items;
+      max_bytes = w.max_bytes;
       asks = w.asks;
       lifted = w.lifted;
       containers = w.containers;
@@ -87,10 +91,16 @@ impl<V: Volume + Drop> Model for World<V> {
 
 impl<V: Volume + Drop> World<V> {
     /// The nodes of a ring over these volumes: those of the first device, one a stripe, then those of the next. Each begins with what its
-    /// volume's files stand for, and with no container. Where memory runs out the volumes come back.
-    pub fn open(alloc: Global, ring: &Ring, parts: Parts<V>) -> Result<World<V>, Parts<V>>
+    /// volume's files stand for, and with no container. The bodies in the journal of an object lock have at most `max_bytes` together. Where memory runs
+    /// out the volumes come back.
+    pub fn open(
+        alloc: Global,
+        ring: &Ring,
+        max_bytes: u64,
+        parts: Parts<V>,
+    ) -> Result<World<V>, Parts<V>>
         requires volumes { length parts.volumes.items ≡ length ring.now.devices * 2 ^ ring.now.lock_bits }
-        ensures opens { IfOk result (λ w. w ≡ opened ring.now parts.volumes.items) }
+        ensures opens { IfOk result (λ w. w ≡ opened max_bytes ring.now parts.volumes.items) }
         ensures back { IfErr result (λ p. p ≡ parts) }
     {
         let count = parts.volumes.len();
@@ -106,7 +116,7 @@ impl<V: Volume + Drop> World<V> {
         let Ok(containers) = empty_locks(alloc, count) else {
             return Err(parts);
         };
-        open_slots(alloc, &mut slots, 0, ring.power, parts.volumes);
+        open_slots(alloc, &mut slots, 0, ring.power, max_bytes, parts.volumes);
         Ok(World {
             devices: ring.devices.as_slice().len() as u16,
             lock_bits: ring.lock_bits,
@@ -114,6 +124,7 @@ impl<V: Volume + Drop> World<V> {
             secrets,
             slots,
             lines: Vec::new(alloc),
+            max_bytes,
             asks: 0,
             lifted: None,
             containers,
@@ -177,7 +188,14 @@ impl<V: Volume + Drop> World<V> {
     {
         let count = stripes(self.lock_bits);
         let first = usize::from(device) * count;
-        open_slots(alloc, &mut self.slots, first, self.power, parts.volumes);
+        open_slots(
+            alloc,
+            &mut self.slots,
+            first,
+            self.power,
+            self.max_bytes,
+            parts.volumes,
+        );
         self.containers.restart(alloc, first, first + count);
         make_room(alloc, &mut self.lines, &mut self.spare);
         self.lines.push_reserved(line_of_restart(alloc, device));

@@ -15,7 +15,7 @@ quiet_sight_of tells files faults w = without_trail (sight_of tells files faults
 
 -- a device was set down over these volumes, its container locks began anew, and no line is left
 pub record SetsDownQuietly {V : Type 0} (old : AllNodes V) (device : ℕ) (volumes : List V) (new : AllNodes V) : Type 0 where
-  pub down : AreSetDown old.power (first_of old.lock_bits device) volumes old.slots new.slots
+  pub down : AreSetDown old.power old.max_bytes (first_of old.lock_bits device) volumes old.slots new.slots
   pub containers : HalfRestarts (place_lock old.lock_bits old.power) true device (containers_at old.lock_bits old.power old.containers)
       (containers_at old.lock_bits old.power new.containers)
   pub rest : new ≡ record old { slots = new.slots; lines = []; lifted = None; containers = new.containers }

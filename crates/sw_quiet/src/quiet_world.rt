@@ -32,13 +32,19 @@ impl<V: Volume + Drop> Model for QuietWorld<V> {
 
 impl<V: Volume + Drop> QuietWorld<V> {
     /// The nodes of a ring over these volumes: those of the first device, one a stripe, then those of the next. Each begins with what its
-    /// volume's files stand for. Where memory runs out the volumes come back.
-    pub fn open(alloc: Global, ring: &Ring, parts: Parts<V>) -> Result<QuietWorld<V>, Parts<V>>
+    /// volume's files stand for. The bodies in the journal of an object lock have at most `max_bytes` together. Where memory runs out the volumes come
+    /// back.
+    pub fn open(
+        alloc: Global,
+        ring: &Ring,
+        max_bytes: u64,
+        parts: Parts<V>,
+    ) -> Result<QuietWorld<V>, Parts<V>>
         requires volumes { length parts.volumes.items ≡ length ring.now.devices * 2 ^ ring.now.lock_bits }
-        ensures opens { IfOk result (λ w. w ≡ opened ring.now parts.volumes.items) }
+        ensures opens { IfOk result (λ w. w ≡ opened max_bytes ring.now parts.volumes.items) }
         ensures back { IfErr result (λ p. p ≡ parts) }
     {
-        let world = World::open(alloc, ring, parts)?;
+        let world = World::open(alloc, ring, max_bytes, parts)?;
         Ok(QuietWorld { world })
     }
 

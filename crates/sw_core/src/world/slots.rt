@@ -9,7 +9,7 @@ ghost use Rattle.sw_objdir.specs.Directories.{Kept};
 ghost use Rattle.sw_peer.specs.declared.line.Event.TheVariants.{Listed};
 ghost use Rattle.sw_peer.specs.declared.link.Link.TheVariants.{Local};
 
-use crate::limits::{JOURNAL_BYTES, JOURNAL_ENTRIES};
+use crate::limits::JOURNAL_ENTRIES;
 use crate::slot::Slot;
 use std::alloc::Global;
 use std::mem;
@@ -36,31 +36,39 @@ pub(crate) fn lifted_slots<V: Volume + Drop>(
     Ok(made)
 }
 
-/// Puts volumes in from the place `first` on: where one is out, a directory begins anew on it.
+/// Puts volumes in from the place `first` on: where one is out, a directory begins anew on it, with a journal that has room for this many bytes of
+/// bodies.
 pub(crate) fn open_slots<V: Volume + Drop>(
     alloc: Global,
     places: &mut Vec<Slot<V>>,
     first: usize,
     power: u8,
+    max_bytes: u64,
     volumes: Vec<V>,
 )
     requires within { first + length volumes.items ≤ length places.old.items }
     requires least { 1 ≤ power }
     requires greatest { power ≤ 32 }
-    ensures { AreSetDown power first volumes.items places.old.items places.new.items }
+    ensures { AreSetDown power max_bytes first volumes.items places.old.items places.new.items }
 {
     let mut at = first;
     for volume in volumes {
-        open_slot(alloc, &mut places[at], power, volume);
+        open_slot(alloc, &mut places[at], power, max_bytes, volume);
         at += 1;
     }
 }
 
 /// Puts a volume in, where one is out.
-fn open_slot<V: Volume + Drop>(alloc: Global, place: &mut Slot<V>, power: u8, volume: V)
+fn open_slot<V: Volume + Drop>(
+    alloc: Global,
+    place: &mut Slot<V>,
+    power: u8,
+    max_bytes: u64,
+    volume: V,
+)
     requires least { 1 ≤ power }
     requires greatest { power ≤ 32 }
-    ensures { IsSetDown power volume place.old place.new }
+    ensures { IsSetDown power max_bytes volume place.old place.new }
 {
     match mem::replace(place, Slot::Empty) {
         Slot::Lifted(secrets) => {
@@ -70,7 +78,7 @@ fn open_slot<V: Volume + Drop>(alloc: Global, place: &mut Slot<V>, power: u8, vo
                 power,
                 secrets,
                 JOURNAL_ENTRIES,
-                JOURNAL_BYTES,
+                max_bytes,
             ));
         }
         other => *place = other,

@@ -7,13 +7,14 @@ use Rattle.sw_cluster.specs.Leaving.{AreLeft}
 use Rattle.sw_nodes.specs.Nodes.{IsReady, out_but}
 use Rattle.sw_cluster.specs.Rounds.{EndsServing, HasServed}
 use Rattle.sw_cluster.specs.Told.{Counts, counts, doors_told, output}
+use Rattle.sw_cluster.specs.Limits.{serve_bytes}
 use Rattle.sw_cluster.proofs.rounds.serve_over.Goals as goal
 
 pub attend-ended-requires-clause-ready : goal.attend-ended-requires-clause-ready
 attend-ended-requires-clause-ready g c =
     let b = c.requires.begun in
     subst (λ (w : AllNodes _). IsReady g.S.Stores.out c.args.ring.now w c.args.stores.now) (sym b.2)
-    (ready-of g.S.Stores.out c.args.ring.now (opened c.args.ring.now b.0) c.args.stores.now refl refl c.requires.out)
+    (ready-of g.S.Stores.out c.args.ring.now (opened serve_bytes c.args.ring.now b.0) c.args.stores.now refl refl c.requires.out)
 
 pub give_back-requires-clause-devices : goal.give_back-requires-clause-devices
 give_back-requires-clause-devices g c =

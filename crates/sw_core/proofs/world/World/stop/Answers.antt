@@ -13,6 +13,7 @@ returns-clause-gives g c =
       secrets = i.secrets;
       slots = i.slots.items;
       lines = i.lines.items;
+      max_bytes = i.max_bytes;
       asks = i.asks;
       lifted = i.lifted;
       containers = i.containers;
