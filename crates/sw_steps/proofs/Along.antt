@@ -91,13 +91,13 @@ module _ (from to part : ℕ) (apart : from ≢ to) where
       let mid : Sight = went.0 in
       let one : Goes_on a mid =
       file-goes h file theirs a o mid went.1 true (part-later from to part n a h so_far.moves is)
-      (λ sure. subst (λ (s : State). Counts s file) (sym (ap (λ (v : ObjValue). v.state) (so_far.kept sure h))) (counts (sure-before from to part n a so_far.moves sure)).0)
+      (λ sure. subst (λ (v : ObjValue). Counts v.state file) (sym (so_far.kept sure h)) (counts (sure-before from to part n a so_far.moves sure)).0)
       went.2 in
       goes-join from to part a mid c one
       (files-go h theirs n mid fs went.1 c p on (goes-join from to part n a mid so_far one) is (λ sure. (counts sure).1) went.3)
   files-go h theirs n a (file ∷ fs) o c p on so_far is counts (inr stopped) =
       file-goes h file theirs a o c p false (part-later from to part n a h so_far.moves is)
-      (λ sure. subst (λ (s : State). Counts s file) (sym (ap (λ (v : ObjValue). v.state) (so_far.kept sure h))) (counts (sure-before from to part n a so_far.moves sure)).0)
+      (λ sure. subst (λ (v : ObjValue). Counts v.state file) (sym (so_far.kept sure h)) (counts (sure-before from to part n a so_far.moves sure)).0)
       stopped.0
 
   -- ---- the lines of a suffix

@@ -10,8 +10,7 @@ use Rattle.sw_machine.proofs.Doors.{files-reads, hashes-reads, object-changes, w
 use Rattle.sw_machine.proofs.Going.{going-joins, runs-join, same-goes, sending-goes}
 use Rattle.sw_machine.specs.Doors.{RunsOn, StandsFor}
 use Rattle.sw_machine.specs.Machine.{Machine}
-use Rattle.sw_machine.specs.Messages.{Message, WasSent, Write_of}
-use Rattle.sw_machine.specs.Doors.{obj_line}
+use Rattle.sw_machine.specs.Messages.{Message, Write_of}
 use Rattle.sw_machine.specs.Sides.{TellsAt}
 use Rattle.sw_object_steps.specs.Halves.{ObjHalf}
 use Rattle.sw_object_steps.specs.Journals.{Hash}
@@ -19,11 +18,9 @@ use Rattle.sw_object_steps.specs.Parts.{IsOfPart}
 use Rattle.sw_object_steps.specs.declared.answer.Answer.{Answer}
 use Rattle.sw_object_steps.specs.declared.change.Change.TheVariants.{Receive}
 use Rattle.sw_object_steps.specs.declared.dir_fault.DirFault.{DirFault}
-use Rattle.sw_object_steps.specs.declared.entry.ObjEntry.{ObjEntry}
 use Rattle.sw_object_steps.specs.declared.stored.Stored.{Stored}
 use Rattle.sw_peer.proofs.Calls.{calls-moves, made-step, moves-refl, same-refl}
 use Rattle.sw_peer.specs.Sights.{Calls, Comes, HoldsAll, IsAt, IsFilesRead, IsHashesRead, IsMade, IsWriteRead, Moves, Nodes, Sight}
-use Rattle.sw_peer.specs.declared.line.Event.TheVariants.{Changed}
 use Rattle.sw_peer.specs.declared.link.Link.{Link}
 use Rattle.sw_peer.specs.declared.link.Link.TheVariants.{Local, Sent}
 use Rattle.sw_peer.specs.declared.link.Lost.{Lost}
@@ -138,14 +135,17 @@ module _ (from to part : ℕ) where
           → Contains (writes_of (m.objects.half.holds from name.hash).state) w
       carried m stands alone tells =
           subst (λ (half : ObjHalf). Contains (writes_of (half.holds from name.hash).state) w) stands.objects
-          (own (moves.alone alone, told
-            (subst (λ (half : ObjHalf). (half.seen (a.nodes.lock from name.hash)).told ≡ true) (sym stands.objects) tells)))
+          (own (
+            moves.alone alone,
+            told
+                (subst (λ (half : ObjHalf). (half.seen (a.nodes.lock from name.hash)).told ≡ true) (sym stands.objects) tells),
+          ))
 
       runs : b.alone ≡ true → RunsOn a b
       runs alone m stands =
           let went = sending-goes a m from message stands (carried m stands alone) in
           let is_sent : Contains went.0.after.sent message =
-              subst (λ (x : Machine). Contains x.sent message) (sym went.1) (Contains-push m.sent message) in
+          subst (λ (x : Machine). Contains x.sent message) (sym went.1) (Contains-push m.sent message) in
           let came = (object-changes to name (Receive w)).calls Sent a r b went.0.after went.0.stands alone
-              (λ answer added is_message may. (message, is_sent, (refl, refl, refl))) p in
+          (λ answer added is_message may. (message, is_sent, (refl, refl, refl))) p in
           (_, (going-joins a m _ a came.0 b went.0 came.2).0)

@@ -1,5 +1,5 @@
 -- A push is a run of the machine.
-use Rattle.std.proofs.Common.{◌≡◌, ◌≢◌, ℕ, true, false, ◌∙◌, ap, subst, Result, Ok, Err}
+use Rattle.std.proofs.Common.{◌≡◌, ◌≢◌, ℕ, true, false, ◌∙◌, ap, Result, Ok, Err}
 use Rattle.sw_machine.specs.Doors.{RunsOn}
 use Rattle.sw_lossy.specs.Losses.{around, begun}
 use Rattle.sw_lossy.specs.declared.acts.Acts.{Acts}
@@ -23,8 +23,7 @@ push-runs from to part apart s (Err wanting) t push = (run-goes from to part apa
 run-within : (s t : Sight) (acts now : Acts) (sent faults asks messages more asked : ℕ)
     → RunsOn (around s acts sent faults asks) (around t now messages more asked) → RunsOn s t
 run-within s t acts now sent faults asks messages more asked runs m stands =
-    let run = runs m (record { objects = stands.objects; containers = stands.containers }) in
-    (
+    let run = runs m (record { objects = stands.objects; containers = stands.containers }) in (
       run.0,
       record {
         nodes = run.1.nodes;

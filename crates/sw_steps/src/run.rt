@@ -13,8 +13,8 @@ use std::alloc::Global;
 use sw_core::World;
 use sw_hashpath::Name;
 use sw_lossy::{Acts, Lossy};
-use sw_outside::NoMemory;
 use sw_object_steps::{Answer, Change, Got};
+use sw_outside::NoMemory;
 use sw_peer::{Link, ObjectDoor};
 use sw_volume::{Volume, VolumeError};
 

@@ -5,7 +5,7 @@ use Rattle.sw_peer.proofs.Calls.{calls-moves, made-step}
 use Rattle.sw_peer.specs.Sights.{Calls, IsAt, IsMade, Moves, Nodes}
 use Rattle.sw_object_steps.specs.declared.change.Change.{Change}
 use Rattle.sw_peer.specs.declared.link.Link.TheVariants.{Local}
-use Rattle.sw_steps.proofs.Stepping.{any-err, changed-runs, on-err, on-ok}
+use Rattle.sw_steps.proofs.Stepping.{any-err, changed-runs, on-err, on-ok, same-runs}
 use Rattle.sw_steps.proofs.run.change_at.Goals as goal
 
 pub returns-in_err-change-clause-tried : goal.returns-in_err-change-clause-tried
@@ -40,3 +40,7 @@ returns-clause-whole g c =
     still-whole c.args.world.now.lifted c.change.new.self.lifted c.args.device c.args.world.now.devices c.change.new.self.devices c.requires.whole
     c.requires.device
     (ap (λ (n : Nodes). n.devices) moves.nodes)
+
+pub returns-in_err-change-clause-runs : goal.returns-in_err-change-clause-runs
+returns-in_err-change-clause-runs g c =
+    let v = g.V.Volume in same-runs (sight_of v.tells v.holds v.faults) c.args.world.now c.args.world.now refl

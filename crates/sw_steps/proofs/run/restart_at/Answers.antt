@@ -1,7 +1,7 @@
 use Rattle.std.proofs.Common.{refl}
 use Rattle.sw_core.proofs.Anew.{restarts}
 use Rattle.sw_core.specs.Worlds.{sight_of}
-use Rattle.sw_steps.proofs.Stepping.{restarted-runs}
+use Rattle.sw_steps.proofs.Stepping.{restarted-runs, same-runs}
 use Rattle.sw_steps.proofs.run.restart_at.Goals as goal
 
 pub returns-clause-made : goal.returns-clause-made
@@ -18,3 +18,7 @@ returns-clause-runs g c =
     restarted-runs c.args.device (sight_of v.tells v.holds v.faults w) (sight_of v.tells v.holds v.faults n) refl
     (restarts v.tells v.holds v.faults w c.lift.new.self n c.args.device c.in_ok-parts.parts.volumes.items c.requires.whole c.requires.device
     c.in_ok-parts.ensures.ok c.set_down.ensures)
+
+pub returns-in_err-parts-clause-runs : goal.returns-in_err-parts-clause-runs
+returns-in_err-parts-clause-runs g c =
+    let v = g.V.Volume in same-runs (sight_of v.tells v.holds v.faults) c.args.world.now c.lift.new.self c.in_err-parts.ensures.err
