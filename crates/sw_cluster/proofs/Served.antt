@@ -4,7 +4,7 @@ use Rattle.std.proofs.Common.{inr}
 use Rattle.std.proofs.Common.{refl, sym, ◌∙◌, ap, subst}
 use Rattle.std.specs.Bool.{⊤}
 use Rattle.std.specs.List.{All, slice_get}
-use Rattle.sw_machine.proofs.Doors.{runs-join}
+use Rattle.sw_machine.proofs.Going.{runs-join}
 use Rattle.sw_machine.specs.Doors.{RunsOn}
 use Rattle.sw_machine.specs.Machine.{Machine, RunLine, Runs, machine_of}
 use Rattle.sw_core.specs.Worlds.{AllNodes, IsWorld, SlotTellsOn, nodes_of, opened, sight_of}

@@ -30,7 +30,7 @@ use Rattle.sw_nodes.proofs.Readying.{ready-of}
 use Rattle.sw_nodes.proofs.Restarting.{called-on, none-called, out-called, whole-called}
 use Rattle.sw_container_steps.specs.Halves.{ContHalf}
 use Rattle.sw_core.proofs.Containing.{empty-holds}
-use Rattle.sw_machine.proofs.Doors.{runs-join}
+use Rattle.sw_machine.proofs.Going.{runs-join}
 use Rattle.sw_machine.specs.Doors.{GoesOn, RunsOn}
 use Rattle.sw_machine.specs.Machine.{RunLine, Runs, came_in, machine_of}
 use Rattle.sw_core.specs.Worlds.{AllNodes, IsWorld, Lifts, SlotTellsOn, first_of, nodes_of}

@@ -1,6 +1,6 @@
 -- What a control request makes of the nodes: a device whose files were listed, and one that went back to the stores and came again, or
 -- didn't.
-use Rattle.std.proofs.Common.{◌≡◌, ℕ, ◌+◌, ◌*◌, ◌%◌, ◌^◌, ◌≤◌, ◌<◌, Bool, true, false, MatchBool, Option, Some, Result, Ok, Err, IfOk, IfErr, OnOk, refl, sym}
+use Rattle.std.proofs.Common.{◌≡◌, ℕ, ◌+◌, ◌*◌, ◌%◌, ◌^◌, ◌≤◌, ◌<◌, Bool, true, false, MatchBool, Option, Some, Result, Ok, Err, IfOk, IfErr, OnErr, OnOk, refl, sym}
 use Rattle.std.proofs.Common.{◌∙◌}
 use Rattle.std.proofs.Common.{ap, subst, inl, inr, ◌⊎◌, arith, MutBor}
 use Rattle.std.proofs.lemmas.Nat.{one_shl}
@@ -15,6 +15,7 @@ use Rattle.sw_core.proofs.Anew.{restarts}
 use Rattle.sw_machine.specs.Doors.{RunsOn}
 use Rattle.sw_core.specs.Listing.{is_failed}
 use Rattle.sw_core.specs.Worlds.{AllNodes, sight_of}
+use Rattle.sw_outside.specs.declared.errors.NoMemory.{NoMemory}
 use Rattle.sw_peer.specs.Sights.{Restarts, Sight}
 use Rattle.sw_ring.specs.declared.ring.Ring.{Ring}
 use Rattle.sw_session.specs.declared.server.ServerFault.{ServerFault}
@@ -28,7 +29,7 @@ use Rattle.sw_nodes.proofs.Serving.{goes_on}
 use Rattle.sw_nodes.proofs.Restarting.{listed-lines, no-line, none-called, once-called, restart-lines, some_is}
 use Rattle.sw_nodes.specs.Restarts.{restarts_in}
 use Rattle.sw_nodes.specs.Nodes.{FailsToStart, IsReady, NodesAnswer, NodesHalt, faults_by}
-use Rattle.sw_nodes.specs.Server.{IsControlDone, IsFiled, IsReplicated, IsRestarted, MayAnswer}
+use Rattle.sw_nodes.specs.Server.{IsControlDone, IsControlled, IsFiled, IsReplicated, IsRestarted, MayAnswer}
 
 -- ---- how many locks a device has
 
@@ -119,6 +120,31 @@ module _ {V : Type 0} (tells : V → Bool) (files : V → Folders) (faults : V �
       push-calm asked.from asked.to asked.part _ done.outcome _ done.pushed.pushes in
       let e : restarts_in after.lines ≡ restarts_in w.lines = some_is calm in
       omega (arith, e)
+
+  -- the trail was told, or there was no memory for its text
+  pub trail_told : (ring : Ring) (w : AllNodes V) (request : Request) (told : Result Response NoMemory) (response : Response)
+      → IsControl ring request controls.Trail
+      → IfOk told (λ reply. IsControlDone tells files faults ring w controls.Trail reply w)
+      → IfOk told (λ reply. response ≡ reply) → OnErr told (response ≡ bare 500) → IsControlled tells files faults ring w request response w
+  trail_told ring w request (Ok reply) response asked done same other =
+      inl (controls.Trail, asked, subst (λ (r : Response). IsControlDone tells files faults ring w controls.Trail r w) (sym same) done)
+  trail_told ring w request (Err wanting) response asked done same other = inr (refl, other)
+
+  -- a control request was answered, and nothing was done
+  pub done_nothing : {S : Type 0} (store_faults store_calls : S → ℕ) (out : S → ℕ → ℕ → Bool) (ring : Ring) (w : AllNodes V) (stores : MutBor S)
+      (request : Request) (moment : ℕ) (response : Response) → is_control request.path ≡ true → IsReady out ring w stores.now
+      → IsControlled tells files faults ring w request response w
+      → NodesAnswer tells files faults store_faults store_calls out ring ring w w stores stores request moment response
+  done_nothing store_faults store_calls out ring w stores request moment response is ready done = record {
+    ring_is = refl;
+    may = record { answers = on_true _ _ (is_control request.path) is done; nodes = refl; runs = runs-itself (see w) };
+    faults_are = refl;
+    gained = 0;
+    gains = no-line w.lines w.lines refl;
+    calls_are = none-called (2 ^ ring.lock_bits) (store_calls stores.now) (store_calls stores.now) refl;
+    same_stores = refl;
+    ready = ready;
+  }
 
   module _ {S : Type 0} (store_faults store_calls : S → ℕ) (out : S → ℕ → ℕ → Bool) (ring ring_now : Ring) (w after : AllNodes V)
       (stores stores_now : MutBor S) (request : Request) where

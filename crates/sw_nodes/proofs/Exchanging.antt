@@ -14,6 +14,7 @@ use Rattle.sw_lossy.specs.declared.acts.Acts.{Acts}
 use Rattle.sw_message.specs.declared.response.ReplyBody.TheVariants.{Whole}
 use Rattle.sw_message.specs.declared.response.Response.{Response}
 use Rattle.sw_object_server.specs.Replies.{bare}
+use Rattle.sw_object_steps.specs.Journals.{Hash}
 use Rattle.sw_outside.specs.declared.errors.NoMemory.{NoMemory}
 use Rattle.sw_pass.specs.declared.outcome.Outcome.{Outcome}
 use Rattle.sw_peer.specs.Sights.{Sight}

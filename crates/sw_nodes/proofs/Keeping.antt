@@ -11,8 +11,8 @@ use Rattle.sw_hashpath.specs.declared.name.Name.{Name}
 use Rattle.sw_hashpath.specs.declared.place.Place.{Place}
 use Rattle.sw_listing.specs.declared.entry.Entry.{Entry}
 use Rattle.sw_listing.specs.declared.query.Query.{Query}
-use Rattle.sw_machine.proofs.Doors.{change-goes, cont-change-goes, files-goes-on, hashes-goes-on, info-goes-on, listed-goes-on, listing-goes-on}
-use Rattle.sw_machine.proofs.Doors.{read-goes-on, restart-goes-on, runs-join, same-goes}
+use Rattle.sw_machine.proofs.Doors.{container-changes, device-listings, files-reads, hashes-reads, infos, listings, object-changes, object-reads, restarts}
+use Rattle.sw_machine.proofs.Going.{runs-join, same-goes}
 use Rattle.sw_machine.specs.Doors.{RunsOn}
 use Rattle.sw_object_steps.specs.declared.answer.Answer.{Answer}
 use Rattle.sw_object_steps.specs.declared.change.Change.{Change}
@@ -36,10 +36,10 @@ pub runs-itself : (s : Sight) → RunsOn s s
 runs-itself s = runs-same s s (same-refl s)
 
 pub listed-runs : (device : ℕ) (failed : Bool) (s t : Sight) → IsListed device failed s t → RunsOn s t
-listed-runs device failed s t listed m stands = (_, listed-goes-on device failed s t m stands listed)
+listed-runs device failed s t listed m stands = (_, device-listings device failed s t m stands listed)
 
 pub restart-runs : (device : ℕ) (s t : Sight) → t.alone ≡ true → Restarts device s t → RunsOn s t
-restart-runs device s t alone restarts m stands = (_, restart-goes-on device s t m stands alone restarts)
+restart-runs device s t alone restarted m stands = (_, restarts device s t m stands alone restarted)
 
 -- ---- what is kept
 
@@ -89,7 +89,7 @@ change-keeps device name change = call-keeps (IsMade Local device name change) (
   nodes = made.moves.nodes;
   alone = made.moves.alone;
   calm = calm-trails s t _ _ refl made.trail;
-  runs = λ alone m stands. let goes = change-goes Local device name change s x t m stands alone (λ is. cc) made in (goes.0, goes.2);
+  runs = λ alone m stands. let goes = (object-changes device name change).one Local s x t m stands alone (λ added is. cc) made in (goes.0, goes.2);
 })
 
 pub read-keeps : (device : ℕ) (name : Name) (s : Sight) (got : Got) (t : Sight) → Calls (IsRead Local device name) s Local (Ok got) t → Keeps s t
@@ -97,7 +97,7 @@ read-keeps device name = call-keeps (IsRead Local device name) (λ s x t made. r
   nodes = made.moves.nodes;
   alone = made.moves.alone;
   calm = calm-trails s t _ _ refl made.trail;
-  runs = λ alone m stands. let goes = read-goes-on Local device name s x t m stands alone made in (goes.0, goes.2);
+  runs = λ alone m stands. let goes = (object-reads device name).one Local s x t m stands alone made in (goes.0, goes.2);
 })
 
 pub hashes-keeps : (device part : ℕ) (s : Sight) (got : Result (Vec SuffixHash Global) DirFault) (t : Sight)
@@ -106,7 +106,7 @@ hashes-keeps device part = call-keeps (IsHashesRead Local device part) (λ s x t
   nodes = made.moves.nodes;
   alone = made.moves.alone;
   calm = calm-trails s t _ _ refl made.trail;
-  runs = λ alone m stands. let goes = hashes-goes-on Local device part s x t m stands alone made in (goes.0, goes.2);
+  runs = λ alone m stands. let goes = (hashes-reads device part).one Local s x t m stands alone made in (goes.0, goes.2);
 })
 
 pub files-keeps : (device part suffix : ℕ) (s : Sight) (got : Result (Vec DirLine Global) DirFault) (t : Sight)
@@ -115,7 +115,7 @@ files-keeps device part suffix = call-keeps (IsFilesRead Local device part suffi
   nodes = made.moves.nodes;
   alone = made.moves.alone;
   calm = calm-trails s t _ _ refl made.trail;
-  runs = λ alone m stands. let goes = files-goes-on Local device part suffix s x t m stands alone made in (goes.0, goes.2);
+  runs = λ alone m stands. let goes = (files-reads device part suffix).one Local s x t m stands alone made in (goes.0, goes.2);
 })
 
 pub cont_change-keeps : (device : ℕ) (place : Place) (change : ContChange) (s : Sight) (answer : ContAnswer) (t : Sight)
@@ -124,7 +124,7 @@ cont_change-keeps device place change = call-keeps (IsContMade Local device plac
   nodes = made.moves.nodes;
   alone = made.moves.alone;
   calm = calm-trails s t _ _ refl made.trail;
-  runs = λ alone m stands. let goes = cont-change-goes Local device place change s x t m stands alone (λ entries is. cc) made in (goes.0, goes.2);
+  runs = λ alone m stands. let goes = (container-changes device place change).one Local s x t m stands alone (λ added is. cc) made in (goes.0, goes.2);
 })
 
 pub inform-keeps : (device : ℕ) (place : Place) (s : Sight) (told : Result Info ContAnswer) (t : Sight)
@@ -133,7 +133,7 @@ inform-keeps device place = call-keeps (IsLooked Local device place info_of (λ 
   nodes = made.moves.nodes;
   alone = made.moves.alone;
   calm = calm-trails s t _ _ refl made.trail;
-  runs = λ alone m stands. let goes = info-goes-on Local device place s x t m stands alone made in (goes.0, goes.2);
+  runs = λ alone m stands. let goes = (infos device place).one Local s x t m stands alone made in (goes.0, goes.2);
 })
 
 pub list-keeps : (device : ℕ) (place : Place) (query : Query) (s : Sight) (listed : Result (List Entry) ContAnswer) (t : Sight)
@@ -143,5 +143,5 @@ list-keeps device place query =
       nodes = made.moves.nodes;
       alone = made.moves.alone;
       calm = calm-trails s t _ _ refl made.trail;
-      runs = λ alone m stands. let goes = listing-goes-on Local device place query s x t m stands alone made in (goes.0, goes.2);
+      runs = λ alone m stands. let goes = (listings device place query).one Local s x t m stands alone made in (goes.0, goes.2);
     })

@@ -1,6 +1,7 @@
-use Rattle.std.proofs.Common.{ap, subst}
+use Rattle.std.proofs.Common.{ap, subst, inl, inr, refl}
 use Rattle.sw_control.specs.Asking.{IsControl, IsPlaced}
-use Rattle.sw_nodes.proofs.Controlling.{came_again, files_listed, push_ready, stayed_away, was_pushed}
+use Rattle.sw_nodes.proofs.Controlling.{came_again, done_nothing, files_listed, push_ready, stayed_away, trail_told, was_pushed}
+use Rattle.sw_control.specs.declared.asking.Control.TheVariants as controls
 use Rattle.sw_nodes.proofs.server.Nodes.control.Goals as goal
 
 pub returns-in-Ok-Files-clause-served : goal.returns-in-Ok-Files-clause-served
@@ -47,3 +48,25 @@ returns-in-Ok-Replicate-clause-ready g c =
     c.in-Ok-Replicate.asked c.replicate.result
     (subst (IsControl c.args.self.now.ring.now c.args.request.now) c.in-Ok-Replicate.field-0-is c.in-Ok-Replicate.ensures.exact)
     (ap (λ r. r.now) c.replicate.ensures.same.0) c.replicate.ensures.same.1 c.requires.ready c.replicate.ensures.replicated
+
+pub returns-in-Ok-Trail-clause-served : goal.returns-in-Ok-Trail-clause-served
+returns-in-Ok-Trail-clause-served g c =
+    done_nothing g.S.V.Volume.tells g.S.V.Volume.holds g.S.V.Volume.faults g.S.Stores.faults g.S.Stores.calls g.S.Stores.out c.args.self.now.ring.now
+    c.args.self.now.network.door c.args.self.now.stores c.args.request.now c.args._now c.or_wanting.result c.requires.control c.requires.ready
+    (trail_told g.S.V.Volume.tells g.S.V.Volume.holds g.S.V.Volume.faults c.args.self.now.ring.now c.args.self.now.network.door c.args.request.now
+    c.trail.result c.or_wanting.result
+    (subst (IsControl c.args.self.now.ring.now c.args.request.now) c.in-Ok-Trail.field-0-is c.in-Ok-Trail.ensures.exact)
+    c.trail.ensures c.or_wanting.ensures.ok c.or_wanting.ensures.err)
+
+pub returns-in-Ok-Refused-clause-served : goal.returns-in-Ok-Refused-clause-served
+returns-in-Ok-Refused-clause-served g c =
+    done_nothing g.S.V.Volume.tells g.S.V.Volume.holds g.S.V.Volume.faults g.S.Stores.faults g.S.Stores.calls g.S.Stores.out c.args.self.now.ring.now
+    c.args.self.now.network.door c.args.self.now.stores c.args.request.now c.args._now c.bare.result c.requires.control c.requires.ready
+    (inl (controls.Refused, subst (IsControl c.args.self.now.ring.now c.args.request.now) c.in-Ok-Refused.field-0-is c.in-Ok-Refused.ensures.exact,
+    (refl, c.bare.ensures)))
+
+pub returns-in-Err-clause-served : goal.returns-in-Err-clause-served
+returns-in-Err-clause-served g c =
+    done_nothing g.S.V.Volume.tells g.S.V.Volume.holds g.S.V.Volume.faults g.S.Stores.faults g.S.Stores.calls g.S.Stores.out c.args.self.now.ring.now
+    c.args.self.now.network.door c.args.self.now.stores c.args.request.now c.args._now c.bare-in-Err.result c.requires.control c.requires.ready
+    (inr (refl, c.bare-in-Err.ensures))
