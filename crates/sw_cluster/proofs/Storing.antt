@@ -1,8 +1,9 @@
 -- What the files of a world's volumes stand for where they rest.
-use Rattle.std.proofs.Common.{◌≡◌, ℕ, ◌+◌, ◌-◌, ◌*◌, ◌/◌, ◌%◌, ◌^◌, ◌<◌, ◌≤◌, Bool, true, ◌&&◌, List, length, arith, Option, Some, None}
+use Rattle.std.proofs.Common.{◌≡◌, ℕ, ◌+◌, ◌-◌, ◌*◌, ◌/◌, ◌%◌, ◌^◌, ◌<◌, ◌≤◌, Bool, true, ◌&&◌, List, ◌++◌, length, arith, Option, Some, None}
 use Rattle.std.proofs.Common.{refl, sym, ◌∙◌, ap, subst, ◌⊎◌, inl, inr}
 use Rattle.std.specs.List.{All, slice_get}
-use Rattle.std.proofs.lemmas.Option.{slice_get_within}
+use Rattle.std.proofs.lemmas.List.Elements.{All-get_or}
+use Rattle.std.proofs.lemmas.Option.{get_or_from_slice_get, slice_get_within}
 use Rattle.std.proofs.lemmas.Bool.{cases_lt}
 use Rattle.std.proofs.lemmas.Nat.{div-mul-add, mod-mul-add, pow_pos, rows}
 use Rattle.sw_hashpath.specs.HashParts.{partition_of}
@@ -19,7 +20,6 @@ use Rattle.sw_stores.specs.Places.{at_place}
 use Rattle.sw_stores.specs.Volumes.{AreResting}
 use Rattle.sw_volume.specs.Tree.{Folders}
 use Rattle.sw_core.proofs.Placed.{stripe-below}
-use Rattle.sw_core.proofs.Keeping.{all-at}
 use Rattle.sw_core.proofs.Wholes.{open-at}
 use Rattle.sw_machine.proofs.Runs.{hashes-stand}
 use Rattle.sw_machine.specs.Machine.{KnownWrite, Machine, RunLine, Runs, machine_of, writes_among, writes_at}
@@ -38,9 +38,6 @@ use Rattle.sw_nodes.specs.Nodes.{places_at}
 pub same-devices : (lifted : Option ℕ) (devices n : ℕ) → lifted ≡ None → shown lifted devices ≡ n → devices ≡ n
 same-devices lifted devices n whole is = sym (ap (λ (o : Option ℕ). shown o devices) whole) ∙ is
 
-some-is : {A : Type 0} {x y : A} → Some x ≡ Some y → x ≡ y
-some-is is = cc
-
 module _ {V : Type 0} (tells : V → Bool) (files : V → Folders) (faults : V → ℕ) (ring : Ring) where
   lock-same : (w : AllNodes V) → w.lock_bits ≡ ring.lock_bits → w.power ≡ ring.power → (device : ℕ) (hash : Hash)
       → lock_of w.lock_bits w.power device hash ≡ lock_of ring.lock_bits ring.power device hash
@@ -57,8 +54,8 @@ module _ {V : Type 0} (tells : V → Bool) (files : V → Folders) (faults : V �
 
   pub all-tell-on : (w : AllNodes V) → All (SlotTellsOn tells files faults) w.slots → AllTellOn w
   all-tell-on w all l k at =
-      let found = all-at (SlotTellsOn tells files faults) w.slots l all (slice_get_within w.slots l (slots.Open k) at) in
-      subst (SlotTellsOn tells files faults) (some-is (sym found.1 ∙ at)) found.2
+      subst (SlotTellsOn tells files faults) (get_or_from_slice_get w.slots l (slots.Open k) (slots.Open k) at)
+      (All-get_or (SlotTellsOn tells files faults) w.slots l (slots.Open k) (slice_get_within w.slots l (slots.Open k) at) all)
 
   abbrev ring_nodes : SightNodes
   ring_nodes = nodes_of (length ring.devices) ring.lock_bits ring.power ring.secrets
@@ -105,8 +102,8 @@ module _ {V : Type 0} (tells : V → Bool) (files : V → Folders) (faults : V �
             under : (d n s b : ℕ) → d < n → s < b → d * b + s < n * b
             under d n s b h g = grind (arith, rows)
 
-        abbrev Is : State → Type 0
-        Is s = s ≡ state_of (writes_of ((see began).objects.holds device hash).state ++ writes_at machine device hash)
+        all : State
+        all = state_of (writes_of ((see began).objects.holds device hash).state ++ writes_at machine device hash)
 
         by : (k : Kept V) × (slice_get w.slots (lock_of ring.lock_bits ring.power device hash) ≡ Some (slots.Open k)) × (k.secrets ≡ w.secrets) ×
             (k.power ≡ w.power)
@@ -131,8 +128,8 @@ module _ {V : Type 0} (tells : V → Bool) (files : V → Folders) (faults : V �
               stands = λ told.
                   let stands = hash-stands device hash told in
                   let is_told : is_told tells files faults there.0 ≡ true = ap (λ (h : ObjHistory). h.told) seen ∙ stands.0 in
-                  subst (λ (s : _). Is (holds s ring.power (files there.0.volume) hash)) secrets
-                  (subst (λ (p : ℕ). Is (holds there.0.secrets p (files there.0.volume) hash)) power
+                  subst (λ (s : _). holds s ring.power (files there.0.volume) hash ≡ all) secrets
+                  (subst (λ (p : ℕ). holds there.0.secrets p (files there.0.volume) hash ≡ all) power
                   (sym (held-told tells files faults there.0 hash is_told) ∙ (ap (λ (v : ObjValue). v.state) held ∙ stands.1)));
               order = λ told.
                   let is_told : is_told tells files faults there.0 ≡ true =
