@@ -31,7 +31,8 @@ keeps-trans a b c p q = record { alone = λ x. p.alone (q.alone x); held = λ x 
 
 -- ---- a read at the device itself
 
-module _ {A : Type 0} (device part : ℕ) (at : Nodes → Hash → Bool) (reading : Nodes → Bool → (Hash → State) → A → Type 0) (read : Result A DirFault → PartRead) where
+module _ {A : Type 0} (device part : ℕ) (at : Nodes → Hash → Bool) (reading : Nodes → Bool → (Hash → State) → A → Type 0)
+    (read : Result A DirFault → PartRead) where
   abbrev Step : Sight → Result A DirFault → Sight → Type 0
   Step = IsPartRead Local device part at false reading read
 

@@ -181,7 +181,8 @@ module _ (to : ℕ) (name : Name) (w : Write) where
       let rest : Moves (IsAt to name.hash) mid t = comes-moves (Moves (IsAt to name.hash)) Transfers (made-step Sent to name (Receive w)) mid xs t p.2 in
       let told_mid : (mid.objects.seen l).told ≡ true = sym (rest.objects.grows l).told ∙ told in
       joins-trans (state_at s to name.hash) (state_at mid to name.hash) (state_at t to name.hash)
-      (joins_after mid.alone (s.objects.seen l) (s.objects.holds to) x (mid.objects.seen l) (mid.objects.holds to name.hash) p.1.step told_mid (rest.alone alone))
+      (joins_after mid.alone (s.objects.seen l) (s.objects.holds to) x (mid.objects.seen l) (mid.objects.holds to name.hash) p.1.step told_mid
+      (rest.alone alone))
       (comes-join mid xs t p.2 alone (subst (λ (k : Nodes). (t.objects.seen (k.lock to name.hash)).told ≡ true) (sym p.1.moves.nodes) told))
 
   lock_told : (part : ℕ) (s t : Sight) → IsOfPart s.nodes.power part name.hash → t.nodes ≡ s.nodes → (known t to part).told ≡ true
@@ -193,7 +194,8 @@ module _ (to : ℕ) (name : Name) (w : Write) where
   pub made-joins : (part : ℕ) (s : Sight) (answer : Answer) (t : Sight) → IsOfPart s.nodes.power part name.hash → Calls Transfers s Sent (Ok answer) t
       → t.alone ≡ true → (known t to part).told ≡ true → Joins (state_at s to name.hash) (state_at t to name.hash)
   made-joins part s answer t is p alone told =
-      let moves : Moves (IsAt to name.hash) s t = calls-moves (Moves (IsAt to name.hash)) Transfers (made-step Sent to name (Receive w)) s Sent (Ok answer) t p in
+      let moves : Moves (IsAt to name.hash) s t =
+      calls-moves (Moves (IsAt to name.hash)) Transfers (made-step Sent to name (Receive w)) s Sent (Ok answer) t p in
       comes-join s (p.0 ++ answer ∷ []) t p.2 alone (lock_told part s t is moves.nodes told)
 
   pub made-holds : (part : ℕ) (s : Sight) (answer : Answer) (t : Sight) → IsOfPart s.nodes.power part name.hash → Calls Transfers s Sent (Ok answer) t
