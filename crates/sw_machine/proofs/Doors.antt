@@ -94,7 +94,8 @@ object-changes device name change =
     line link answer = obj_line device link (Changed name change answer)
 
     at : (link : Link) (s : Sight) (answer : Answer) (t : Sight) (m : Machine) → StandsFor s m
-        → ((added : List ObjEntry) → WasSent m.sent (line link answer added)) → IsMade link device name change s answer (said t true) → GoesOnBy s m (line link answer) (is_wanting answer) (said t true)
+        → ((added : List ObjEntry) → WasSent m.sent (line link answer added)) → IsMade link device name change s answer (said t true)
+        → GoesOnBy s m (line link answer) (is_wanting answer) (said t true)
     at link s answer t m stands sent made =
         by-trail s (said t true) m stands made.moves.nodes
         (at_objects s t m (m.objects.known ++ map (λ n. (device, n)) (made_writes name made.step.made)))

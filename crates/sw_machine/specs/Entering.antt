@@ -97,3 +97,14 @@ LinesTellPlaces = (nodes : Nodes) (m : Machine) (lines : List RunLine) (after : 
     → doubts_about cont_rules place (after.containers.half.seen (cont_lock nodes device place)).journal.doubts ≡ []
     → after.containers.half.holds device place
     ≡ fold entered (m.containers.half.holds device place) (about cont_rules place (cont_entered nodes (cont_lock nodes device place) lines))
+
+-- A lock that had no doubts, and has counted no fault at the end, has none: so nothing failed there
+abbrev pub HashesCalm : Type 0
+HashesCalm = (nodes : Nodes) (m : Machine) (lines : List RunLine) (after : Machine) → Runs nodes m lines after → (device : ℕ) (hash : Hash)
+    → (m.objects.half.seen (nodes.lock device hash)).journal.doubts ≡ [] → (after.objects.half.seen (nodes.lock device hash)).faults ≡ 0
+    → (after.objects.half.seen (nodes.lock device hash)).journal.doubts ≡ []
+
+abbrev pub PlacesCalm : Type 0
+PlacesCalm = (nodes : Nodes) (m : Machine) (lines : List RunLine) (after : Machine) → Runs nodes m lines after → (device : ℕ) (place : Place)
+    → (m.containers.half.seen (cont_lock nodes device place)).journal.doubts ≡ [] → (after.containers.half.seen (cont_lock nodes device place)).faults ≡ 0
+    → (after.containers.half.seen (cont_lock nodes device place)).journal.doubts ≡ []

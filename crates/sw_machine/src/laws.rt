@@ -2,7 +2,7 @@
 
 ghost use Rattle.sw_machine.specs.Doors.{ContainerChangesGoOn, DeviceListingsGoOn, FilesReadsGoOn, GoingOnJoins, HashesReadsGoOn, InfosGoOn, ListingsGoOn};
 ghost use Rattle.sw_machine.specs.Doors.{ObjectChangesGoOn, ObjectReadsGoOn, RestartsGoOn, RunsOnJoin, SameGoesOn, SendingGoesOn, TimesGoOn, WriteReadsGoOn};
-ghost use Rattle.sw_machine.specs.Entering.{JournalsGrow, LinesTellHashes, LinesTellPlaces};
+ghost use Rattle.sw_machine.specs.Entering.{HashesCalm, JournalsGrow, LinesTellHashes, LinesTellPlaces, PlacesCalm};
 ghost use Rattle.sw_machine.specs.Laws.{HashesAreTold, HashesMayStand, HashesStand, MessagesWereSent, PlacesAreTold, PlacesMayStand, RowsAreMerged};
 ghost use Rattle.sw_machine.specs.Laws.{RunKeepsTheGreatest, RunSends, RunsJoin};
 
@@ -42,6 +42,12 @@ pub fn journals_grow()
 pub fn lines_tell()
     ensures objects { LinesTellHashes }
     ensures containers { LinesTellPlaces }
+{}
+
+/// A lock that had no doubts, and has counted no fault at the end, has none.
+pub fn no_faults_no_doubts()
+    ensures objects { HashesCalm }
+    ensures containers { PlacesCalm }
 {}
 
 /// What came in a message had been sent.
