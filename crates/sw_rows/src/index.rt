@@ -79,6 +79,17 @@ impl Index {
         }
     }
 
+    /// The row of this name, with its number.
+    pub(crate) fn find(&self, name: &[u8]) -> Option<(u64, &Row)>
+        ensures number { option_map (λ f. f.0) result ≡ number_named self.now name.now }
+        ensures row { option_map (λ f. f.1.now) result ≡ find_named self.now name.now }
+    {
+        match self.names.get(name) {
+            Some(held) => Some((held.rowid, &*held.row)),
+            None => None,
+        }
+    }
+
     /// How many rows there are.
     pub(crate) fn len(&self) -> usize
         ensures value { result ≡ length self.now }

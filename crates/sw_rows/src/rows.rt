@@ -1,9 +1,9 @@
 ghost use Rattle.std.specs.Prelude.{◌≡◌, ◌<◌, ◌≤◌, ◌^◌, ◌-◌, ◌++◌, ◌∷◌, [], All, max, true, IsTrue, IfOk, OnOk, OnErr};
 ghost use Rattle.std.specs.Arc.{arc_value};
-ghost use Rattle.std.specs.Option.{option_copied};
+ghost use Rattle.std.specs.Option.{option_copied, option_map};
 ghost use Rattle.sw_rows.specs.Left.{rows_left};
 ghost use Rattle.sw_rows.specs.Names.{ListsBetween};
-ghost use Rattle.sw_rows.specs.Rows.{can_restore, find_named, fits, merged, no_rows, no_rows_at, number_named, restored, without, IsListed, IsRising};
+ghost use Rattle.sw_rows.specs.Rows.{can_restore, find_named, fits, merged, no_rows, no_rows_at, number_named, restored, with_row, without, IsListed, IsRising};
 ghost use Rattle.sw_rows.specs.Sums.{bytes_of, count_of, hash_of};
 
 use crate::index::Index;
@@ -98,8 +98,20 @@ impl Rows {
         if !self.takes(&row) {
             return Ok(false);
         }
-        self.put(alloc, self.top + 1, Arc::new(alloc, row)?)?;
+        self.replace(alloc, row)?;
         Ok(true)
+    }
+
+    /// Puts a row that would be put in ([`Rows::takes`]) in place of the one of its name, under the next number.
+    ///
+    /// After [`NoMemory`] the rows are what they were.
+    pub fn replace(&mut self, alloc: Global, row: Row) -> Result<(), NoMemory>
+        requires fits { IsTrue (fits (find_named self.old.list row.name) row) }
+        requires room { self.old.top < 2 ^ 64 - 1 }
+        ensures rows { OnOk result (self.new ≡ with_row self.old row) }
+        ensures err { OnErr result (self.new ≡ self.old) }
+    {
+        self.put(alloc, self.top + 1, Arc::new(alloc, row)?)
     }
 
     /// Puts the row behind all others under this number, and takes away the one that had its name.
@@ -142,6 +154,14 @@ impl Rows {
         ensures { result ≡ number_named self.now.list name.now }
     {
         self.index.number_of(name)
+    }
+
+    /// The row of this name, deleted or not, with its number (ROWID): one search for both.
+    pub fn find(&self, name: &[u8]) -> Option<(u64, &Row)>
+        ensures number { option_map (λ f. f.0) result ≡ number_named self.now.list name.now }
+        ensures row { option_map (λ f. f.1.now) result ≡ find_named self.now.list name.now }
+    {
+        self.index.find(name)
     }
 
     /// All rows with their numbers, in the order of these.
