@@ -63,7 +63,8 @@ not_less a b below less = let not_lt : nat_lt a b ≡ false = le-ltb a b (omega 
     at false is = cc
 
 -- a row under a number above all others is put behind them
-pub insert-above : (es : List (ℕ × Arc Row Global)) (k : ℕ) (row : Arc Row Global) → All (λ n. n.rowid < k) (rows_of es) → insert_entry nat_cmp es k row ≡ es ++ (k, row) ∷ []
+pub insert-above : (es : List (ℕ × Arc Row Global)) (k : ℕ) (row : Arc Row Global) → All (λ n. n.rowid < k) (rows_of es) →
+    insert_entry nat_cmp es k row ≡ es ++ (k, row) ∷ []
 insert-above [] k row above = refl
 insert-above (e ∷ es) k row above =
     let P : Numbered → Type 0 = λ n. n.rowid < k in

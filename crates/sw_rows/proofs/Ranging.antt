@@ -111,7 +111,8 @@ pub named-range : (list : List Numbered) (m : BTreeMap (Vec ℕ Global) Held) (l
     AreNames list m.entries → All (IsEntryInRange by_items (Included lower) (Excluded upper) m) es → AreNamed es
 named-range list m lower upper es are all =
     are-named list m.entries are es
-    (All-weaker (IsEntryInRange by_items (Included lower) (Excluded upper) m) (λ e. lookup (is_at (name_cmp e.0.items)) m.entries ≡ Some e.1) (λ e h. h.1) es all)
+    (All-weaker (IsEntryInRange by_items (Included lower) (Excluded upper) m) (λ e. lookup (is_at (name_cmp e.0.items)) m.entries ≡ Some e.1)
+    (λ e h. h.1) es all)
 
 exact-between : (list : List Numbered) (names : List (Vec ℕ Global × Held)) (lower upper : Vec ℕ Global) → AreNames list names →
     AreNamed (entries_between by_items (Included lower) (Excluded upper) names) → (name : List ℕ) →

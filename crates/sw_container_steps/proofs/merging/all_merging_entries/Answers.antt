@@ -8,7 +8,8 @@ use Rattle.sw_container_steps.specs.declared.cont_entry.ContEntry.{ContEntry}
 use Rattle.sw_container_steps.specs.declared.cont_entry.ContEntry.TheVariants.{Merged}
 use Rattle.sw_container_steps.proofs.Over.{kept-none, kept-passed, kept-taken}
 use Rattle.sw_container_steps.proofs.merging.all_merging_entries.Goals as goal
-use Rattle.sw_container_steps.proofs.merging.all_merging_entries.Goals.{then-is_taken+in_ok-copy+in_ok-copy-2+in_ok-push+in_ok-copy-3+in_ok-merge, else-is_taken}
+use Rattle.sw_container_steps.proofs.merging.all_merging_entries.Goals.{then-is_taken+in_ok-copy+in_ok-copy-2+in_ok-push+in_ok-copy-3+in_ok-merge}
+use Rattle.sw_container_steps.proofs.merging.all_merging_entries.Goals.{else-is_taken}
 
 pub loop-row-init : goal.loop-row-init
 loop-row-init c =

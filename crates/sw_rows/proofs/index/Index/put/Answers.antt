@@ -32,9 +32,11 @@ invariant_of-self-in-Ok-Some c =
     let named : key.items ≡ n.row.name = c.in_ok-name.ensures.items ∙ c.as_slice.ensures ∙ ap (λ (r : Row). r.name) c.deref.ensures in
     let held : Held = record { rowid = c.args.rowid; row = c.in_ok-try_clone.field-0 } in
     let found : find (is_named n.row.name) list ≡ Some (numbered_of c.in-Ok-Some.old) =
-    sym (led-to list c.self.inside.names.entries key n.row.name (Some c.in-Ok-Some.old) c.self.invariant named (sym c.in-Ok-Some.field-0-is ∙ c.in-Ok-Some.ensures.old)) in
+    sym (led-to list c.self.inside.names.entries key n.row.name (Some c.in-Ok-Some.old) c.self.invariant named
+    (sym c.in-Ok-Some.field-0-is ∙ c.in-Ok-Some.ensures.old)) in
     let over : Over list n c.in-Ok-Some.old.rowid =
-    pushed-over list n c.in-Ok-Some.old.rowid (numbered_of c.in-Ok-Some.old) c.in_ok-push.ensures.rising (once_all list c.args.self.now c.self.view_is c.requires.once)
+    pushed-over list n c.in-Ok-Some.old.rowid (numbered_of c.in-Ok-Some.old) c.in_ok-push.ensures.rising
+    (once_all list c.args.self.now c.self.view_is c.requires.once)
     (above_all list c.args.self.now c.args.rowid c.self.view_is c.requires.above) found refl in
     names_as (without n.row.name list ++ n ∷ []) c.cut.new.self c.insert.new.self.entries
     (c.cut.ensures.rows ∙ ap (λ (l : List Numbered). but l c.in-Ok-Some.old.rowid) c.in_ok-push.ensures.rows ∙ over.rest)
@@ -48,9 +50,11 @@ returns-in-Ok-Some-clause-old c =
     let key = c.in_ok-name.name in
     let named : key.items ≡ n.row.name = c.in_ok-name.ensures.items ∙ c.as_slice.ensures ∙ ap (λ (r : Row). r.name) c.deref.ensures in
     let found : find (is_named n.row.name) list ≡ Some (numbered_of c.in-Ok-Some.old) =
-    sym (led-to list c.self.inside.names.entries key n.row.name (Some c.in-Ok-Some.old) c.self.invariant named (sym c.in-Ok-Some.field-0-is ∙ c.in-Ok-Some.ensures.old)) in
+    sym (led-to list c.self.inside.names.entries key n.row.name (Some c.in-Ok-Some.old) c.self.invariant named
+    (sym c.in-Ok-Some.field-0-is ∙ c.in-Ok-Some.ensures.old)) in
     let over : Over list n c.in-Ok-Some.old.rowid =
-    pushed-over list n c.in-Ok-Some.old.rowid (numbered_of c.in-Ok-Some.old) c.in_ok-push.ensures.rising (once_all list c.args.self.now c.self.view_is c.requires.once)
+    pushed-over list n c.in-Ok-Some.old.rowid (numbered_of c.in-Ok-Some.old) c.in_ok-push.ensures.rising
+    (once_all list c.args.self.now c.self.view_is c.requires.once)
     (above_all list c.args.self.now c.args.rowid c.self.view_is c.requires.above) found refl in
     c.cut.ensures.gone ∙ ap (λ (l : List Numbered). row_numbered l c.in-Ok-Some.old.rowid) c.in_ok-push.ensures.rows ∙ over.gone
     ∙ ap (λ (l : List Numbered). find_named l n.row.name) c.self.view_is
@@ -62,9 +66,11 @@ returns-in-Ok-Some-clause-rows c =
     let key = c.in_ok-name.name in
     let named : key.items ≡ n.row.name = c.in_ok-name.ensures.items ∙ c.as_slice.ensures ∙ ap (λ (r : Row). r.name) c.deref.ensures in
     let found : find (is_named n.row.name) list ≡ Some (numbered_of c.in-Ok-Some.old) =
-    sym (led-to list c.self.inside.names.entries key n.row.name (Some c.in-Ok-Some.old) c.self.invariant named (sym c.in-Ok-Some.field-0-is ∙ c.in-Ok-Some.ensures.old)) in
+    sym (led-to list c.self.inside.names.entries key n.row.name (Some c.in-Ok-Some.old) c.self.invariant named
+    (sym c.in-Ok-Some.field-0-is ∙ c.in-Ok-Some.ensures.old)) in
     let over : Over list n c.in-Ok-Some.old.rowid =
-    pushed-over list n c.in-Ok-Some.old.rowid (numbered_of c.in-Ok-Some.old) c.in_ok-push.ensures.rising (once_all list c.args.self.now c.self.view_is c.requires.once)
+    pushed-over list n c.in-Ok-Some.old.rowid (numbered_of c.in-Ok-Some.old) c.in_ok-push.ensures.rising
+    (once_all list c.args.self.now c.self.view_is c.requires.once)
     (above_all list c.args.self.now c.args.rowid c.self.view_is c.requires.above) found refl in
     c.cut.ensures.rows ∙ ap (λ (l : List Numbered). but l c.in-Ok-Some.old.rowid) c.in_ok-push.ensures.rows ∙ over.rest
     ∙ ap (λ (l : List Numbered). without n.row.name l ++ n ∷ []) c.self.view_is
