@@ -1,7 +1,7 @@
-ghost use Rattle.std.specs.Prelude.{◌≡◌, ◌+◌, ◌-◌, ◌^◌, ◌≤◌, ◌<◌, ◌++◌, true, Some, None, IfOk, OnOk};
-ghost use Rattle.sw_container_steps.specs.Batches.{changes_of, row_changes};
+ghost use Rattle.std.specs.Prelude.{◌≡◌, ◌+◌, ◌-◌, ◌^◌, ◌≤◌, ◌<◌, ◌++◌, [], if◌then◌else◌, find, Some, None, IfOk};
+ghost use Rattle.sw_container_steps.specs.Batches.{changes_of, cut, row_changes};
 ghost use Rattle.sw_container_steps.specs.Entries.{entered, row_count, top_of};
-ghost use Rattle.sw_rows.specs.Rows.{find_named, fits, merged};
+ghost use Rattle.sw_rows.specs.Rows.{find_named, fits, is_named, merged};
 
 use crate::cont_entry::ContEntry;
 use std::alloc::Global;
@@ -110,22 +110,25 @@ fn enter_row(
     ensures rows { IfOk result (λ after. after ≡ merged rows row.now) }
     ensures changes { IfOk result (λ _. changes.new.items ≡ changes.old.items ++ row_changes rows row.now) }
 {
-    if rows.takes(row) {
-        replace(alloc, &rows, changes, row)?;
-        let _ = rows.merge(alloc, row.copy(alloc)?)?;
+    if displace(&rows, changes, row)? {
+        changes.push(Change::PutRow(row.copy(alloc)?, rows.top() + 1))?;
+        rows.replace(alloc, row.copy(alloc)?)?;
     }
     Ok(rows)
 }
 
-/// Adds the changes that put a row in place of the one of its name.
-fn replace(alloc: Global, rows: &Rows, changes: &mut Vec<Change>, row: &Row) -> Result<(), NoMemory>
-    requires room { rows.now.top < 2 ^ 64 - 1 }
-    requires fits { fits (find_named rows.now.list row.now.name) row.now ≡ true }
-    ensures { OnOk result (changes.new.items ≡ changes.old.items ++ row_changes rows.now row.now) }
+/// Whether a row is put in. Where one of its name is present, the change is added that cuts that one.
+fn displace(rows: &Rows, changes: &mut Vec<Change>, row: &Row) -> Result<bool, NoMemory>
+    ensures fits { IfOk result (λ put. put ≡ fits (find_named rows.now.list row.now.name) row.now) }
+    ensures changes { IfOk result (λ put. changes.new.items
+        ≡ changes.old.items ++ (if put then cut (find (is_named row.now.name) rows.now.list) else [])) }
 {
-    if let Some(rowid) = rows.number_of(row.name.as_slice()) {
-        changes.push(Change::CutRow(rowid))?;
+    match rows.find(row.name.as_slice()) {
+        Some((_, present)) if present.is_at_least(row) => Ok(false),
+        Some((rowid, _)) => {
+            changes.push(Change::CutRow(rowid))?;
+            Ok(true)
+        }
+        None => Ok(true),
     }
-    changes.push(Change::PutRow(row.copy(alloc)?, rows.top() + 1))?;
-    Ok(())
 }

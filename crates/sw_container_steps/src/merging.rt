@@ -1,4 +1,4 @@
-ghost use Rattle.std.specs.Prelude.{◌≡◌, ◌++◌, IfOk};
+ghost use Rattle.std.specs.Prelude.{◌≡◌, ◌++◌, ◌∷◌, [], IfOk};
 ghost use Rattle.std.specs.Option.{option_or};
 ghost use Rattle.sw_container_steps.specs.Entries.{rows_of};
 ghost use Rattle.sw_container_steps.specs.Steps.{merging_entries};
@@ -12,10 +12,42 @@ use sw_outside::NoMemory;
 use sw_rows::{Row, Rows};
 
 /// The entries of the rows that are put in, each over those before it, behind these entries.
-///
-/// What was put in before is kept beside the tables, so they needn't be copied. Its time grows with the number of rows there
-/// and with the square of the number of these rows.
 pub(crate) fn merging_entries(
+    alloc: Global,
+    entries: Vec<ContEntry>,
+    tables: &Option<Tables>,
+    place: &Place,
+    rows: &[Row],
+) -> Result<Vec<ContEntry>, NoMemory>
+    ensures { IfOk result (λ all. all.items ≡ entries.items ++ merging_entries (rows_of tables.now) place.now rows.now) }
+{
+    match rows {
+        [row] => merging_entry(alloc, entries, tables, place, row),
+        _ => all_merging_entries(alloc, entries, tables, place, rows),
+    }
+}
+
+/// The same of one row, which is looked for over the tables alone.
+fn merging_entry(
+    alloc: Global,
+    mut entries: Vec<ContEntry>,
+    tables: &Option<Tables>,
+    place: &Place,
+    row: &Row,
+) -> Result<Vec<ContEntry>, NoMemory>
+    ensures { IfOk result (λ all. all.items ≡ entries.items ++ merging_entries (rows_of tables.now) place.now (row.now ∷ [])) }
+{
+    if takes(tables, row) {
+        entries.push(ContEntry::Merged(place.copy(alloc)?, row.copy(alloc)?))?;
+    }
+    Ok(entries)
+}
+
+/// The same of any rows.
+///
+/// What was put in before is kept beside the tables, so they needn't be copied. Its time grows with the number of these rows,
+/// each of them with the logarithm of the number of rows there.
+fn all_merging_entries(
     alloc: Global,
     mut entries: Vec<ContEntry>,
     tables: &Option<Tables>,

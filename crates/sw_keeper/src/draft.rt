@@ -5,7 +5,7 @@ ghost use Rattle.sw_keeper.specs.declared.tables.Tables.{Tables};
 ghost use Rattle.sw_rows.specs.Rows.{is_numbered};
 
 use crate::batch::{Batch, Change};
-use crate::tables::Tables;
+use crate::kept::Kept;
 use std::alloc::Global;
 use sw_outside::NoMemory;
 use sw_rows::Numbered;
@@ -23,7 +23,7 @@ pub(crate) struct Draft {
 }
 
 /// The draft of a batch.
-pub(crate) fn draft_of(alloc: Global, tables: &Tables, batch: &Batch) -> Result<Draft, NoMemory>
+pub(crate) fn draft_of(alloc: Global, tables: &Kept, batch: &Batch) -> Result<Draft, NoMemory>
     requires { IsBatch (Some tables.now) batch.now }
     ensures is { IfOk result (λ draft. IsDraft tables.now draft) }
     ensures tables { IfOk result (λ draft. Some (drafted tables.now draft) ≡ all_changed (Some tables.now) batch.now) }
@@ -36,22 +36,21 @@ pub(crate) fn draft_of(alloc: Global, tables: &Tables, batch: &Batch) -> Result<
 }
 
 /// The draft of no changes. It takes no memory.
-fn begin(alloc: Global, tables: &Tables) -> Draft
+fn begin(alloc: Global, tables: &Kept) -> Draft
     ensures is { IsDraft tables.now result }
     ensures tables { drafted tables.now result ≡ tables.now }
 {
-    let _ = tables.rows.iter();
     Draft {
-        put_time: tables.put_time,
-        delete_time: tables.delete_time,
+        put_time: tables.put_time(),
+        delete_time: tables.delete_time(),
         numbers: Vec::new(alloc),
         rows: Vec::new(alloc),
-        top: tables.rows.top(),
+        top: tables.top(),
     }
 }
 
 /// The draft with a change more.
-fn add(alloc: Global, tables: &Tables, draft: &mut Draft, change: &Change) -> Result<(), NoMemory>
+fn add(alloc: Global, tables: &Kept, draft: &mut Draft, change: &Change) -> Result<(), NoMemory>
     requires is { IsDraft tables.now draft.old }
     requires fits { CanChange (Some (drafted tables.now draft.old)) change.now }
     ensures is { IfOk result (λ _. IsDraft tables.now draft.new) }
@@ -70,7 +69,7 @@ fn add(alloc: Global, tables: &Tables, draft: &mut Draft, change: &Change) -> Re
             draft.rows.push(Numbered { rowid: *rowid, row })?;
             draft.top = *rowid;
         }
-        Change::CutRow(rowid) if *rowid > tables.rows.top() => cut(&mut draft.rows, *rowid),
+        Change::CutRow(rowid) if *rowid > tables.top() => cut(&mut draft.rows, *rowid),
         Change::CutRow(rowid) => draft.numbers.push(*rowid)?,
     }
     Ok(())

@@ -13,6 +13,7 @@ mod batch;
 mod draft;
 mod keeper;
 mod keeper_error;
+mod kept;
 mod mem_keeper;
 mod order;
 mod shelf;

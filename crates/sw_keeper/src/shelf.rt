@@ -2,20 +2,19 @@ ghost use Rattle.std.specs.Prelude.{◌≡◌, Some, None, IfOk, OnOk, OnErr};
 ghost use Rattle.sw_keeper.specs.Changes.{IsBatch, all_changed, begun};
 
 use crate::batch::Batch;
-use crate::draft::{Draft, draft_of};
+use crate::draft::draft_of;
+use crate::kept::Kept;
 use crate::tables::Tables;
 use std::alloc::Global;
 use std::marker::Model;
 use sw_hashpath::Place;
 use sw_outside::NoMemory;
-use sw_rows::Rows;
-use sw_timestamp::Timestamp;
 
 /// The tables at one place. Contracts see the place and the tables.
 #[derive(Debug, Drop)]
 pub(crate) struct Shelf {
     place: Place,
-    tables: Tables,
+    kept: Kept,
 }
 
 impl Model for Shelf {
@@ -24,7 +23,7 @@ impl Model for Shelf {
 
     ghost Value = { Place × Tables };
 
-    ghost view = { λ s. (s.place, s.tables) };
+    ghost view = { λ s. (s.place, s.kept) };
 }
 
 impl Shelf {
@@ -34,11 +33,7 @@ impl Shelf {
     {
         Shelf {
             place,
-            tables: Tables {
-                put_time: Timestamp::from_units(0).unwrap(),
-                delete_time: None,
-                rows: Rows::empty(alloc),
-            },
+            kept: Kept::begun(alloc),
         }
     }
 
@@ -51,7 +46,7 @@ impl Shelf {
     pub(crate) fn tables(&self, alloc: Global) -> Result<Tables, NoMemory>
         ensures { IfOk result (λ tables. tables ≡ self.now.1) }
     {
-        self.tables.copy(alloc)
+        self.kept.tables(alloc)
     }
 
     /// Makes all changes of a batch, or none where memory runs out.
@@ -61,16 +56,7 @@ impl Shelf {
         ensures tables { OnOk result (Some self.new.1 ≡ all_changed (Some self.old.1) batch.now) }
         ensures err { OnErr result (self.new ≡ self.old) }
     {
-        let Draft {
-            put_time,
-            delete_time,
-            numbers,
-            rows,
-            top,
-        } = draft_of(alloc, &self.tables, batch)?;
-        self.tables.rows.exchange(alloc, &numbers, rows, top)?;
-        self.tables.put_time = put_time;
-        self.tables.delete_time = delete_time;
-        Ok(())
+        let draft = draft_of(alloc, &self.kept, batch)?;
+        self.kept.make(alloc, draft)
     }
 }

@@ -1,3 +1,4 @@
 pub mod Dates
 pub mod Json
 pub mod Laws
+pub mod Writing

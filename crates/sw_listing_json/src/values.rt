@@ -1,62 +1,88 @@
-ghost use Rattle.std.specs.Prelude.{◌≡◌, IfOk};
+ghost use Rattle.std.specs.Prelude.{◌≡◌, ◌++◌, ◌∷◌, [], decimal, OnOk};
 ghost use Rattle.std.specs.Str.{IsUtf8};
-ghost use Rattle.serde_json.specs.View.{view};
-ghost use Rattle.sw_listing_json.specs.Json.{IsEntryData, IsRowData, row_object, subdir_data};
+ghost use Rattle.json.specs.Token.{key, number, string};
+ghost use Rattle.sw_listing_json.specs.Json.{row_object, subdir_data};
+ghost use Rattle.sw_listing_json.specs.Writing.{Adds, AddsData, AddsEntry, AddsRow};
 
 use crate::dates::listed_time;
-use serde_json::{Value, json};
+use json::Writer;
 use std::alloc::{AllocError, Global};
 use std::str;
 use sw_listing::{Entry, Text};
 use sw_outside::NoMemory;
 use sw_rows::Row;
 
-/// The object that an entry is written as.
-pub(crate) fn entry_value(alloc: Global, entry: &Entry) -> Result<Value, NoMemory>
-    ensures { IfOk result (λ value. IsEntryData entry.now (view value)) }
+/// Writes the object of an entry.
+pub(crate) fn write_entry(alloc: Global, out: &mut Writer, entry: &Entry) -> Result<(), NoMemory>
+    ensures { OnOk result (AddsEntry entry.now out.old out.new) }
 {
     match entry {
-        Entry::Row(row) => row_value(alloc, row),
-        Entry::Subdir(text) => subdir_value(alloc, text),
+        Entry::Row(row) => write_row(alloc, out, row),
+        Entry::Subdir(text) => Ok(write_subdir(out, text)?),
     }
 }
 
-fn row_value(alloc: Global, row: &Row) -> Result<Value, NoMemory>
-    ensures { IfOk result (λ value. IsRowData row.now (view value)) }
+fn write_row(alloc: Global, out: &mut Writer, row: &Row) -> Result<(), NoMemory>
+    ensures { OnOk result (AddsRow row.now out.old out.new) }
 {
     let content_type = text_of(row.content_type.as_slice());
     let hash = hex::encode(alloc, row.etag)?;
     let time = listed_time(row.created_at);
     let name = text_of(row.name.as_slice());
-    Ok(row_object(
-        alloc,
+    write_object(
+        out,
         row.size,
         content_type,
         hash.as_str(),
         time.as_str(),
         name,
-    )?)
+    )?;
+    Ok(())
 }
 
-/// The object of these values.
-fn row_object(
-    alloc: Global,
+/// Writes the object of these values.
+fn write_object(
+    out: &mut Writer,
     size: u64,
     content_type: &str,
     hash: &str,
     date: &str,
     name: &str,
-) -> Result<Value, AllocError>
-    ensures { IfOk result (λ value. view value ≡ row_object size content_type.now hash.now date.now name.now) }
+) -> Result<(), AllocError>
+    ensures { OnOk result (AddsData (row_object size content_type.now hash.now date.now name.now) out.old out.new) }
 {
-    json!(in alloc; {"bytes": size, "content_type": content_type, "hash": hash, "last_modified": date, "name": name})
+    out.begin_object()?;
+    write_number(out, "bytes", size)?;
+    write_text(out, "content_type", content_type)?;
+    write_text(out, "hash", hash)?;
+    write_text(out, "last_modified", date)?;
+    write_text(out, "name", name)?;
+    out.end_object()?;
+    Ok(())
 }
 
-fn subdir_value(alloc: Global, text: &Text) -> Result<Value, NoMemory>
-    ensures { IfOk result (λ value. view value ≡ subdir_data text.now) }
+fn write_subdir(out: &mut Writer, text: &Text) -> Result<(), AllocError>
+    ensures { OnOk result (AddsData (subdir_data text.now) out.old out.new) }
 {
-    let subdir = text_of(text.as_slice());
-    Ok(json!(in alloc; {"subdir": subdir})?)
+    out.begin_object()?;
+    write_text(out, "subdir", text_of(text.as_slice()))?;
+    out.end_object()
+}
+
+/// Writes a member with a number.
+fn write_number(out: &mut Writer, name: &str, value: u64) -> Result<(), AllocError>
+    ensures { OnOk result (Adds (key name.now ∷ number (decimal value) ∷ []) out.old out.new) }
+{
+    out.key(name)?;
+    out.u64(value)
+}
+
+/// Writes a member with a text.
+fn write_text(out: &mut Writer, name: &str, value: &str) -> Result<(), AllocError>
+    ensures { OnOk result (Adds (key name.now ∷ string value.now ∷ []) out.old out.new) }
+{
+    out.key(name)?;
+    out.string(value)
 }
 
 /// The text that these bytes are.

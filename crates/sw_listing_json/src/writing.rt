@@ -1,10 +1,10 @@
-ghost use Rattle.std.specs.Prelude.{IfOk, map};
-ghost use Rattle.std.specs.List.{AllZip};
-ghost use Rattle.serde_json.specs.View.{view};
-ghost use Rattle.sw_listing_json.specs.Json.{IsEntryData, IsJson};
+ghost use Rattle.std.specs.Prelude.{◌≡◌, ◌∷◌, [], IfOk, OnOk};
+ghost use Rattle.json.specs.Token.{begin_array};
+ghost use Rattle.sw_listing_json.specs.Json.{IsJson};
+ghost use Rattle.sw_listing_json.specs.Writing.{AddsEntries};
 
-use crate::values::entry_value;
-use serde_json::Value;
+use crate::values::write_entry;
+use json::Writer;
 use std::alloc::Global;
 use sw_listing::{Entries, Entry};
 use sw_outside::{Bytes, NoMemory};
@@ -13,17 +13,19 @@ use sw_outside::{Bytes, NoMemory};
 pub fn to_json(alloc: Global, entries: &Entries) -> Result<Bytes, NoMemory>
     ensures { IfOk result (λ bytes. IsJson entries.now bytes) }
 {
-    let values = values_of(alloc, entries.as_slice())?;
-    Ok(Value::Array(values).to_vec(alloc)?.into())
+    let mut out = Writer::new(Vec::new(alloc));
+    out.begin_array()?;
+    write_entries(alloc, &mut out, entries.as_slice())?;
+    out.end_array()?;
+    Ok(out.into_inner().into())
 }
 
-/// The objects that entries are written as.
-fn values_of(alloc: Global, entries: &[Entry]) -> Result<Vec<Value>, NoMemory>
-    ensures { IfOk result (λ values. AllZip IsEntryData entries.now (map view values.items)) }
+/// Writes the objects of all entries.
+fn write_entries(alloc: Global, out: &mut Writer, entries: &[Entry]) -> Result<(), NoMemory>
+    ensures { OnOk result (AddsEntries entries.now out.old out.new) }
 {
-    let mut values = Vec::with_capacity(alloc, entries.len())?;
     for entry in entries {
-        values.push(entry_value(alloc, entry)?)?;
+        write_entry(alloc, out, entry)?;
     }
-    Ok(values)
+    Ok(())
 }

@@ -62,7 +62,7 @@ none_there : (o : Option Row) → is_none o ≡ true → o ≡ None
 none_there None is = refl
 none_there (Some row) is = cc
 
-same_listed : (a b : Listed) → a.list ≡ b.list → a.top ≡ b.top → a ≡ b
+pub same_listed : (a b : Listed) → a.list ≡ b.list → a.top ≡ b.top → a ≡ b
 same_listed a b list top =
     ap (λ (x : List Numbered). let l : Listed = record { list = x; top = a.top } in l) list
     ∙ ap (λ (t : ℕ). let l : Listed = record { list = b.list; top = t } in l) top

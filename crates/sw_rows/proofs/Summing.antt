@@ -9,15 +9,12 @@ use Rattle.std.proofs.lemmas.List.Elements.{All-filter, All-push, All-weaker}
 use Rattle.std.proofs.lemmas.List.Sums.{fold-append, sum_by-append, sum_by-cons, sum_by-le}
 use Rattle.std.proofs.lemmas.Nat.{xor_comm}
 use lib.Bits.{xor_self, xor_zero_l, xor_zero_r}
-use Rattle.sw_rows.specs.Index.{but, row_numbered}
-use Rattle.sw_rows.specs.Rows.{find_named, is_named, is_numbered, IsListed, IsNamedOnce, IsRising, Listed, without}
+use Rattle.sw_rows.specs.Rows.{find_named, is_named, IsListed, IsNamedOnce, Listed, without}
 use Rattle.sw_rows.specs.Running.{AreSums}
 use Rattle.sw_rows.specs.Sums.{count_of, hash_of, live_count, live_size, row_hash}
 use Rattle.sw_rows.specs.declared.numbered.Numbered.{Numbered}
 use Rattle.sw_rows.specs.declared.row.Row.{Row}
 use Rattle.sw_rows.specs.declared.sums.Sums.{Sums}
-use Rattle.sw_rows.proofs.Entries.{found_row}
-use Rattle.sw_rows.proofs.Latest.{Around, around, but-none}
 use Rattle.sw_rows.proofs.Merging.{rising-filter, rising-push}
 use Rattle.sw_rows.proofs.Named.{find-without, once-push, once-without, Parted, parted, without-none}
 
@@ -85,6 +82,10 @@ taken_at before after n =
 taken_from : (list rest before after : List Numbered) (n : Numbered) (gone : Row) → list ≡ before ++ n ∷ after → rest ≡ before ++ after → n.row ≡ gone →
     Taken list rest gone
 taken_from list rest before after n gone whole left is = rw (whole, left, ← is) (taken_at before after n)
+
+found_row : (o : Option Numbered) (row : Row) → option_map (λ n. n.row) o ≡ Some row → (n : Numbered) × (o ≡ Some n) × (n.row ≡ row)
+found_row None row found = cc
+found_row (Some n) row found = (n, refl, cc)
 
 taken : (list : List Numbered) (name : List ℕ) (gone : Row) → IsNamedOnce list → find_named list name ≡ Some gone → Taken list (without name list) gone
 taken list name gone once found =
@@ -180,48 +181,3 @@ listed-put l n top is positive above le given =
           (All-filter kept Q l.list (All-weaker P Q (λ x h. let b : x.rowid ≤ l.top = h in omega arith) l.list is.within)) given;
       once = once-push (without n.row.name l.list) n (once-without n.row.name l.list is.once) (find-without n.row.name l.list);
     }
-
--- ---- rows that come and go one by one
-
--- a row is put behind the others
-pub sums-push : (old with : Sums) (list : List Numbered) (n : Numbered) → AreSums old list → IsWith old with n.row → live_size n.row < 2 ^ 64 →
-    AreSums with (list ++ n ∷ [])
-sums-push old with list n are more one =
-    record {
-      count = omega (arith, are.count, more.count, count-push list n);
-      bytes = omega (arith, are.bytes, more.bytes, bytes-push list n);
-      hash = more.hash ∙ ap (λ (x : ℕ). bit_xor x (row_hash n.row)) are.hash ∙ sym (hash-push list n);
-      small = All-push (λ m. live_size m.row < 2 ^ 64) list n are.small one;
-    }
-
-cut_from : (list : List Numbered) (rowid : ℕ) (gone : Row) → IsRising 0 list → row_numbered list rowid ≡ Some gone → Taken list (but list rowid) gone
-cut_from list rowid gone rising found =
-    let some = found_row (find (is_numbered rowid) list) gone found in
-    let a : Around rowid list some.0 = around rowid 0 list some.0 rising some.1 in
-    taken_from list (but list rowid) a.before a.after some.0 gone a.whole a.rest some.2
-
-pub count-cut : (sums : Sums) (list : List Numbered) (rowid : ℕ) (gone : Row) → AreSums sums list → IsRising 0 list → Some gone ≡ row_numbered list rowid →
-    live_count gone ≤ sums.count
-count-cut sums list rowid gone are rising found = let t = cut_from list rowid gone rising (sym found) in omega (arith, are.count, t.count)
-
-pub bytes-cut : (sums : Sums) (list : List Numbered) (rowid : ℕ) (gone : Row) → AreSums sums list → IsRising 0 list → Some gone ≡ row_numbered list rowid →
-    live_size gone ≤ sums.bytes
-bytes-cut sums list rowid gone are rising found = let t = cut_from list rowid gone rising (sym found) in omega (arith, are.bytes, t.bytes)
-
--- the row of a number goes
-pub sums-cut : (old new : Sums) (list : List Numbered) (rowid : ℕ) (gone : Row) → AreSums old list → IsRising 0 list → Some gone ≡ row_numbered list rowid →
-    IsWithout old new gone → AreSums new (but list rowid)
-sums-cut old new list rowid gone are rising found less =
-    let t = cut_from list rowid gone rising (sym found) in
-    record {
-      count = omega (arith, are.count, less.count, t.count);
-      bytes = omega (arith, are.bytes, less.bytes, t.bytes);
-      hash = less.hash ∙ ap (λ (x : ℕ). bit_xor x (row_hash gone)) (are.hash ∙ t.hash) ∙ xor-twice (hash_of (but list rowid)) (row_hash gone);
-      small = All-filter (λ m. not (is_numbered rowid m)) (λ m. live_size m.row < 2 ^ 64) list are.small;
-    }
-
-pub sums-none : (sums : Sums) (list new : List Numbered) (rowid : ℕ) → AreSums sums list → None ≡ row_numbered list rowid → new ≡ but list rowid →
-    AreSums sums new
-sums-none sums list new rowid are none is =
-    let same : new ≡ list = is ∙ but-none rowid list (not_found (find (is_numbered rowid) list) (sym none)) in
-    rw same are

@@ -1,9 +1,8 @@
 -- Rows that are put in and taken away together. (This project's own.)
 use Rattle.std.specs.Prelude.{◌≡◌, ℕ, ◌<◌, List, [], ◌∷◌, ◌++◌, All, fold}
-use Rattle.sw_rows.specs.Index.{but, latest}
+use Rattle.sw_rows.specs.Index.{but}
 use Rattle.sw_rows.specs.Rows.{Listed}
 use Rattle.sw_rows.specs.declared.numbered.Numbered.{Numbered}
-use Rattle.sw_rows.specs.declared.exchange.Pushed.{Pushed}
 use Rattle.sw_rows.specs.declared.row.Row.{Row}
 
 -- the rows but those of these numbers
@@ -19,8 +18,8 @@ pub record Behind : Type 0 where
   pub list : List Numbered
   pub rows : List Numbered
 
--- these pushes, one after the other, made this list of that one
-abbrev pub IsLog : List Numbered → List Pushed → List Numbered → Type 0
+-- rows under these numbers, put behind the others one after the other, made this list of that one
+abbrev pub IsLog : List Numbered → List ℕ → List Numbered → Type 0
 IsLog base [] list = list ≡ base
-IsLog base (p ∷ ps) list = (row : Row) × (p.before ≡ latest base row.name) × All (λ n. n.rowid < p.rowid) base
-    × IsLog (base ++ record { rowid = p.rowid; row = row } ∷ []) ps list
+IsLog base (rowid ∷ rowids) list =
+    (row : Row) × All (λ n. n.rowid < rowid) base × IsLog (base ++ record { rowid = rowid; row = row } ∷ []) rowids list

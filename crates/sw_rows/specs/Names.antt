@@ -1,32 +1,25 @@
 -- Rows in byte order of their names. (This project's own.)
-use Rattle.std.specs.Prelude.{◌≡◌, ℕ, Bool, ◌&&◌, List, [], ◌∷◌, map, find, Option, None, Some, if◌then◌else◌, ⊤}
-use Rattle.std.specs.BTreeMap.{is_at}
+use Rattle.std.specs.Prelude.{◌≡◌, ℕ, Bool, ◌&&◌, List, [], ◌∷◌, map, find, Option, None, if◌then◌else◌, ⊤}
+use Rattle.std.specs.Arc.{arc_value}
 use Rattle.std.specs.Cmp.Lexicographic.{slice_cmp}
-use Rattle.std.specs.List.{filter_map}
 use Rattle.std.specs.List.Sorted.{IsStrictlySortedBy}
-use Rattle.std.specs.Map.{lookup}
 use Rattle.std.specs.Ordering.{is_le, is_lt, nat_cmp}
 use Rattle.std.specs.Str.{bytes_eq}
 use Rattle.std.specs.declared.alloc.Global.{Global}
 use Rattle.std.specs.declared.vec.Vec.{Vec}
 use Rattle.sw_rows.specs.Rows.{find_named}
+use Rattle.sw_rows.specs.declared.held.Held.{Held}
 use Rattle.sw_rows.specs.declared.numbered.Numbered.{Numbered}
 use Rattle.sw_rows.specs.declared.row.Row.{Row}
 
--- the rows of these numbers
-abbrev pub rows_named : List (ℕ × Row) → List (Vec ℕ Global × ℕ) → List Row
-rows_named entries names = filter_map (λ e. lookup (is_at (nat_cmp e.1)) entries) names
+-- the rows to which names lead
+abbrev pub rows_named : List (Vec ℕ Global × Held) → List Row
+rows_named names = map (λ e. arc_value e.1.row) names
 
--- each name has a row of that name under its number
-pub record HasRow (entries : List (ℕ × Row)) (e : Vec ℕ Global × ℕ) : Type 0 where
-  pub row : Row
-  pub there : lookup (is_at (nat_cmp e.1)) entries ≡ Some row
-  pub named : row.name ≡ e.0.items
-
--- so it is of all
-abbrev pub HaveRows : List (ℕ × Row) → List (Vec ℕ Global × ℕ) → Type 0
-HaveRows entries [] = ⊤
-HaveRows entries (e ∷ es) = HasRow entries e × HaveRows entries es
+-- each name leads to a row of that name
+abbrev pub AreNamed : List (Vec ℕ Global × Held) → Type 0
+AreNamed [] = ⊤
+AreNamed (e ∷ es) = ((arc_value e.1.row).name ≡ e.0.items) × AreNamed es
 
 -- a name lies at or above the one bound and below the other
 abbrev pub is_between : List ℕ → List ℕ → List ℕ → Bool

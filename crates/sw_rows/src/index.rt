@@ -1,44 +1,44 @@
-ghost use Rattle.std.specs.Prelude.{◌≡◌, ◌<◌, ◌≤◌, ◌^◌, ◌++◌, ◌∷◌, [], IfOk, OnOk, OnErr, All, false, length, nat_lt};
+ghost use Rattle.std.specs.Prelude.{◌≡◌, ◌<◌, ◌^◌, ◌++◌, ◌∷◌, [], IfOk, OnOk, OnErr, All, false, length, nat_lt};
+ghost use Rattle.std.specs.Arc.{arc_value};
 ghost use Rattle.std.specs.List.{list_all};
 ghost use Rattle.std.specs.Cmp.Lexicographic.{slice_cmp};
-ghost use Rattle.std.specs.Option.{option_copied};
+ghost use Rattle.std.specs.Option.{option_copied, option_map};
 ghost use Rattle.std.specs.Ordering.{is_gt, nat_cmp};
-ghost use Rattle.sw_rows.specs.Index.{but, latest, row_numbered, GoesBack};
 ghost use Rattle.sw_rows.specs.Left.{rows_left};
 ghost use Rattle.sw_rows.specs.Names.{ListsBetween};
 ghost use Rattle.sw_rows.specs.Rows.{find_named, number_named, without, IsNamedOnce, IsRising};
 
+use crate::held::Held;
 use crate::named_rows::NamedRows;
-use crate::numbers::give_back;
+use crate::numbers::Numbers;
 use crate::row::Row;
 use crate::rows_iter::RowsIter;
 use std::alloc::Global;
 use std::collections::BTreeMap;
 use std::marker::Model;
 use std::ops::Bound;
+use std::sync::Arc;
 use sw_outside::NoMemory;
 
-/// Rows in the order of their numbers, found by their names too. Contracts see the rows in that order.
+/// Rows in the order of their numbers, found by their names too, of which each has one row. Contracts see the rows in that order.
 ///
-/// While rows are exchanged two may have one name: the last of them is the one that is found by it.
-///
-/// The time of a call grows with the logarithm of the number of rows.
+/// A name leads to its row at once: both maps share it. The time of a call grows with the logarithm of the number of rows.
 #[derive(Debug, Drop)]
 pub(crate) struct Index {
-    by_number: BTreeMap<u64, Row>,
-    by_name: BTreeMap<Vec<u8>, u64>,
+    numbers: Numbers,
+    names: BTreeMap<Vec<u8>, Held>,
 }
 
 impl Model for Index {
     ghost use Rattle.std.specs.Prelude.{List};
-    ghost use Rattle.sw_rows.specs.Index.{rows_of, IsIndex};
+    ghost use Rattle.sw_rows.specs.Index.{AreNames};
     ghost use Rattle.sw_rows.specs.declared.numbered.Numbered.{Numbered};
 
     ghost Value = { List Numbered };
 
-    ghost view = { λ i. rows_of i.by_number.entries };
+    ghost view = { λ i. i.numbers };
 
-    ghost invariant = { λ i. IsIndex i.by_number.entries i.by_name.entries };
+    ghost invariant = { λ i. AreNames i.numbers i.names.entries };
 }
 
 impl Index {
@@ -47,26 +47,45 @@ impl Index {
         ensures { result ≡ [] }
     {
         Index {
-            by_number: BTreeMap::new(alloc),
-            by_name: BTreeMap::new(alloc),
+            numbers: Numbers::empty(alloc),
+            names: BTreeMap::new(alloc),
         }
+    }
+
+    /// The rows by their numbers alone.
+    pub(crate) fn numbers(&self) -> &Numbers
+        ensures { result.now ≡ self.now }
+    {
+        &self.numbers
     }
 
     /// The number of the row of this name.
     pub(crate) fn number_of(&self, name: &[u8]) -> Option<u64>
-        requires { IsNamedOnce self.now }
         ensures { result ≡ number_named self.now name.now }
     {
-        self.by_name.get(name).copied()
+        match self.names.get(name) {
+            Some(held) => Some(held.rowid),
+            None => None,
+        }
     }
 
     /// The row of this name.
     pub(crate) fn get(&self, name: &[u8]) -> Option<&Row>
-        requires { IsNamedOnce self.now }
         ensures { option_copied result ≡ find_named self.now name.now }
     {
-        match self.by_name.get(name) {
-            Some(rowid) => self.by_number.get(rowid),
+        match self.names.get(name) {
+            Some(held) => Some(&*held.row),
+            None => None,
+        }
+    }
+
+    /// The row of this name, with its number.
+    pub(crate) fn find(&self, name: &[u8]) -> Option<(u64, &Row)>
+        ensures number { option_map (λ f. f.0) result ≡ number_named self.now name.now }
+        ensures row { option_map (λ f. f.1.now) result ≡ find_named self.now name.now }
+    {
+        match self.names.get(name) {
+            Some(held) => Some((held.rowid, &*held.row)),
             None => None,
         }
     }
@@ -76,17 +95,14 @@ impl Index {
         ensures value { result ≡ length self.now }
         ensures small { result < 2 ^ 63 }
     {
-        self.by_number.len()
+        self.numbers.len()
     }
 
     /// Whether a number is above those of all rows.
     pub(crate) fn is_above(&self, rowid: u64) -> bool
         ensures { result ≡ list_all (λ n. nat_lt n.rowid rowid) self.now }
     {
-        match self.by_number.last_key_value() {
-            Some((last, _)) => *last < rowid,
-            None => true,
-        }
+        self.numbers.is_above(rowid)
     }
 
     /// All rows with their numbers, in the order of these.
@@ -94,85 +110,40 @@ impl Index {
         ensures rows { rows_left result ≡ self.now }
         ensures rising { IsRising 0 self.now }
     {
-        RowsIter {
-            entries: self.by_number.iter(),
-        }
+        self.numbers.iter()
     }
 
-    /// Puts the row behind all others, and answers the number that its name had. The row of that number stays, and isn't found
-    /// by its name any more.
+    /// Puts the row behind all others, and takes away the one that had its name, which is answered.
     ///
     /// After [`NoMemory`] the rows are what they were: a row that was put into the one map is taken out of it where the other
     /// one has no room.
-    pub(crate) fn push(
-        &mut self,
-        alloc: Global,
-        rowid: u64,
-        row: Row,
-    ) -> Result<Option<u64>, NoMemory>
-        requires positive { 0 < rowid }
-        requires above { All (λ n. n.rowid < rowid) self.old }
-        ensures before { IfOk result (λ before. before ≡ latest self.old row.name) }
-        ensures rows { OnOk result (self.new ≡ self.old ++ record { rowid = rowid; row = row } ∷ []) }
-        ensures err { OnErr result (self.new ≡ self.old) }
-        ensures rising { OnOk result (IsRising 0 self.old) }
-    {
-        let name = Vec::from_slice(alloc, row.name.as_slice())?;
-        self.by_number.insert(rowid, row)?;
-        match self.by_name.insert(name, rowid) {
-            Ok(before) => Ok(before),
-            Err(_) => {
-                let _ = self.by_number.remove(&rowid);
-                Err(NoMemory)
-            }
-        }
-    }
-
-    /// Takes the row of this number away, and answers it. Where it was the one found by its name, the one of the number
-    /// `before` is from now on, or none. It takes no memory.
-    pub(crate) fn cut(&mut self, rowid: u64, before: Option<u64>) -> Option<Row>
-        requires { GoesBack self.old rowid before }
-        ensures gone { result ≡ row_numbered self.old rowid }
-        ensures rows { self.new ≡ but self.old rowid }
-        ensures rising { IsRising 0 self.old }
-    {
-        let gone = self.by_number.remove(&rowid);
-        if let Some(row) = &gone {
-            give_back(&mut self.by_name, row.name.as_slice(), rowid, before);
-        }
-        gone
-    }
-
-    /// Puts the row behind all others, and takes away the one that had its name, which is answered. After [`NoMemory`] the rows
-    /// are what they were.
     pub(crate) fn put(
         &mut self,
         alloc: Global,
         rowid: u64,
-        row: Row,
-    ) -> Result<Option<Row>, NoMemory>
+        row: Arc<Row, Global>,
+    ) -> Result<Option<Arc<Row, Global>>, NoMemory>
         requires positive { 0 < rowid }
         requires above { All (λ n. n.rowid < rowid) self.old }
         requires once { IsNamedOnce self.old }
-        ensures old { IfOk result (λ old. old ≡ find_named self.old row.name) }
-        ensures rows { OnOk result (self.new ≡ without row.name self.old ++ record { rowid = rowid; row = row } ∷ []) }
+        ensures old { IfOk result (λ old. option_map arc_value old ≡ find_named self.old (arc_value row).name) }
+        ensures rows { OnOk result (self.new ≡ without (arc_value row).name self.old ++ record { rowid = rowid; row = arc_value row } ∷ []) }
         ensures err { OnErr result (self.new ≡ self.old) }
     {
-        match self.push(alloc, rowid, row)? {
-            Some(old) => Ok(self.cut(old, None)),
-            None => Ok(None),
+        let name = Vec::from_slice(alloc, row.name.as_slice())?;
+        let held = Held {
+            rowid,
+            row: Arc::try_clone(&row)?,
+        };
+        self.numbers.push(rowid, row)?;
+        match self.names.insert(name, held) {
+            Ok(Some(old)) => Ok(self.numbers.cut(old.rowid)),
+            Ok(None) => Ok(None),
+            Err(_) => {
+                let _ = self.numbers.cut(rowid);
+                Err(NoMemory)
+            }
         }
-    }
-
-    /// Equal rows under the same numbers, or [`NoMemory`].
-    pub(crate) fn copy(&self, alloc: Global) -> Result<Index, NoMemory>
-        ensures { IfOk result (λ copy. copy ≡ self.now) }
-    {
-        let mut copy = Index::empty(alloc);
-        for (rowid, row) in self.iter() {
-            let _ = copy.push(alloc, rowid, row.copy(alloc)?)?;
-        }
-        Ok(copy)
     }
 
     /// The rows whose names lie at or above the one bound and below the other, in byte order of their names.
@@ -182,7 +153,6 @@ impl Index {
         lower: &[u8],
         upper: &[u8],
     ) -> Result<NamedRows<'_>, NoMemory>
-        requires { IsNamedOnce self.now }
         ensures { IfOk result (λ rows. ListsBetween lower.now upper.now self.now rows) }
     {
         let start = Vec::from_slice(alloc, lower)?;
@@ -195,15 +165,13 @@ impl Index {
 
     /// The same, where the bounds stand the right way round.
     fn part(&self, start: &Vec<u8>, end: &Vec<u8>) -> NamedRows<'_>
-        requires order { is_gt (slice_cmp nat_cmp start.now.items end.now.items) ≡ false }
-        requires once { IsNamedOnce self.now }
+        requires { is_gt (slice_cmp nat_cmp start.now.items end.now.items) ≡ false }
         ensures { ListsBetween start.now.items end.now.items self.now result }
     {
         NamedRows {
             names: self
-                .by_name
+                .names
                 .range((Bound::Included(start), Bound::Excluded(end))),
-            rows: &self.by_number,
         }
     }
 }

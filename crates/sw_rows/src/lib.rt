@@ -11,10 +11,12 @@
 
 mod exchange;
 mod hash;
+mod held;
 mod index;
 pub mod laws;
 mod named_rows;
 mod numbered;
+mod numbered_rows;
 mod numbers;
 mod row;
 mod rows;
@@ -23,6 +25,7 @@ mod sums;
 
 pub use named_rows::NamedRows;
 pub use numbered::Numbered;
+pub use numbered_rows::NumberedRows;
 pub use row::Row;
 pub use rows::Rows;
 pub use rows_iter::RowsIter;

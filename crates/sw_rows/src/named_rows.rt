@@ -1,7 +1,7 @@
 ghost use Rattle.std.specs.Prelude.{◌≡◌, ◌++◌, ◌∷◌, [], MatchOption};
 
+use crate::held::Held;
 use crate::row::Row;
-use std::collections::BTreeMap;
 use std::collections::btree_map::Range;
 use std::marker::Model;
 
@@ -9,20 +9,19 @@ use std::marker::Model;
 /// left.
 #[derive(Drop)]
 pub struct NamedRows<'a> {
-    pub(crate) names: Range<'a, Vec<u8>, u64>,
-    pub(crate) rows: &'a BTreeMap<u64, Row>,
+    pub(crate) names: Range<'a, Vec<u8>, Held>,
 }
 
 impl<'a> Model for NamedRows<'a> {
     ghost use Rattle.std.specs.Prelude.{List};
-    ghost use Rattle.sw_rows.specs.Names.{rows_named, HaveRows};
+    ghost use Rattle.sw_rows.specs.Names.{rows_named, AreNamed};
     ghost use Rattle.sw_rows.specs.declared.row.Row.{Row};
 
     ghost Value = { List Row };
 
-    ghost view = { λ r. rows_named r.rows.now.entries r.names };
+    ghost view = { λ r. rows_named r.names };
 
-    ghost invariant = { λ r. HaveRows r.rows.now.entries r.names };
+    ghost invariant = { λ r. AreNamed r.names };
 }
 
 impl<'a> NamedRows<'a> {
@@ -31,7 +30,7 @@ impl<'a> NamedRows<'a> {
         ensures { MatchOption result ((self.old ≡ []) × (self.new ≡ [])) (λ row. self.old ≡ row.now ∷ self.new) }
     {
         match self.names.next() {
-            Some((_, rowid)) => self.rows.get(rowid),
+            Some((_, held)) => Some(&*held.row),
             None => None,
         }
     }
@@ -41,7 +40,7 @@ impl<'a> NamedRows<'a> {
         ensures { MatchOption result ((self.old ≡ []) × (self.new ≡ [])) (λ row. self.old ≡ self.new ++ row.now ∷ []) }
     {
         match self.names.next_back() {
-            Some((_, rowid)) => self.rows.get(rowid),
+            Some((_, held)) => Some(&*held.row),
             None => None,
         }
     }

@@ -1,51 +1,107 @@
-ghost use Rattle.std.specs.Prelude.{◌≡◌, ◌==◌, ◌&&◌, if◌then◌else◌, ℕ, List, Some, false, IsSome};
-ghost use Rattle.std.specs.Option.{option_map_or};
-ghost use Rattle.std.specs.Str.{bytes_eq};
-ghost use Rattle.sw_rows.specs.Index.{number_at};
+ghost use Rattle.std.specs.Prelude.{◌≡◌, ◌<◌, ◌^◌, ◌++◌, ◌∷◌, [], OnOk, OnErr, All, length, nat_lt};
+ghost use Rattle.std.specs.Arc.{arc_value};
+ghost use Rattle.std.specs.List.{list_all};
+ghost use Rattle.std.specs.Option.{option_map};
+ghost use Rattle.sw_rows.specs.Index.{but, row_numbered};
+ghost use Rattle.sw_rows.specs.Left.{rows_left, shared_left};
+ghost use Rattle.sw_rows.specs.Rows.{IsRising};
 
+use crate::row::Row;
+use crate::rows_iter::{RowsIter, SharedRows};
+use std::alloc::Global;
 use std::collections::BTreeMap;
+use std::marker::Model;
+use std::sync::Arc;
+use sw_outside::NoMemory;
 
-/// Gives a name the number that it had before, or none, where it has this one. It takes no memory.
-pub(crate) fn give_back(
-    by_name: &mut BTreeMap<Vec<u8>, u64>,
-    name: &[u8],
-    rowid: u64,
-    before: Option<u64>,
-)
-    ensures { (q : List ℕ)
-        → number_at by_name.new.entries q
-        ≡ (if bytes_eq name.now q && option_map_or (λ k. k == rowid) (number_at by_name.old.entries name.now) false
-        then before else number_at by_name.old.entries q) }
-{
-    if !has_number(by_name, name, rowid) {
-        return;
-    }
-    match before {
-        Some(number) => set_number(by_name, name, number),
-        None => {
-            let _ = by_name.remove(name);
+/// Rows in the order of their numbers. Contracts see them so.
+///
+/// Each row lies in memory of its own, so that the map's nodes are small and who finds it otherwise can share it. The time of a
+/// call grows with the logarithm of the number of rows.
+#[derive(Debug, Drop)]
+pub(crate) struct Numbers {
+    rows: BTreeMap<u64, Arc<Row, Global>>,
+}
+
+impl Model for Numbers {
+    ghost use Rattle.std.specs.Prelude.{List};
+    ghost use Rattle.sw_rows.specs.Index.{rows_of};
+    ghost use Rattle.sw_rows.specs.Rows.{IsRising};
+    ghost use Rattle.sw_rows.specs.declared.numbered.Numbered.{Numbered};
+
+    ghost Value = { List Numbered };
+
+    ghost view = { λ n. rows_of n.rows.entries };
+
+    ghost invariant = { λ n. IsRising 0 (rows_of n.rows.entries) };
+}
+
+impl Numbers {
+    /// No rows. It takes no memory.
+    pub(crate) fn empty(alloc: Global) -> Numbers
+        ensures { result ≡ [] }
+    {
+        Numbers {
+            rows: BTreeMap::new(alloc),
         }
     }
-}
 
-/// Whether a name has this number.
-fn has_number(by_name: &BTreeMap<Vec<u8>, u64>, name: &[u8], rowid: u64) -> bool
-    ensures { result ≡ option_map_or (λ k. k == rowid) (number_at by_name.now.entries name.now) false }
-{
-    match by_name.get(name) {
-        Some(number) => *number == rowid,
-        None => false,
+    /// How many rows there are.
+    pub(crate) fn len(&self) -> usize
+        ensures value { result ≡ length self.now }
+        ensures small { result < 2 ^ 63 }
+    {
+        self.rows.len()
     }
-}
 
-/// Gives a name that has a number another one.
-fn set_number(by_name: &mut BTreeMap<Vec<u8>, u64>, name: &[u8], number: u64)
-    requires { IsSome (number_at by_name.old.entries name.now) }
-    ensures { (q : List ℕ)
-        → number_at by_name.new.entries q
-        ≡ (if bytes_eq name.now q then Some number else number_at by_name.old.entries q) }
-{
-    if let Some(slot) = by_name.get_mut(name) {
-        *slot = number;
+    /// Whether a number is above those of all rows.
+    pub(crate) fn is_above(&self, rowid: u64) -> bool
+        ensures { result ≡ list_all (λ n. nat_lt n.rowid rowid) self.now }
+    {
+        match self.rows.last_key_value() {
+            Some((last, _)) => *last < rowid,
+            None => true,
+        }
+    }
+
+    /// All rows with their numbers, in the order of these.
+    pub(crate) fn iter(&self) -> RowsIter<'_>
+        ensures rows { rows_left result ≡ self.now }
+        ensures rising { IsRising 0 self.now }
+    {
+        RowsIter {
+            entries: self.rows.iter(),
+        }
+    }
+
+    /// The same, as rows that can be shared.
+    pub(crate) fn shared(&self) -> SharedRows<'_>
+        ensures rows { shared_left result ≡ self.now }
+        ensures rising { IsRising 0 self.now }
+    {
+        SharedRows {
+            entries: self.rows.iter(),
+        }
+    }
+
+    /// Puts the row behind all others. After [`NoMemory`] the rows are what they were.
+    pub(crate) fn push(&mut self, rowid: u64, row: Arc<Row, Global>) -> Result<(), NoMemory>
+        requires positive { 0 < rowid }
+        requires above { All (λ n. n.rowid < rowid) self.old }
+        ensures rows { OnOk result (self.new ≡ self.old ++ record { rowid = rowid; row = arc_value row } ∷ []) }
+        ensures err { OnErr result (self.new ≡ self.old) }
+        ensures rising { IsRising 0 self.old }
+    {
+        let _ = self.rows.insert(rowid, row)?;
+        Ok(())
+    }
+
+    /// Takes the row of this number away, and answers it. It takes no memory.
+    pub(crate) fn cut(&mut self, rowid: u64) -> Option<Arc<Row, Global>>
+        ensures gone { option_map arc_value result ≡ row_numbered self.old rowid }
+        ensures rows { self.new ≡ but self.old rowid }
+        ensures rising { IsRising 0 self.old }
+    {
+        self.rows.remove(&rowid)
     }
 }

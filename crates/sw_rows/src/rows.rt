@@ -1,20 +1,20 @@
 ghost use Rattle.std.specs.Prelude.{◌≡◌, ◌<◌, ◌≤◌, ◌^◌, ◌-◌, ◌++◌, ◌∷◌, [], All, max, true, IsTrue, IfOk, OnOk, OnErr};
-ghost use Rattle.std.specs.Option.{option_copied};
-ghost use Rattle.sw_rows.specs.Exchanging.{exchanged};
+ghost use Rattle.std.specs.Arc.{arc_value};
+ghost use Rattle.std.specs.Option.{option_copied, option_map};
 ghost use Rattle.sw_rows.specs.Left.{rows_left};
 ghost use Rattle.sw_rows.specs.Names.{ListsBetween};
-ghost use Rattle.sw_rows.specs.Rows.{can_restore, find_named, fits, merged, no_rows, no_rows_at, number_named, restored, without, IsListed, IsRising};
+ghost use Rattle.sw_rows.specs.Rows.{can_restore, find_named, fits, merged, no_rows, no_rows_at, number_named, restored, with_row, without, IsListed, IsRising};
 ghost use Rattle.sw_rows.specs.Sums.{bytes_of, count_of, hash_of};
 
-use crate::exchange::exchange;
 use crate::index::Index;
 use crate::named_rows::NamedRows;
-use crate::numbered::Numbered;
+use crate::numbers::Numbers;
 use crate::row::Row;
 use crate::rows_iter::RowsIter;
 use crate::sums::Sums;
 use std::alloc::Global;
 use std::marker::Model;
+use std::sync::Arc;
 use sw_outside::NoMemory;
 
 /// The rows of a container, one for each name, and the greatest number (ROWID) given out. Contracts see the rows in the
@@ -72,7 +72,7 @@ impl Rows {
         if !self.can_restore(rowid, &row) {
             return Ok(false);
         }
-        self.put(alloc, rowid, row)?;
+        self.put(alloc, rowid, Arc::new(alloc, row)?)?;
         Ok(true)
     }
 
@@ -98,15 +98,27 @@ impl Rows {
         if !self.takes(&row) {
             return Ok(false);
         }
-        self.put(alloc, self.top + 1, row)?;
+        self.replace(alloc, row)?;
         Ok(true)
     }
 
+    /// Puts a row that would be put in ([`Rows::takes`]) in place of the one of its name, under the next number.
+    ///
+    /// After [`NoMemory`] the rows are what they were.
+    pub fn replace(&mut self, alloc: Global, row: Row) -> Result<(), NoMemory>
+        requires fits { IsTrue (fits (find_named self.old.list row.name) row) }
+        requires room { self.old.top < 2 ^ 64 - 1 }
+        ensures rows { OnOk result (self.new ≡ with_row self.old row) }
+        ensures err { OnErr result (self.new ≡ self.old) }
+    {
+        self.put(alloc, self.top + 1, Arc::new(alloc, row)?)
+    }
+
     /// Puts the row behind all others under this number, and takes away the one that had its name.
-    fn put(&mut self, alloc: Global, rowid: u64, row: Row) -> Result<(), NoMemory>
+    fn put(&mut self, alloc: Global, rowid: u64, row: Arc<Row, Global>) -> Result<(), NoMemory>
         requires positive { 0 < rowid }
         requires above { All (λ n. n.rowid < rowid) self.old.list }
-        ensures list { OnOk result (self.new.list ≡ without row.name self.old.list ++ record { rowid = rowid; row = row } ∷ []) }
+        ensures list { OnOk result (self.new.list ≡ without (arc_value row).name self.old.list ++ record { rowid = rowid; row = arc_value row } ∷ []) }
         ensures top { OnOk result (self.new.top ≡ max self.old.top rowid) }
         ensures err { OnErr result (self.new ≡ self.old) }
     {
@@ -117,29 +129,6 @@ impl Rows {
             None => with,
         };
         self.top = self.top.max(rowid);
-        Ok(())
-    }
-
-    /// Takes the rows of these numbers away, and puts others behind all that are left, under numbers of their own above the
-    /// greatest given out; `top` is the greatest given out from then on. A number that no row has is passed over.
-    ///
-    /// All of it is made or, after [`NoMemory`], nothing. Its time grows with the numbers and rows that it is given, each of
-    /// them with the logarithm of the number of rows.
-    pub fn exchange(
-        &mut self,
-        alloc: Global,
-        numbers: &[u64],
-        rows: Vec<Numbered>,
-        top: u64,
-    ) -> Result<(), NoMemory>
-        requires given { All (λ rowid. rowid ≤ self.old.top) numbers.now }
-        requires rising { IsRising self.old.top rows.items }
-        requires listed { IsListed (exchanged self.old numbers.now rows.items top) }
-        ensures rows { OnOk result (self.new ≡ exchanged self.old numbers.now rows.items top) }
-        ensures err { OnErr result (self.new ≡ self.old) }
-    {
-        self.sums = exchange(&mut self.index, alloc, self.sums, numbers, rows)?;
-        self.top = top;
         Ok(())
     }
 
@@ -167,6 +156,14 @@ impl Rows {
         self.index.number_of(name)
     }
 
+    /// The row of this name, deleted or not, with its number (ROWID): one search for both.
+    pub fn find(&self, name: &[u8]) -> Option<(u64, &Row)>
+        ensures number { option_map (λ f. f.0) result ≡ number_named self.now.list name.now }
+        ensures row { option_map (λ f. f.1.now) result ≡ find_named self.now.list name.now }
+    {
+        self.index.find(name)
+    }
+
     /// All rows with their numbers, in the order of these.
     pub fn iter(&self) -> RowsIter<'_>
         ensures rows { rows_left result ≡ self.now.list }
@@ -177,8 +174,7 @@ impl Rows {
 
     /// The rows whose names lie at or above the one bound and below the other, in byte order of their names, or [`NoMemory`].
     ///
-    /// Its time grows with the logarithm of the number of rows, and so does that of the first row that is taken; each further
-    /// one costs the look for its number.
+    /// Its time grows with the logarithm of the number of rows, and so does that of the first row that is taken.
     pub fn between(
         &self,
         alloc: Global,
@@ -224,10 +220,19 @@ impl Rows {
     pub fn copy(&self, alloc: Global) -> Result<Rows, NoMemory>
         ensures { IfOk result (λ copy. copy ≡ self.now) }
     {
-        Ok(Rows {
-            index: self.index.copy(alloc)?,
-            top: self.top,
-            sums: self.sums,
-        })
+        Rows::of(alloc, self.index.numbers(), self.top)
+    }
+
+    /// These rows with an index of names, where `top` is the greatest number given out, or [`NoMemory`]. The rows themselves are
+    /// shared.
+    pub(crate) fn of(alloc: Global, numbers: &Numbers, top: u64) -> Result<Rows, NoMemory>
+        requires { IsListed (record { list = numbers.now; top = top }) }
+        ensures { IfOk result (λ rows. rows ≡ record { list = numbers.now; top = top }) }
+    {
+        let mut rows = Rows::empty_at(alloc, top);
+        for (rowid, row) in numbers.shared() {
+            rows.put(alloc, rowid, Arc::try_clone(row)?)?;
+        }
+        Ok(rows)
     }
 }

@@ -32,7 +32,7 @@ returns-in-CutRow-clause-is c =
     let d = c.args.draft.now in
     let is = c.requires.is in
     let rowid = c.in-CutRow.rowid in
-    let top : c.top.result ≡ l.top = c.top.ensures in
+    let top : c.top.result ≡ l.top = c.top.ensures.top in
     let above : l.top < rowid = omega (arith, top, c.if-rowid-top.true) in
     let same : exchanged l d.numbers.items c.cut.new.rows.items d.top ≡ without_numbered (exchanged l d.numbers.items d.rows.items d.top) rowid =
     rw c.cut.ensures (draft-cut_new l d.numbers.items d.rows.items d.top rowid is.before above) in
@@ -50,7 +50,7 @@ returns-in-CutRow-clause-tables c =
     let d = c.args.draft.now in
     let is = c.requires.is in
     let rowid = c.in-CutRow.rowid in
-    let top : c.top.result ≡ l.top = c.top.ensures in
+    let top : c.top.result ≡ l.top = c.top.ensures.top in
     let above : l.top < rowid = omega (arith, top, c.if-rowid-top.true) in
     let same : exchanged l d.numbers.items c.cut.new.rows.items d.top ≡ without_numbered (exchanged l d.numbers.items d.rows.items d.top) rowid =
     rw c.cut.ensures (draft-cut_new l d.numbers.items d.rows.items d.top rowid is.before above) in
@@ -64,7 +64,7 @@ returns-in_ok-push-in-CutRow-2-clause-is c =
     let rowid = c.in-CutRow-2.rowid in
     let numbers = c.push-in-CutRow-2.new.self.items in
     let one : c.in-CutRow.rowid ≡ rowid = (let both = sym c.in-CutRow.is ∙ c.in-CutRow-2.is in cc) in
-    let le : rowid ≤ l.top = omega (arith, c.top.ensures, c.if-rowid-top.false, one) in
+    let le : rowid ≤ l.top = omega (arith, c.top.ensures.top, c.if-rowid-top.false, one) in
     let same : exchanged l numbers d.rows.items d.top ≡ without_numbered (exchanged l d.numbers.items d.rows.items d.top) rowid =
     rw c.in_ok-push-in-CutRow-2.ensures.items (draft-cut_old l d.numbers.items d.rows.items d.top rowid le is.rising) in
     record {
@@ -83,7 +83,7 @@ returns-in_ok-push-in-CutRow-2-clause-tables c =
     let rowid = c.in-CutRow-2.rowid in
     let numbers = c.push-in-CutRow-2.new.self.items in
     let one : c.in-CutRow.rowid ≡ rowid = (let both = sym c.in-CutRow.is ∙ c.in-CutRow-2.is in cc) in
-    let le : rowid ≤ l.top = omega (arith, c.top.ensures, c.if-rowid-top.false, one) in
+    let le : rowid ≤ l.top = omega (arith, c.top.ensures.top, c.if-rowid-top.false, one) in
     let same : exchanged l numbers d.rows.items d.top ≡ without_numbered (exchanged l d.numbers.items d.rows.items d.top) rowid =
     rw c.in_ok-push-in-CutRow-2.ensures.items (draft-cut_old l d.numbers.items d.rows.items d.top rowid le is.rising) in
     rw c.in-CutRow-2.is (ap (λ (r : Listed). let t : Tables = record { put_time = d.put_time; delete_time = d.delete_time; rows = r } in Some t) same)

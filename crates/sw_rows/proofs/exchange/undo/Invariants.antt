@@ -2,8 +2,8 @@
 use Rattle.sw_rows.specs.Exchanging.{IsLog}
 use Rattle.sw_rows.proofs.exchange.undo.Given as goal
 
-abbrev pub invariant-loop-pushed : goal.invariant-loop-pushed
-invariant-loop-pushed g l = IsLog g.base l.log.items l.index
+abbrev pub invariant-loop-rowid : goal.invariant-loop-rowid
+invariant-loop-rowid g l = IsLog g.base l.log.items l.numbers
 
-abbrev pub decreases-loop-pushed : goal.decreases-loop-pushed
-decreases-loop-pushed g l = goal.left-loop-pushed g l
+abbrev pub decreases-loop-rowid : goal.decreases-loop-rowid
+decreases-loop-rowid g l = goal.left-loop-rowid g l

@@ -5,8 +5,8 @@ use Rattle.sw_rows.specs.Names.{ListsBetween}
 use Rattle.sw_rows.proofs.Ranging.{lists-backwards, not-above}
 use Rattle.sw_rows.proofs.index.Index.between.Goals as goal
 
-pub part-requires-clause-order : goal.part-requires-clause-order
-part-requires-clause-order c = ap is_gt (tied_itself nat_list_cmp_total c.in_ok-start.start.items)
+pub part-requires : goal.part-requires
+part-requires c = ap is_gt (tied_itself nat_list_cmp_total c.in_ok-start.start.items)
 
 pub returns-then-is_lt : goal.returns-then-is_lt
 returns-then-is_lt c =
@@ -14,7 +14,7 @@ returns-then-is_lt c =
     lists-backwards c.args.lower.now c.args.upper.now c.args.self.now c.part.result (ap is_lt (sym c.cmp.ensures) ∙ sym c.is_lt.ensures ∙ c.if-is_lt.true)
     (subst P c.in_ok-start.ensures.items c.part.ensures)
 
-pub part-requires-2-clause-order : goal.part-requires-2-clause-order
-part-requires-2-clause-order c =
+pub part-requires-2 : goal.part-requires-2
+part-requires-2 c =
     rw (c.in_ok-start.ensures.items, c.in_ok-end.ensures.items)
     (not-above c.args.lower.now c.args.upper.now (ap is_lt (sym c.cmp.ensures) ∙ sym c.is_lt.ensures ∙ c.if-is_lt.false))
