@@ -1,8 +1,9 @@
 //! The bytes of a body. They are kept up to the greatest size of an object; beyond it they are only read.
-ghost use Rattle.std.specs.Prelude.{◌≡◌, ℕ, ◌<◌, ◌≤◌, true, false, length, Ok, Err, IfOk, OnErr, OnOk, IfSome};
+ghost use Rattle.std.specs.Prelude.{[], ◌≡◌, ℕ, ◌<◌, ◌≤◌, true, false, length, Ok, Err, IfOk, OnErr, OnOk, IfSome};
 ghost use Rattle.std.specs.Io.KnownBytes.{Keeps, IsAtEnd, prepend_known};
 ghost use Rattle.sw_http.specs.Body.{IsKeptWith, IsWithinLimit, extended};
 ghost use Rattle.sw_http.specs.ChunkSteps.{TakesBytes};
+ghost use Rattle.sw_http.specs.Reads.{ReadsWhile};
 ghost use Rattle.sw_http.specs.Input.{HasFailed, IfSeen};
 
 use crate::held::Held;
@@ -38,6 +39,7 @@ fn hold_some<R: Source>(held: &mut Held, source: &mut R) -> Result<bool, ReadErr
     ensures starved { result ≡ Err ReadError.NoMemory → R.faults source.new ≡ R.faults source.old }
     ensures failed { result ≡ Err ReadError.Failed → HasFailed (R.faults source.old) (R.faults source.new) }
     ensures cut { result ≡ Err ReadError.Failed → IfSeen (prepend_known held.old (R.left source.old)) (R.left source.new) (λ seen. length seen ≡ 0) }
+    ensures reads { ReadsWhile R.left R.calls source.old source.new (prepend_known held.old (R.left source.old)) (λ seen. length seen ≡ 0) }
     ensures source_number { R.number source.new ≡ R.number source.old }
 {
     if !held.rest().is_empty() {
@@ -71,6 +73,7 @@ fn read_straight<R: Source>(
     ensures sound { OnOk result (R.faults source.new ≡ R.faults source.old) }
     ensures starved { result ≡ Err ReadError.NoMemory → R.faults source.new ≡ R.faults source.old }
     ensures failed { result ≡ Err ReadError.Failed → HasFailed (R.faults source.old) (R.faults source.new) }
+    ensures reads { ReadsWhile R.left R.calls source.old source.new (R.left source.old) (λ seen. seen ≡ []) }
     ensures source_number { R.number source.new ≡ R.number source.old }
 {
     let Body::Whole(bytes) = mem::replace(body, Body::TooLarge) else {
@@ -97,6 +100,7 @@ pub(crate) fn take_content<R: Source>(
     ensures starved { result ≡ Err ReadError.NoMemory → R.faults source.new ≡ R.faults source.old }
     ensures failed { result ≡ Err ReadError.Failed → HasFailed (R.faults source.old) (R.faults source.new) }
     ensures cut { result ≡ Err ReadError.Failed → IfSeen (prepend_known held.old (R.left source.old)) (R.left source.new) (λ seen. length seen < len) }
+    ensures reads { ReadsWhile R.left R.calls source.old source.new (prepend_known held.old (R.left source.old)) (λ seen. length seen < len) }
     ensures source_number { R.number source.new ≡ R.number source.old }
 {
     let mut taken = 0;

@@ -1,4 +1,6 @@
-ghost use Rattle.std.specs.Prelude.{◌≡◌, ℕ, ◌+◌, ◌^◌, ◌<◌, ◌≤◌, drop, Err, IfOk, vec_len, OnOk};
+ghost use Rattle.std.specs.Prelude.{◌≡◌, ◌≢◌, [], ℕ, ◌+◌, ◌^◌, ◌<◌, ◌≤◌, drop, Err, IfOk, vec_len, OnOk};
+ghost use Rattle.sw_outside.specs.Counts.{raised};
+ghost use Rattle.sw_http.specs.Reads.{ReadsWhile};
 ghost use Rattle.sw_http.specs.Input.{HasFailed, ReadsBehind};
 ghost use Rattle.sw_http.specs.declared.input.ReadError.TheVariants as errors;
 
@@ -53,6 +55,9 @@ pub(crate) fn read_behind<R: Source>(
     ensures sound { OnOk result (R.faults source.new ≡ R.faults source.old) }
     ensures starved { result ≡ Err ReadError.NoMemory → R.faults source.new ≡ R.faults source.old }
     ensures failed { result ≡ Err ReadError.Failed → HasFailed (R.faults source.old) (R.faults source.new) }
+    ensures called { result ≢ Err ReadError.NoMemory → R.calls source.new ≡ raised (R.calls source.old) }
+    ensures uncalled { result ≡ Err ReadError.NoMemory → R.calls source.new ≡ R.calls source.old }
+    ensures reads { ReadsWhile R.left R.calls source.old source.new (R.left source.old) (λ seen. seen ≡ []) }
     ensures source_number { R.number source.new ≡ R.number source.old }
 {
     let had = bytes.len();
