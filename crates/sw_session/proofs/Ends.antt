@@ -1,6 +1,6 @@
 -- How the turns of a session's loop make up a session.
 use Rattle.std.proofs.Common.{◌≡◌, ℕ, ◌+◌, ◌<◌, Bool, List, [], ◌∷◌, ◌++◌, length, Option, Some, None, refl, sym, ap, ◌∙◌, subst}
-use Rattle.std.proofs.Common.{append_assoc, append-nil, arith, length-append, inl, inr, Ok, Err, true, false, ◌⊎◌, ◌-◌}
+use Rattle.std.proofs.Common.{All, Result, append_assoc, append-nil, arith, length-append, inl, inr, Ok, Err, true, false, ◌⊎◌, ◌-◌}
 use Rattle.std.specs.List.{flat_map}
 use Rattle.std.specs.Io.KnownBytes.{Appends, Consumes, IsAtEnd, prepend_known}
 use Rattle.std.proofs.KnownBytes.{Appends-trans, Appends-nil, Consumes-nil, Consumes-trans}
@@ -8,7 +8,10 @@ use Rattle.std.proofs.lemmas.Grind.{flat_map-append}
 use Rattle.std.proofs.lemmas.List.{map-append}
 use Rattle.std.proofs.lemmas.List.Elements.{All-nil, All-push}
 use Rattle.sw_outside.specs.Counts.{raised}
-use Rattle.sw_http.specs.Continue.{IsCutShort, puts_after}
+use Rattle.sw_http.specs.Continue.{IsCutShort, NeedsMore, puts_after}
+use Rattle.sw_http.specs.Reads.{ReadsWhile}
+use Rattle.sw_http.proofs.InputLemmas.{seen_behind, seen_map}
+use Rattle.sw_http.proofs.ReadsLemmas.{reads_map, reads_then}
 use Rattle.sw_http.specs.Input.{IfSeen}
 use Rattle.sw_http.specs.Request.{Parts, AreParts, request_of, text_of}
 use Rattle.sw_http.specs.Reading.{BeginsWith}
@@ -17,7 +20,7 @@ use Rattle.sw_message.specs.declared.response.Response.{Response}
 use Rattle.sw_session.specs.Passages.{Passage}
 use Rattle.sw_session.specs.Replies.{Halts, Serves, Replies, written_for}
 use Rattle.sw_session.specs.Session.{SoFar, Closed, Complete, Full, Broken, HaltedAt, IsSession, IsSound, IsWhole, most_requests}
-use Rattle.sw_session.specs.Session.{PutsBehind, PutsForSession, WaitsForMore, puts_for}
+use Rattle.sw_session.specs.Session.{IsBetween, PutsBehind, PutsForSession, WaitsForMore, puts_for}
 use Rattle.sw_session.specs.Turn.{AnswersOne, MayTell, MayTellAndPuts, PutsForTurn, TakesAndPuts, TakesAndTells}
 use Rattle.sw_session.specs.Turn.{CutsReply, HaltsTurn, Idles, IsCounted, IsTurn, Replied, StopsBetween}
 use Rattle.sw_session.specs.declared.server.ServerFault.{ServerFault}
@@ -441,3 +444,86 @@ waits_behind last may halts mid after input left rest then_taken now_taken sourc
     let idles = (subst (λ (f : SessionFault). IsTurn last may halts mid after moments moments_now left rest then_taken now_taken (Err f)) is turn).0 in
     ends_behind input left _ _ calls then (λ rest told_by. (w : Option (List ℕ)) × IfSeen rest source_left (IsCutShort w now_taken told_by now)) so_far
     (ap length (sym idles.no_moment)) (then_taken, seen)
+
+-- ---- reads
+
+-- more was needed behind the requests that were answered
+pub between : {S : Type 0} (last : Request → Bool) (may : Serves S) (start after : S) (input rest taken now seen_to : Option (List ℕ)) (moments more : List ℕ)
+    → SoFar last may start input rest taken now moments after → IfSeen rest seen_to NeedsMore
+    → IfSeen input seen_to (IsBetween last may start (moments ++ more))
+between last may start after input rest taken now seen_to moments more done needs =
+    let parts = done.begins.parts in
+    seen_behind input rest seen_to (flat_map text_of parts) (IsBetween last may start (moments ++ more)) NeedsMore done.begins.texts
+    (λ behind holds. record {
+      parts = parts;
+      rest = behind;
+      reads = record { are_parts = done.begins.are_parts; whole = refl };
+      none_last = subst (All (λ (r : Request). last r ≡ false)) done.begins.requests_are done.none_last;
+      earlier = moments;
+      later = more;
+      moments_are = refl;
+      text = done.text;
+      then = after;
+      replied = subst (λ (rs : List Request). Replies may start rs moments done.text after) done.begins.requests_are done.replied;
+      needs = holds;
+    }) needs
+
+-- it still was, once further ones were answered
+pub between_more : {S : Type 0} (last : Request → Bool) (may : Serves S) (start : S) (moments more bytes : List ℕ)
+    → IsBetween last may start moments bytes → IsBetween last may start (moments ++ more) bytes
+between_more last may start moments more bytes is = record {
+  parts = is.parts;
+  rest = is.rest;
+  reads = is.reads;
+  none_last = is.none_last;
+  earlier = is.earlier;
+  later = is.later ++ more;
+  moments_are = ap (λ (m : List ℕ). m ++ more) is.moments_are ∙ append_assoc is.earlier is.later more;
+  text = is.text;
+  then = is.then;
+  replied = is.replied;
+  needs = is.needs;
+}
+
+-- a turn kept no moment, or one more
+kept_more : {S : Type 0} (last : Request → Bool) (may : Serves S) (halts : Halts S) (mid after : S) (moments moments_now : List ℕ)
+    (input rest taken now : Option (List ℕ)) (result : Result Turned SessionFault)
+    → IsTurn last may halts mid after moments moments_now input rest taken now result → (more : List ℕ) × (moments_now ≡ moments ++ more)
+kept_more last may halts mid after moments moments_now input rest taken now result turn = by result turn
+  where
+    none : Idles mid after moments moments_now → (more : List ℕ) × (moments_now ≡ moments ++ more)
+    none idles = ([], idles.no_moment ∙ sym (append-nil moments))
+
+    by : (result : Result Turned SessionFault) → IsTurn last may halts mid after moments moments_now input rest taken now result
+        → (more : List ℕ) × (moments_now ≡ moments ++ more)
+    by (Ok turns.Answered) turn = (turn.0 ∷ [], turn.1)
+    by (Ok turns.Closed) turn = (turn.0 ∷ [], turn.1)
+    by (Ok turns.Ended) turn = none turn.0
+    by (Err faults.BadInput) turn = none turn.0
+    by (Err faults.ReadFault) turn = none turn.0
+    by (Err faults.WriteFault) (inl idles) = none idles.0
+    by (Err faults.WriteFault) (inr cuts) = (cuts.0 ∷ [], cuts.1)
+    by (Err faults.NoMemory) (inl idles) = none idles.0
+    by (Err faults.NoMemory) (inr (inl cuts)) = (cuts.0 ∷ [], cuts.1)
+    by (Err faults.NoMemory) (inr (inr halt)) = (halt.0 ∷ [], halt.1)
+    by (Err faults.TooLong) turn = absurd turn
+    by (Err faults.ServerFault) turn = (turn.0 ∷ [], turn.1)
+
+-- the reads of one turn more
+pub turn_reads : {S A : Type 0} {left : A → Option (List ℕ)} {calls : A → ℕ} {old then now : A} (last : Request → Bool) (may : Serves S) (halts : Halts S)
+    (start mid after : S) (input held rest taken then_taken now_taken : Option (List ℕ)) (moments moments_now : List ℕ) (count : ℕ)
+    (result : Result Turned SessionFault)
+    → Progress last may start input held taken then_taken moments mid count
+    → IsTurn last may halts mid after moments moments_now held rest then_taken now_taken result
+    → ReadsWhile left calls old then input (IsBetween last may start moments) → ReadsWhile left calls then now held NeedsMore
+    → ReadsWhile left calls old now input (IsBetween last may start moments_now)
+turn_reads {left = left} {calls = calls} {old = old} {now = now} last may halts start mid after input held rest taken then_taken now_taken
+    moments moments_now count result progress turn before reads =
+    let kept = kept_more last may halts mid after moments moments_now held rest then_taken now_taken result turn in
+    subst (λ (ms : List ℕ). ReadsWhile left calls old now input (IsBetween last may start ms)) (sym kept.1)
+    (reads_then input (IsBetween last may start (moments ++ kept.0))
+    (reads_map input input (IsBetween last may start moments) (IsBetween last may start (moments ++ kept.0)) before
+    (λ seen_to seen. seen_map input seen_to (IsBetween last may start moments) (IsBetween last may start (moments ++ kept.0))
+    (between_more last may start moments kept.0) seen))
+    (reads_map held input NeedsMore (IsBetween last may start (moments ++ kept.0)) reads
+    (λ seen_to seen. between last may start mid input held taken then_taken seen_to moments kept.0 progress.done seen)))

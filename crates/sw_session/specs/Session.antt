@@ -2,13 +2,13 @@
 --
 -- How bytes become requests is the grammar's, in `BeginsWith`; who answers them is a relation, and how that one may halt is another.
 -- Which requests are the last ones of their sessions is a test. `SoFar` is the one statement that every way to end a session begins with.
-use Rattle.std.specs.Prelude.{◌≡◌, ℕ, ◌-◌, ◌<◌, Bool, true, false, List, [], ◌∷◌, ◌++◌, length, All, ⊤, Option, IfSome, Result, Ok, Err, ◌⊎◌}
+use Rattle.std.specs.Prelude.{◌≡◌, ℕ, ◌-◌, ◌<◌, Bool, true, false, List, [], ◌∷◌, ◌++◌, length, map, All, ⊤, Option, IfSome, Result, Ok, Err, ◌⊎◌}
 use Rattle.std.specs.Io.KnownBytes.{Appends, IsAtEnd}
 use Rattle.sw_outside.specs.Counts.{raised}
-use Rattle.sw_http.specs.Continue.{IsCutShort, puts_after}
+use Rattle.sw_http.specs.Continue.{IsCutShort, NeedsMore, puts_after}
 use Rattle.sw_http.specs.Input.{IfSeen}
-use Rattle.sw_http.specs.Reading.{BeginsWith}
-use Rattle.sw_http.specs.Request.{IsSkipped, request_of}
+use Rattle.sw_http.specs.Reading.{BeginsWith, ReadsAll}
+use Rattle.sw_http.specs.Request.{IsSkipped, Parts, request_of}
 use Rattle.sw_message.specs.declared.request.Request.{Request}
 use Rattle.sw_session.specs.Passages.{Passage}
 use Rattle.sw_session.specs.Replies.{Halts, Replies, Serves}
@@ -164,6 +164,21 @@ pub record PutsBehind (input : Option (List ℕ)) (count calls : ℕ) (ends : Op
 abbrev pub WaitsForMore : Option (List ℕ) → Option (List ℕ) → Option (List ℕ) → List ℕ → ℕ → ℕ → Type 0
 WaitsForMore input left taken moments calls calls_now = PutsBehind input (length moments) calls
     (λ rest told_by. (written : Option (List ℕ)) × IfSeen rest left (IsCutShort written taken told_by calls_now))
+
+-- Bytes are the texts of requests that were answered, each at its moment and none of them a last one, and a rest in which no whole request stands and
+-- may still come. Where these are what was seen when more was asked for, all that came whole was answered by the session.
+pub record IsBetween {S : Type 0} (last : Request → Bool) (may : Serves S) (start : S) (moments : List ℕ) (bytes : List ℕ) : Type 0 where
+  pub parts : List Parts
+  pub rest : List ℕ
+  pub reads : ReadsAll bytes parts rest
+  pub none_last : All (λ (r : Request). last r ≡ false) (map request_of parts)
+  pub earlier : List ℕ
+  pub later : List ℕ
+  pub moments_are : moments ≡ earlier ++ later
+  pub text : List ℕ
+  pub then : S
+  pub replied : Replies may start (map request_of parts) earlier text then
+  pub needs : NeedsMore rest
 
 -- How many calls of the sink a session made, by what its loop answered: those for the requests that were answered, each at a moment of its own,
 -- and those of what ended it. Where that is one request more, the last moment is that one's.

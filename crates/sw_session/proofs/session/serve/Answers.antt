@@ -2,8 +2,10 @@ use Rattle.std.proofs.Common.{◌≡◌, ap, arith, refl, ◌∙◌, Ok, Err}
 use Rattle.std.specs.Io.KnownBytes.{prepend_known}
 use Rattle.std.proofs.lemmas.Result.{err_from_is_err_and}
 use Rattle.sw_session.specs.Passages.{Passage, passage}
-use Rattle.sw_session.proofs.Ends.{begun_with, ended_by, ended_well, fault_put, filled, none_put, turn_made, turn_put, waits_behind, well_put}
+use Rattle.sw_http.proofs.ReadsLemmas.{reads_none}
+use Rattle.sw_session.proofs.Ends.{begun_with, ended_by, ended_well, fault_put, filled, none_put, turn_made, turn_put, turn_reads, waits_behind, well_put}
 use Rattle.sw_session.specs.declared.session.SessionFault.TheVariants as faults
+use Rattle.sw_session.specs.declared.session.Turned.TheVariants as turns
 use Rattle.sw_session.proofs.session.serve.Goals as goal
 
 pub loop-init : goal.loop-init
@@ -11,6 +13,7 @@ loop-init g c = record {
   ready = c.requires.ready;
   progress = rw c.requires.none_read (rw c.new-held.ensures (begun_with g.V.Server.last g.V.Server.serves _ _ _));
   ticks = rw c.requires.none_read refl;
+  needed = reads_none _ _ _;
   reads = refl;
   writes = refl;
   read_at = refl;
@@ -69,6 +72,8 @@ loop-preserved g c = record {
   progress = turn_made g.V.Server.last g.V.Server.serves g.V.Server.halts _ _ _ _ _ _ _ _ _ _ _ _ c.loop.invariant.progress
       (rw c.in-Answered.is at c.in_ok-turn.ensures.turn);
   ticks = c.turn.ensures.ticks _ c.loop.invariant.ticks;
+  needed = turn_reads g.V.Server.last g.V.Server.serves g.V.Server.halts _ _ _ _ _ _ _ _ _ _ _ _ (Ok turns.Answered) c.loop.invariant.progress
+      (rw c.in-Answered.is at c.in_ok-turn.ensures.turn) c.loop.invariant.needed c.turn.ensures.reads;
   reads = c.in_ok-turn.ensures.counted.0 ∙ c.loop.invariant.reads;
   writes = c.in_ok-turn.ensures.counted.1 ∙ c.loop.invariant.writes;
   read_at = c.turn.ensures.source_number ∙ c.loop.invariant.read_at;
@@ -84,3 +89,14 @@ returns-clause-session g c = (
   c.loop.invariant.reads,
   c.loop.invariant.writes,
 )
+
+-- each read was needed
+pub returns-in_err-turn-clause-reads : goal.returns-in_err-turn-clause-reads
+returns-in_err-turn-clause-reads g c =
+    turn_reads g.V.Server.last g.V.Server.serves g.V.Server.halts _ _ _ _ _ _ _ _ _ _ _ _ (Err c.in_err-turn.field-0.0) c.loop.invariant.progress
+    c.in_err-turn.ensures.turn c.loop.invariant.needed c.turn.ensures.reads
+
+pub returns-in-Closed-clause-reads : goal.returns-in-Closed-clause-reads
+returns-in-Closed-clause-reads g c =
+    turn_reads g.V.Server.last g.V.Server.serves g.V.Server.halts _ _ _ _ _ _ _ _ _ _ _ _ (Ok c.in_ok-turn.field-0) c.loop.invariant.progress
+    c.in_ok-turn.ensures.turn c.loop.invariant.needed c.turn.ensures.reads

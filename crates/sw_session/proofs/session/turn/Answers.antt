@@ -1,8 +1,18 @@
 use Rattle.std.proofs.lemmas.Result.{err_from_is_err_and}
 use Rattle.std.proofs.Common.{◌≡◌, ◌∙◌, Err, ap, sym}
-use Rattle.sw_session.proofs.Turns.{answered_step, broken_puts, broken_step, halted_puts, halted_step, kept_moment, one_more_tick, takes_and_tells, turned}
+use Rattle.sw_session.proofs.Turns.{answered_step, broken_puts, broken_step, halted_puts, halted_step, kept_moment, one_more_tick}
+use Rattle.sw_session.proofs.Turns.{reading_step, takes_and_tells, turned}
 use Rattle.sw_session.proofs.session.turn.Goals as goal
 use Rattle.sw_session.proofs.session.turn.Goals.{then-last, else-last}
+
+-- no request was read
+pub returns-in_err-request-clause-turn : goal.returns-in_err-request-clause-turn
+returns-in_err-request-clause-turn g c =
+    let exit = err_from_is_err_and c.from_residual.result c.from_residual.ensures.1 in
+    rw (exit.1, exit.2) (
+    reading_step g.V.Server.last g.V.Server.serves g.V.Server.halts c.args.server.now _ _ _ _ _ _ c.in_err-request.field-0.0 c.reserve.ensures.items
+    c.in_err-request.ensures.received
+    )
 
 -- the server halted
 pub returns-in_err-response-clause-turn : goal.returns-in_err-response-clause-turn
