@@ -1,4 +1,4 @@
-use Rattle.std.proofs.Common.{◌≡◌, length}
+use Rattle.std.proofs.Common.{◌≡◌}
 use Rattle.std.specs.Io.KnownBytes.{prepend_known}
 use Rattle.sw_outside.specs.Readings.{TicksEach}
 use Rattle.sw_http.specs.Reads.{ReadsWhile}
@@ -19,6 +19,6 @@ invariant-loop g l = record {
   writes : g.W.Sink.faults l.out ≡ g.W.Sink.faults l.initial.out;
   read_at : g.R.Source.number l.source ≡ g.R.Source.number l.initial.source;
   written_at : g.W.Sink.number l.out ≡ g.W.Sink.number l.initial.out;
-  puts : PutsSoFar (g.R.Source.left l.initial.source) (prepend_known l.held (g.R.Source.left l.source)) (length l.moments.items)
-      (g.W.Sink.calls l.initial.out) (g.W.Sink.calls l.out);
+  puts : PutsSoFar g.V.Server.last g.V.Server.serves l.initial.server (g.R.Source.left l.initial.source) (prepend_known l.held (g.R.Source.left l.source))
+      (g.W.Sink.taken l.initial.out) (g.W.Sink.taken l.out) l.moments.items l.server (g.W.Sink.calls l.initial.out) (g.W.Sink.calls l.out);
 }
