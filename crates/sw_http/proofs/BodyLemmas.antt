@@ -11,7 +11,8 @@ use Rattle.sw_http.specs.Input.{IfSeen, IsShort, HasNoLineEnd}
 use Rattle.sw_message.specs.declared.framing.Framing.TheVariants.{Unframed, Length, Chunked}
 use Rattle.sw_message.specs.declared.request.Body.{Body}
 use Rattle.sw_message.specs.declared.request.Body.TheVariants.{Whole, TooLarge}
-use Rattle.sw_http.proofs.InputLemmas.{front_taken, if_behind, no_end_short, seen_behind, seen_map}
+use Rattle.sw_http.proofs.InputLemmas.{front_taken, if_behind, no_bytes, no_end_short, seen_behind, seen_map}
+use Rattle.sw_http.proofs.ReadsLemmas.{seen_before}
 use Rattle.sw_http.proofs.ListLemmas.{fronts_same}
 
 -- ---- what is kept
@@ -72,6 +73,23 @@ content_step a held after left body mid now count piece takes within after_is no
       (subst (λ (l : List ℕ). Consumes (prepend_known held left) (prepend_known l left) (take piece held)) (sym after_is) (front_taken held left piece));
   kept = now_is ∙ ap (λ (b : Body). extended b (take piece held)) takes.kept ∙ extended_twice body takes.bytes (take piece held);
 }
+
+-- so many more were read straight to where they stay, while nothing was held
+pub content_straight : (a : Option (List ℕ)) (held : List ℕ) (left now : Option (List ℕ)) (body mid after : Body) (count piece : ℕ)
+    → TakesBytes a (prepend_known held left) body mid count → length held ≡ 0 → TakesBytes left now mid after piece
+    → TakesBytes a (prepend_known held now) body after (count + piece)
+content_straight a held left now body mid after count piece takes none more = record {
+  bytes = takes.bytes ++ more.bytes;
+  size = omega (arith, length-append takes.bytes more.bytes, takes.size, more.size);
+  taken = Consumes-trans a _ _ takes.bytes more.bytes takes.taken
+      (subst (λ (l : List ℕ). Consumes (prepend_known l left) (prepend_known l now) more.bytes) (sym (no_bytes held none)) (go left now more.taken));
+  kept = more.kept ∙ ap (λ (b : Body). extended b more.bytes) takes.kept ∙ extended_twice body takes.bytes more.bytes;
+}
+  where
+    go : (x y : Option (List ℕ)) → Consumes x y more.bytes → Consumes (prepend_known [] x) (prepend_known [] y) more.bytes
+    go None y taken = tt
+    go (Some xs) None taken = taken
+    go (Some xs) (Some ys) taken = taken
 
 -- the input ended before
 pub content_short : (a b : Option (List ℕ)) (body now : Body) (count len : ℕ) → TakesBytes a b body now count → IsAtEnd b → count < len
@@ -183,3 +201,12 @@ plain_cut a left len room = seen_map a left (λ (s : List ℕ). length s < len) 
 
 pub chunks_body_cut : (a left : Option (List ℕ)) (room : ℕ) → IfSeen a left (HasNoChunked room) → IfSeen a left (HasNoBody (Some Chunked) room)
 chunks_body_cut a left room = seen_map a left (HasNoChunked room) (HasNoBody (Some Chunked) room) (no_chunks room)
+
+-- bytes of a body were read straight to where they stay, while nothing was held
+pub content_cut_straight : (a left now : Option (List ℕ)) (held : List ℕ) (body body_now : Body) (count len : ℕ)
+    → TakesBytes a (prepend_known held left) body body_now count → count < len → length held ≡ 0
+    → IfSeen left now (λ (s : List ℕ). s ≡ []) → IfSeen a now (λ (s : List ℕ). length s < len)
+content_cut_straight a left now held body body_now count len takes short none seen =
+    content_cut a (prepend_known held left) now body body_now count len takes short
+    (seen_map (prepend_known held left) now (λ (s : List ℕ). s ≡ held) (λ (s : List ℕ). length s ≡ 0) (λ bytes same. ap length same ∙ none)
+    (seen_before held left now seen))

@@ -5,6 +5,7 @@ pub mod LineLemmas
 pub mod ListLemmas
 pub mod OpeningLemmas
 pub mod ReadingLemmas
+pub mod ReadsLemmas
 pub mod RequestLemmas
 pub mod SizeLemmas
 pub mod TrailerLemmas

@@ -11,7 +11,7 @@ use Rattle.sw_http.specs.Body.{IsFramedBody, print_body}
 use Rattle.sw_http.specs.ChunkSteps.{TakesBody, HasNoBody}
 use Rattle.sw_http.specs.Continue.{Takes, AwaitsHead, HasHead, BeginsNone, FindsNoRequest}
 use Rattle.sw_http.specs.Continue.{IsCutShort, IsStopped, IsToldOnce, IsToldPart, asks_continue, continue_text}
-use Rattle.sw_http.specs.Continue.{continue_of, puts_after}
+use Rattle.sw_http.specs.Continue.{NeedsMore, continue_of, puts_after}
 use Rattle.std.specs.Prelude.{codes, is_some}
 use Rattle.std.proofs.lemmas.Bool.{cond-true, cond-false}
 use Rattle.httparse.specs.Ascii.{crlf_bytes}
@@ -192,6 +192,37 @@ cut_body a b left t now calls calls_now open_ room opens written called framed c
         ap (λ (l : List Field). is_some (framing_of l)) (sym opens.is_open.fields) ∙ framed,
         told a b t now open_ room opens written,
         called ∙ ap (λ (l : List Field). puts_after l calls) opens.is_open.fields,
+      );
+    }) cut
+
+-- ---- more was needed
+
+pub needs_opening : (a left : Option (List ℕ)) → IfSeen a left AwaitsHead → IfSeen a left NeedsMore
+needs_opening a left = seen_map a left AwaitsHead NeedsMore λ bytes awaits. record {
+  none = λ p rest reads. awaits.none.none p.skipped _ p.head reads.parts.skipped reads.parts.head (reads.whole ∙ text_split p rest);
+  may = inl awaits;
+}
+
+pub needs_body : (a b left : Option (List ℕ)) (open_ : OpenRequest) (room : ℕ) → Opens a b open_ room
+    → IfSeen b left (λ (seen : List ℕ). (is_some (framing_of open_.fields) ≡ true) × HasNoBody (framing_of open_.fields) room seen) → IfSeen a left NeedsMore
+needs_body a b left open_ room opens cut =
+    seen_behind a b left (opens.skipped ++ print_request opens.head) NeedsMore
+    (λ (seen : List ℕ). (is_some (framing_of open_.fields) ≡ true) × HasNoBody (framing_of open_.fields) room seen) opens.taken
+    (λ rest holds. record {
+      none = λ p after reads.
+          let same = start_same opens.skipped p.skipped opens.head p.head rest _ opens.are_skipped reads.parts.skipped opens.is_head reads.parts.head
+          (sym (append_assoc opens.skipped (print_request opens.head) rest) ∙ reads.whole ∙ text_split p after) in
+          no_request_behind a b open_ room opens rest holds.1 p after reads.parts same.1 same.0 same.2;
+      may = inr (
+        opens.head,
+        record {
+          skipped = opens.skipped;
+          are_skipped = opens.are_skipped;
+          is_head = opens.is_head;
+          rest = rest;
+          whole = append_assoc opens.skipped (print_request opens.head) rest;
+        },
+        ap (λ (l : List Field). is_some (framing_of l)) (sym opens.is_open.fields) ∙ holds.0,
       );
     }) cut
 

@@ -1,5 +1,5 @@
 -- The text of a body, and what is handed out of it. (RFC 9112 section 6.3, in the profile of this product.)
-use Rattle.std.specs.Prelude.{◌≡◌, ℕ, ◌≤◌, ⊤, List, [], ◌++◌, length, Option, None, Some, nat_le, if◌then◌else◌}
+use Rattle.std.specs.Prelude.{◌≡◌, ℕ, ◌+◌, ◌≤◌, ⊤, List, [], ◌++◌, length, Option, None, Some, nat_le, if◌then◌else◌}
 use Rattle.std.specs.List.{flat_map}
 use Rattle.sw_http.specs.Chunked.{ChunkedText, IsChunked, print_chunked, chunk_bytes}
 use Rattle.sw_message.specs.declared.framing.Framing.{Framing}
@@ -49,3 +49,8 @@ extended TooLarge more = TooLarge
 abbrev pub IsWithinLimit : Body → Type 0
 IsWithinLimit (Whole bytes) = length bytes ≤ 5242880
 IsWithinLimit TooLarge = ⊤
+
+-- it is kept, also with so many bytes more
+abbrev pub IsKeptWith : Body → ℕ → Type 0
+IsKeptWith (Whole bytes) more = length bytes + more ≤ 5242880
+IsKeptWith TooLarge more = ⊥

@@ -99,6 +99,11 @@ pub record StartsWithHead (bytes : List ℕ) (head : RequestHead) : Type 0 where
 abbrev pub HasNoRequest : List ℕ → Type 0
 HasNoRequest bytes = (p : Parts) (rest : List ℕ) → ¬ (Reads bytes p rest)
 
+-- no whole request stands in bytes, and more bytes may still make one: a head may still come, or one stands there and says where its body ends
+pub record NeedsMore (bytes : List ℕ) : Type 0 where
+  pub none : HasNoRequest bytes
+  pub may : AwaitsHead bytes ⊎ ((h : RequestHead) × StartsWithHead bytes h × (is_some (framing_of (fields_of h)) ≡ true))
+
 -- a read failed when these bytes of the input had been seen: no whole request stood in them, so the read was needed; and by then the client had
 -- been told what the head in front of them asks for, in one call, and nothing where no whole head stood there. It was needed only where a head
 -- could still come, or behind one that says where its body ends

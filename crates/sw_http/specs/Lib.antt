@@ -6,4 +6,5 @@ pub mod Fronts
 pub mod Input
 pub mod Opening
 pub mod Reading
+pub mod Reads
 pub mod Request

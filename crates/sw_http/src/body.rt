@@ -1,6 +1,7 @@
 ghost use Rattle.std.specs.Prelude.{◌≡◌, ◌≢◌, ℕ, ◌<◌, ◌≤◌, None, Some, Ok, Err, IfOk, IfSome, OnOk, OnErr};
 ghost use Rattle.std.specs.Io.KnownBytes.{prepend_known};
 ghost use Rattle.sw_http.specs.ChunkSteps.{IsUnread, TakesBody, HasNoBody};
+ghost use Rattle.sw_http.specs.Reads.{ReadsWhile};
 ghost use Rattle.sw_http.specs.Input.{HasFailed, IfSeen};
 ghost use Rattle.sw_message.specs.declared.framing.Framing.TheVariants.{Unframed, Length, Chunked};
 
@@ -42,6 +43,7 @@ fn take_plain<R: Source>(
     ensures starved { result ≡ Err ReadError.NoMemory → R.faults source.new ≡ R.faults source.old }
     ensures failed { result ≡ Err ReadError.Failed → HasFailed (R.faults source.old) (R.faults source.new) }
     ensures cut { result ≡ Err ReadError.Failed → IfSeen (prepend_known held.old (R.left source.old)) (R.left source.new) (HasNoBody (Some (Length len)) room) }
+    ensures reads { ReadsWhile R.left R.calls source.old source.new (prepend_known held.old (R.left source.old)) (HasNoBody (Some (Length len)) room) }
     ensures source_number { R.number source.new ≡ R.number source.old }
 {
     if len > room {
@@ -70,6 +72,7 @@ fn take_chunks<R: Source>(
     ensures starved { result ≡ Err ReadError.NoMemory → R.faults source.new ≡ R.faults source.old }
     ensures failed { result ≡ Err ReadError.Failed → HasFailed (R.faults source.old) (R.faults source.new) }
     ensures cut { result ≡ Err ReadError.Failed → IfSeen (prepend_known held.old (R.left source.old)) (R.left source.new) (HasNoBody (Some Chunked) room) }
+    ensures reads { ReadsWhile R.left R.calls source.old source.new (prepend_known held.old (R.left source.old)) (HasNoBody (Some Chunked) room) }
     ensures source_number { R.number source.new ≡ R.number source.old }
 {
     let mut body = unread_body(alloc, 0)?;
@@ -98,6 +101,7 @@ pub(crate) fn take_body<R: Source>(
     ensures starved { result ≡ Err ReadError.NoMemory → R.faults source.new ≡ R.faults source.old }
     ensures failed { result ≡ Err ReadError.Failed → HasFailed (R.faults source.old) (R.faults source.new) }
     ensures cut { result ≡ Err ReadError.Failed → IfSeen (prepend_known held.old (R.left source.old)) (R.left source.new) (HasNoBody (Some framing) room) }
+    ensures reads { ReadsWhile R.left R.calls source.old source.new (prepend_known held.old (R.left source.old)) (HasNoBody (Some framing) room) }
     ensures source_number { R.number source.new ≡ R.number source.old }
 {
     match framing {

@@ -3,6 +3,7 @@ ghost use Rattle.std.specs.Prelude.{◌≡◌, ℕ, ◌+◌, ◌≤◌, true, fa
 ghost use Rattle.std.specs.Io.KnownBytes.{prepend_known};
 ghost use Rattle.sw_http.specs.Body.{IsWithinLimit};
 ghost use Rattle.sw_http.specs.ChunkSteps.{TakesData, HasNoData, IsStep, TakesChunked, HasNoChunked};
+ghost use Rattle.sw_http.specs.Reads.{ReadsWhile};
 ghost use Rattle.sw_http.specs.Input.{HasFailed, IfSeen};
 
 use crate::chunk_line::{SizeLine, take_chunk_line};
@@ -47,6 +48,7 @@ fn take_data<R: Source>(
     ensures starved { result ≡ Err ReadError.NoMemory → R.faults source.new ≡ R.faults source.old }
     ensures failed { result ≡ Err ReadError.Failed → HasFailed (R.faults source.old) (R.faults source.new) }
     ensures cut { result ≡ Err ReadError.Failed → IfSeen (prepend_known held.old (R.left source.old)) (R.left source.new) (HasNoData size) }
+    ensures reads { ReadsWhile R.left R.calls source.old source.new (prepend_known held.old (R.left source.old)) (HasNoData size) }
     ensures source_number { R.number source.new ≡ R.number source.old }
 {
     if take_content(held, source, size, body)? {
@@ -74,6 +76,7 @@ fn take_sized<R: Source>(
     ensures starved { result ≡ Err ReadError.NoMemory → R.faults source.new ≡ R.faults source.old }
     ensures failed { result ≡ Err ReadError.Failed → HasFailed (R.faults source.old) (R.faults source.new) }
     ensures cut { result ≡ Err ReadError.Failed → IfSeen (prepend_known held.old (R.left source.old)) (R.left source.new) (HasNoData line.size) }
+    ensures reads { ReadsWhile R.left R.calls source.old source.new (prepend_known held.old (R.left source.old)) (HasNoData line.size) }
     ensures source_number { R.number source.new ≡ R.number source.old }
 {
     if fits(line, room) {
@@ -97,6 +100,7 @@ fn take_chunk<R: Source>(
     ensures starved { result ≡ Err ReadError.NoMemory → R.faults source.new ≡ R.faults source.old }
     ensures failed { result ≡ Err ReadError.Failed → HasFailed (R.faults source.old) (R.faults source.new) }
     ensures cut { result ≡ Err ReadError.Failed → IfSeen (prepend_known held.old (R.left source.old)) (R.left source.new) (HasNoChunked room) }
+    ensures reads { ReadsWhile R.left R.calls source.old source.new (prepend_known held.old (R.left source.old)) (HasNoChunked room) }
     ensures source_number { R.number source.new ≡ R.number source.old }
 {
     let Some(line) = take_chunk_line(held, source, room)? else {
@@ -132,6 +136,7 @@ pub(crate) fn take_chunked<R: Source>(
     ensures starved { result ≡ Err ReadError.NoMemory → R.faults source.new ≡ R.faults source.old }
     ensures failed { result ≡ Err ReadError.Failed → HasFailed (R.faults source.old) (R.faults source.new) }
     ensures cut { result ≡ Err ReadError.Failed → IfSeen (prepend_known held.old (R.left source.old)) (R.left source.new) (HasNoChunked room) }
+    ensures reads { ReadsWhile R.left R.calls source.old source.new (prepend_known held.old (R.left source.old)) (HasNoChunked room) }
     ensures source_number { R.number source.new ≡ R.number source.old }
 {
     let mut left = room;

@@ -9,6 +9,7 @@ ghost use Rattle.httparse.specs.Grammar.{AllPass, is_ows};
 ghost use Rattle.httparse.specs.Pieces.{Stops};
 ghost use Rattle.sw_http.specs.ChunkSteps.{HasNoLine, HasDigits, TakesExtension, HasNoExtension, TakesTail, HasNoTail, TakesLine, HasNoLineWithin};
 ghost use Rattle.sw_http.specs.ChunkSteps.{IsExtensionCut};
+ghost use Rattle.sw_http.specs.Reads.{ReadsWhile};
 ghost use Rattle.sw_http.specs.Input.{HasFailed, IfSeen};
 
 use crate::held::Held;
@@ -49,6 +50,7 @@ fn read_digits<R: Source>(held: &mut Held, source: &mut R) -> Result<Option<usiz
     ensures starved { result ≡ Err ReadError.NoMemory → R.faults source.new ≡ R.faults source.old }
     ensures failed { result ≡ Err ReadError.Failed → HasFailed (R.faults source.old) (R.faults source.new) }
     ensures cut { result ≡ Err ReadError.Failed → IfSeen (prepend_known held.old (R.left source.old)) (R.left source.new) HasNoLine }
+    ensures reads { ReadsWhile R.left R.calls source.old source.new (prepend_known held.old (R.left source.old)) HasNoLine }
     ensures source_number { R.number source.new ≡ R.number source.old }
 {
     loop {
@@ -99,6 +101,7 @@ fn take_extension<R: Source>(
     ensures starved { result ≡ Err ReadError.NoMemory → R.faults source.new ≡ R.faults source.old }
     ensures failed { result ≡ Err ReadError.Failed → HasFailed (R.faults source.old) (R.faults source.new) }
     ensures cut { result ≡ Err ReadError.Failed → IfSeen (prepend_known held.old (R.left source.old)) (R.left source.new) (IsExtensionCut room) }
+    ensures reads { ReadsWhile R.left R.calls source.old source.new (prepend_known held.old (R.left source.old)) (IsExtensionCut room) }
     ensures source_number { R.number source.new ≡ R.number source.old }
 {
     if !begins_with(held.rest(), b";") {
@@ -125,6 +128,7 @@ fn take_tail<R: Source>(
     ensures starved { result ≡ Err ReadError.NoMemory → R.faults source.new ≡ R.faults source.old }
     ensures failed { result ≡ Err ReadError.Failed → HasFailed (R.faults source.old) (R.faults source.new) }
     ensures cut { result ≡ Err ReadError.Failed → IfSeen (prepend_known held.old (R.left source.old)) (R.left source.new) (HasNoTail room) }
+    ensures reads { ReadsWhile R.left R.calls source.old source.new (prepend_known held.old (R.left source.old)) (HasNoTail room) }
     ensures source_number { R.number source.new ≡ R.number source.old }
 {
     let Some(pad) = take_run(Class::Blanks, room, held, source)? else {
@@ -153,6 +157,7 @@ pub(crate) fn take_chunk_line<R: Source>(
     ensures starved { result ≡ Err ReadError.NoMemory → R.faults source.new ≡ R.faults source.old }
     ensures failed { result ≡ Err ReadError.Failed → HasFailed (R.faults source.old) (R.faults source.new) }
     ensures cut { result ≡ Err ReadError.Failed → IfSeen (prepend_known held.old (R.left source.old)) (R.left source.new) (HasNoLineWithin room) }
+    ensures reads { ReadsWhile R.left R.calls source.old source.new (prepend_known held.old (R.left source.old)) (HasNoLineWithin room) }
     ensures source_number { R.number source.new ≡ R.number source.old }
 {
     let Some(digits) = read_digits(held, source)? else {

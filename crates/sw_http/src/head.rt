@@ -6,6 +6,7 @@ ghost use Rattle.httparse.specs.Grammar.{MayBecomeRequest};
 ghost use Rattle.sw_message.specs.Look.{IsLook, OnNotYet};
 ghost use Rattle.sw_http.specs.Fronts.{HasNoNewLine, IsUnfinished};
 ghost use Rattle.sw_message.specs.Head.{IsPath};
+ghost use Rattle.sw_http.specs.Reads.{ReadsWhile};
 ghost use Rattle.sw_http.specs.Input.{HasFailed, IfSeen};
 ghost use Rattle.sw_http.specs.Opening.{IsHeadCut};
 
@@ -50,6 +51,7 @@ pub(crate) fn read_head<R: Source>(
     ensures starved { result ≡ Err ReadError.NoMemory → R.faults source.new ≡ R.faults source.old }
     ensures failed { result ≡ Err ReadError.Failed → HasFailed (R.faults source.old) (R.faults source.new) }
     ensures cut { result ≡ Err ReadError.Failed → IfSeen (prepend_known held.old (R.left source.old)) (R.left source.new) IsHeadCut }
+    ensures reads { ReadsWhile R.left R.calls source.old source.new (prepend_known held.old (R.left source.old)) IsHeadCut }
     ensures source_number { R.number source.new ≡ R.number source.old }
 {
     let mut seen = 0;

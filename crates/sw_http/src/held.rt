@@ -1,4 +1,7 @@
-ghost use Rattle.std.specs.Prelude.{◌≡◌, ℕ, ◌+◌, ◌^◌, ◌<◌, ◌≤◌, [], length, drop, Err, IfOk, OnOk};
+ghost use Rattle.std.specs.Prelude.{◌≡◌, ◌≢◌, ℕ, ◌+◌, ◌^◌, ◌<◌, ◌≤◌, [], length, drop, Err, IfOk, OnOk};
+ghost use Rattle.std.specs.Io.KnownBytes.{prepend_known};
+ghost use Rattle.sw_outside.specs.Counts.{raised};
+ghost use Rattle.sw_http.specs.Reads.{ReadsWhile};
 ghost use Rattle.sw_http.specs.Input.{HasFailed, ReadsBehind};
 
 use crate::input::{PIECE, ReadError, drop_front, read_behind};
@@ -59,6 +62,9 @@ impl Held {
         ensures sound { OnOk result (R.faults source.new ≡ R.faults source.old) }
         ensures starved { result ≡ Err ReadError.NoMemory → R.faults source.new ≡ R.faults source.old }
         ensures failed { result ≡ Err ReadError.Failed → HasFailed (R.faults source.old) (R.faults source.new) }
+        ensures called { result ≢ Err ReadError.NoMemory → R.calls source.new ≡ raised (R.calls source.old) }
+        ensures uncalled { result ≡ Err ReadError.NoMemory → R.calls source.new ≡ R.calls source.old }
+        ensures reads { ReadsWhile R.left R.calls source.old source.new (prepend_known self.old (R.left source.old)) (λ seen. seen ≡ self.old) }
         ensures source_number { R.number source.new ≡ R.number source.old }
     {
         drop_front(&mut self.bytes, self.at);

@@ -1,6 +1,7 @@
 ghost use Rattle.std.specs.Prelude.{◌≡◌, ℕ, ◌+◌, ◌^◌, ◌<◌, ◌≤◌, ◌++◌, List, true, false, IsTrue, length, drop, Ok, Err, IfOk, IfSome, OnOk};
 ghost use Rattle.std.specs.Io.KnownBytes.{Consumes, Keeps, IsAtEnd, prepend_known};
 ghost use Rattle.httparse.specs.Ascii.{crlf_bytes};
+ghost use Rattle.sw_http.specs.Reads.{ReadsWhile};
 ghost use Rattle.sw_http.specs.Input.{HasFailed, HasNoLineEnd, IfSeen, IsShort};
 
 use crate::held::Held;
@@ -18,6 +19,7 @@ fn hold_two<R: Source>(held: &mut Held, source: &mut R) -> Result<bool, ReadErro
     ensures starved { result ≡ Err ReadError.NoMemory → R.faults source.new ≡ R.faults source.old }
     ensures failed { result ≡ Err ReadError.Failed → HasFailed (R.faults source.old) (R.faults source.new) }
     ensures cut { result ≡ Err ReadError.Failed → IfSeen (prepend_known held.old (R.left source.old)) (R.left source.new) (IsShort held.old) }
+    ensures reads { ReadsWhile R.left R.calls source.old source.new (prepend_known held.old (R.left source.old)) (IsShort held.old) }
     ensures source_number { R.number source.new ≡ R.number source.old }
 {
     while held.rest().len() < CRLF.len() {
@@ -36,6 +38,7 @@ pub(crate) fn take_line_end<R: Source>(held: &mut Held, source: &mut R) -> Resul
     ensures starved { result ≡ Err ReadError.NoMemory → R.faults source.new ≡ R.faults source.old }
     ensures failed { result ≡ Err ReadError.Failed → HasFailed (R.faults source.old) (R.faults source.new) }
     ensures cut { result ≡ Err ReadError.Failed → IfSeen (prepend_known held.old (R.left source.old)) (R.left source.new) (IsShort held.old) }
+    ensures reads { ReadsWhile R.left R.calls source.old source.new (prepend_known held.old (R.left source.old)) (IsShort held.old) }
     ensures source_number { R.number source.new ≡ R.number source.old }
 {
     if !hold_two(held, source)? || !begins_with(held.rest(), CRLF) {

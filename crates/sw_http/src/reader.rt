@@ -4,10 +4,11 @@ ghost use Rattle.sw_outside.specs.Counts.{raised};
 ghost use Rattle.sw_outside.specs.Faults.{HasRisen};
 ghost use Rattle.sw_outside.specs.Taken.{AppendsPart};
 ghost use Rattle.sw_http.specs.Continue.{Takes, FindsNoRequest, MayContinue, IsToldPart, IsToldOnce, IsCut, IsCutShort, IsStopped, asks_continue};
-ghost use Rattle.sw_http.specs.Continue.{continue_text, puts_after};
+ghost use Rattle.sw_http.specs.Continue.{continue_text, puts_after, NeedsMore};
 ghost use Rattle.sw_http.specs.ChunkSteps.{TakesBody, HasNoBody};
 ghost use Rattle.sw_message.specs.Framing.{framing_of, is_framed};
 ghost use Rattle.sw_message.specs.declared.framing.Framing.TheVariants.{Unframed};
+ghost use Rattle.sw_http.specs.Reads.{ReadsWhile};
 ghost use Rattle.sw_http.specs.Input.{HasFailed, IfSeen, fault_of};
 ghost use Rattle.sw_http.specs.Request.{IsSkipped};
 ghost use Rattle.sw_http.specs.declared.reader.HttpFault.TheVariants as faults;
@@ -59,6 +60,9 @@ impl From<Failed> for HttpFault {
 /// Where the head of a request with a body has `Expect: 100-continue`, `100 Continue` is written before the body is read, in one call of
 /// the sink. Nothing else is ever written.
 ///
+/// No read is made where a whole request is held, nor behind what can't become a head, nor behind a head that doesn't say where its body ends:
+/// before each read no whole request stood in what was held and read till then, and more bytes might still make one.
+///
 /// `None` comes where the input ended and nothing but CR and LF to be skipped was left. [`HttpFault::Bad`] comes where no front of the
 /// input is a request's text.
 ///
@@ -101,6 +105,9 @@ pub fn next_request<R: Source, W: Sink>(
     ensures write_failed_once { result ≡ Err HttpFault.WriteFault → W.faults out.new ≡ raised (W.faults out.old) }
     ensures stopped { result ≡ Err HttpFault.WriteFault → IsStopped (prepend_known held.old (R.left source.old)) (prepend_known held.new (R.left source.new))
         (W.taken out.old) (W.taken out.new) (W.calls out.old) (W.calls out.new) }
+
+    // A read is made only where what was seen before it is no whole request, and may still become one.
+    ensures reads { ReadsWhile R.left R.calls source.old source.new (prepend_known held.old (R.left source.old)) NeedsMore }
 
     // The sink is called once where the client waits to be told, and never else.
     ensures puts { (W.calls out.new ≡ W.calls out.old) ⊎ IsToldOnce (prepend_known held.old (R.left source.old)) (W.calls out.old) (W.calls out.new) }
@@ -173,6 +180,8 @@ fn read_body<R: Source, W: Sink>(
     ensures puts { W.calls out.new ≡ puts_after fields.now (W.calls out.old) }
     ensures written_sound { result ≢ Err HttpFault.WriteFault → W.faults out.new ≡ W.faults out.old }
     ensures write_failed { result ≡ Err HttpFault.WriteFault → HasFailed (W.faults out.old) (W.faults out.new) }
+    ensures reads { ReadsWhile R.left R.calls source.old source.new (prepend_known held.old (R.left source.old))
+        (λ seen. (is_some (framing_of fields.now) ≡ true) × HasNoBody (framing_of fields.now) room seen) }
     ensures source_number { R.number source.new ≡ R.number source.old }
     ensures sink_number { W.number out.new ≡ W.number out.old }
 {

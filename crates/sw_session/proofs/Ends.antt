@@ -1,14 +1,18 @@
 -- How the turns of a session's loop make up a session.
 use Rattle.std.proofs.Common.{◌≡◌, ℕ, ◌+◌, ◌<◌, Bool, List, [], ◌∷◌, ◌++◌, length, Option, Some, None, refl, sym, ap, ◌∙◌, subst}
-use Rattle.std.proofs.Common.{append_assoc, append-nil, arith, length-append, inl, inr, Ok, Err, true, false, ◌⊎◌, ◌-◌}
+use Rattle.std.proofs.Common.{All, Result, append_assoc, append-nil, arith, length-append, inl, inr, Ok, Err, true, false, ◌⊎◌, ◌-◌}
 use Rattle.std.specs.List.{flat_map}
+use Rattle.std.specs.Prelude.{⊤}
 use Rattle.std.specs.Io.KnownBytes.{Appends, Consumes, IsAtEnd, prepend_known}
 use Rattle.std.proofs.KnownBytes.{Appends-trans, Appends-nil, Consumes-nil, Consumes-trans}
 use Rattle.std.proofs.lemmas.Grind.{flat_map-append}
 use Rattle.std.proofs.lemmas.List.{map-append}
 use Rattle.std.proofs.lemmas.List.Elements.{All-nil, All-push}
 use Rattle.sw_outside.specs.Counts.{raised}
-use Rattle.sw_http.specs.Continue.{IsCutShort, puts_after}
+use Rattle.sw_http.specs.Continue.{IsCutShort, NeedsMore, puts_after}
+use Rattle.sw_http.specs.Reads.{ReadsWhile}
+use Rattle.sw_http.proofs.InputLemmas.{seen_behind, seen_map}
+use Rattle.sw_http.proofs.ReadsLemmas.{reads_map, reads_then}
 use Rattle.sw_http.specs.Input.{IfSeen}
 use Rattle.sw_http.specs.Request.{Parts, AreParts, request_of, text_of}
 use Rattle.sw_http.specs.Reading.{BeginsWith}
@@ -17,8 +21,8 @@ use Rattle.sw_message.specs.declared.response.Response.{Response}
 use Rattle.sw_session.specs.Passages.{Passage}
 use Rattle.sw_session.specs.Replies.{Halts, Serves, Replies, written_for}
 use Rattle.sw_session.specs.Session.{SoFar, Closed, Complete, Full, Broken, HaltedAt, IsSession, IsSound, IsWhole, most_requests}
-use Rattle.sw_session.specs.Session.{PutsBehind, PutsForSession, WaitsForMore, puts_for}
-use Rattle.sw_session.specs.Turn.{AnswersOne, MayTell, MayTellAndPuts, PutsForTurn, TakesAndPuts, TakesAndTells}
+use Rattle.sw_session.specs.Session.{IsBetween, OwnPuts, OwnPutsAtOneMore, OwnPutsBehind, PutsBehind, PutsForSession, WaitsForMore, puts_for}
+use Rattle.sw_session.specs.Turn.{AnswersByPuts, Halted, MayTell, MayTellAndPuts, PutsForTurn, TakesAndTells}
 use Rattle.sw_session.specs.Turn.{CutsReply, HaltsTurn, Idles, IsCounted, IsTurn, Replied, StopsBetween}
 use Rattle.sw_session.specs.declared.server.ServerFault.{ServerFault}
 use Rattle.sw_session.specs.declared.server.ServerFault.TheVariants as servers
@@ -329,17 +333,17 @@ whole may halts start source sink moments after s = by s.0
 
 -- ---- counts of the sink's calls
 
--- the loop has come so far: this many requests were answered, and so many calls of the sink there were for them
-pub record PutsSoFar (input rest : Option (List ℕ)) (count calls now : ℕ) : Type 0 where
-  pub requests : List Request
-  pub count_is : length requests ≡ count
-  pub begins : BeginsWith input requests rest
-  pub called : now ≡ puts_for requests calls
+-- the loop has come so far: these requests were answered, and so many calls of the sink there were for them
+pub record PutsSoFar {S : Type 0} (last : Request → Bool) (may : Serves S) (start : S) (input rest taken now : Option (List ℕ)) (moments : List ℕ)
+    (after : S) (calls calls_now : ℕ) : Type 0 where
+  pub done : SoFar last may start input rest taken now moments after
+  pub called : calls_now ≡ puts_for done.requests calls
 
 -- none, as it begins
-pub none_put : (left : Option (List ℕ)) (calls : ℕ) → PutsSoFar left (prepend_known [] left) 0 calls calls
-none_put None calls = record { requests = []; count_is = refl; begins = begins_with_none None; called = refl }
-none_put (Some bytes) calls = record { requests = []; count_is = refl; begins = begins_with_none (Some bytes); called = refl }
+pub none_put : {S : Type 0} (last : Request → Bool) (may : Serves S) (start : S) (left out : Option (List ℕ)) (calls : ℕ)
+    → PutsSoFar last may start left (prepend_known [] left) out out [] start calls calls
+none_put last may start None out calls = let first = begun last may start None out in record { done = first.done; called = refl }
+none_put last may start (Some bytes) out calls = let first = begun last may start (Some bytes) out in record { done = first.done; called = refl }
 
 -- the calls for one request more
 puts_for-one : (requests : List Request) (request : Request) (calls : ℕ)
@@ -355,89 +359,324 @@ one_longer moments moments_now moment is = ap length is ∙ length-append moment
 one_fewer : (moments moments_now : List ℕ) (moment : ℕ) → moments_now ≡ moments ++ moment ∷ [] → length moments ≡ length moments_now - 1
 one_fewer moments moments_now moment is = let longer = one_longer moments moments_now moment is in omega arith
 
--- the calls of one turn more
-one_put : (input left rest : Option (List ℕ)) (count calls then now : ℕ)
-    → PutsSoFar input left count calls then → TakesAndPuts left rest then now → PutsSoFar input rest (count + 1) calls now
-one_put input left rest count calls then now so_far puts =
-    let one = request_of puts.1.parts in record {
-      requests = so_far.requests ++ one ∷ [];
-      count_is = length-append so_far.requests (one ∷ []) ∙ ap (λ n. n + 1) so_far.count_is;
-      begins = begins_with_more input left rest so_far.requests puts.1.parts so_far.begins puts.1.are_parts puts.1.consumed;
-      called = puts.2 ∙ ap raised (puts.1.told ∙ ap (puts_after one.fields) so_far.called) ∙ sym (puts_for-one so_far.requests one calls);
-    }
-
 -- one request more was answered
-pub turn_put : {S : Type 0} (last : Request → Bool) (may : Serves S) (mid after : S)
-    (input left rest then_taken now_taken : Option (List ℕ)) (moments moments_now : List ℕ) (is_last : Bool) (calls then now : ℕ)
-    → PutsSoFar input left (length moments) calls then → TakesAndPuts left rest then now
-    → AnswersOne last may mid after moments moments_now left rest then_taken now_taken is_last
-    → PutsSoFar input rest (length moments_now) calls now
-turn_put last may mid after input left rest then_taken now_taken moments moments_now is_last calls then now so_far puts turn =
-    subst (λ (n : ℕ). PutsSoFar input rest n calls now) (sym (one_longer moments moments_now turn.0 turn.1))
-    (one_put input left rest (length moments) calls then now so_far puts)
+pub turn_put : {S : Type 0} (last : Request → Bool) (may : Serves S) (start mid after : S) (input left rest taken then now : Option (List ℕ))
+    (moments moments_now : List ℕ) (calls calls_then calls_now : ℕ)
+    → PutsSoFar last may start input left taken then moments mid calls calls_then
+    → AnswersByPuts last may mid after moments moments_now left rest then now false calls_then calls_now
+    → PutsSoFar last may start input rest taken now moments_now after calls calls_now
+turn_put last may start mid after input left rest taken then now moments moments_now calls calls_then calls_now so_far turn =
+    let request = request_of turn.2.0.turn.parts in
+    subst (λ (m : List ℕ). PutsSoFar last may start input rest taken now m after calls calls_now) (sym turn.1) (record {
+      done = one_more last may start mid after input left rest taken then now moments turn.0 so_far.done turn.2.0 turn.2.1;
+      called = turn.2.2 ∙ ap (λ (n : ℕ). raised (puts_after request.fields n)) so_far.called ∙ sym (puts_for-one so_far.done.requests request calls);
+    })
 
 -- behind the requests that were answered, the session ended so
-ends_behind : (input left : Option (List ℕ)) (count same calls then : ℕ) (ends : Option (List ℕ) → ℕ → Type 0)
-    → PutsSoFar input left count calls then → count ≡ same → ends left then → PutsBehind input same calls ends
-ends_behind input left count same calls then ends so_far is end = record {
-  requests = so_far.requests;
-  count_is = so_far.count_is ∙ is;
-  rest = left;
-  begins = so_far.begins;
-  end = subst (ends left) so_far.called end;
-}
+ends_behind : {S : Type 0} (last : Request → Bool) (may : Serves S) (start mid : S) (input left taken then : Option (List ℕ)) (moments : List ℕ)
+    (calls calls_then : ℕ) (ends : Option (List ℕ) → Option (List ℕ) → ℕ → Type 0)
+    → PutsSoFar last may start input left taken then moments mid calls calls_then → ends left then calls_then
+    → OwnPutsBehind last may start mid input taken moments calls ends
+ends_behind last may start mid input left taken then moments calls calls_then ends so_far end =
+    record { rest = left; mid = then; done = so_far.done; end = subst (ends left then) so_far.called end }
+
+-- a turn that answered nothing kept no moment, and left the server as it was
+ends_idle : {S : Type 0} (last : Request → Bool) (may : Serves S) (start mid after : S) (input left taken then : Option (List ℕ))
+    (moments moments_now : List ℕ) (calls calls_then : ℕ) (ends : Option (List ℕ) → Option (List ℕ) → ℕ → Type 0)
+    → PutsSoFar last may start input left taken then moments mid calls calls_then → Idles mid after moments moments_now → ends left then calls_then
+    → OwnPutsBehind last may start after input taken moments_now calls ends
+ends_idle {S} last may start mid after input left taken then moments moments_now calls calls_then ends so_far idles end =
+    subst (λ (m : List ℕ). OwnPutsBehind last may start after input taken m calls ends) (sym idles.no_moment)
+    (subst (λ (s : S). OwnPutsBehind last may start s input taken moments calls ends) (sym idles.same)
+    (ends_behind last may start mid input left taken then moments calls calls_then ends so_far end))
 
 -- as many requests were answered as a session has at most
-pub full_put : (input left : Option (List ℕ)) (moments : List ℕ) (calls now : ℕ)
-    → PutsSoFar input left (length moments) calls now → PutsForSession input moments calls now (Err faults.TooLong)
-full_put input left moments calls now so_far = ends_behind input left _ _ calls now (λ rest mid. now ≡ mid) so_far refl refl
+pub full_put : {S : Type 0} (last : Request → Bool) (may : Serves S) (halts : Halts S) (start after : S) (input left taken now : Option (List ℕ))
+    (moments : List ℕ) (calls calls_now : ℕ)
+    → PutsSoFar last may start input left taken now moments after calls calls_now
+    → OwnPuts last may halts start after input taken now moments calls calls_now (Err faults.TooLong)
+full_put last may halts start after input left taken now moments calls calls_now so_far =
+    ends_behind last may start after input left taken now moments calls calls_now (λ rest mid told. calls_now ≡ told) so_far refl
 
 -- a turn behind which the session doesn't go on ended it well
-pub well_put : {S : Type 0} (last : Request → Bool) (may : Serves S) (halts : Halts S) (mid after : S)
-    (input left rest then_taken now_taken : Option (List ℕ)) (moments moments_now : List ℕ) (calls then now : ℕ) (turned : Turned)
-    → (turned ≡ turns.Closed) ⊎ (turned ≡ turns.Ended) → PutsSoFar input left (length moments) calls then
-    → IsTurn last may halts mid after moments moments_now left rest then_taken now_taken (Ok turned) → PutsForTurn left rest then now (Ok turned)
-    → PutsForSession input moments_now calls now (Ok tt)
-well_put last may halts mid after input left rest then_taken now_taken moments moments_now calls then now turns.Closed is so_far turn puts =
-    let whole = turn_put last may mid after input left rest then_taken now_taken moments moments_now true calls then now so_far puts turn in
-    ends_behind input rest _ _ calls now (λ rest mid. now ≡ mid) whole refl refl
-well_put last may halts mid after input left rest then_taken now_taken moments moments_now calls then now turns.Ended is so_far turn puts =
-    ends_behind input left _ _ calls then (λ rest mid. now ≡ mid) so_far (ap length (sym turn.0.no_moment)) puts
-well_put last may halts mid after input left rest then_taken now_taken moments moments_now calls then now turns.Answered (inl is) so_far turn puts = cc
-well_put last may halts mid after input left rest then_taken now_taken moments moments_now calls then now turns.Answered (inr is) so_far turn puts = cc
+pub well_put : {S : Type 0} (last : Request → Bool) (may : Serves S) (halts : Halts S) (start mid after : S)
+    (input left rest taken then now : Option (List ℕ)) (moments moments_now : List ℕ) (calls calls_then calls_now : ℕ) (turned : Turned)
+    → (turned ≡ turns.Closed) ⊎ (turned ≡ turns.Ended) → PutsSoFar last may start input left taken then moments mid calls calls_then
+    → IsTurn last may halts mid after moments moments_now left rest then now (Ok turned)
+    → PutsForTurn last may halts mid after moments moments_now left rest then now calls_then calls_now (Ok turned)
+    → OwnPuts last may halts start after input taken now moments_now calls calls_now (Ok tt)
+well_put last may halts start mid after input left rest taken then now moments moments_now calls calls_then calls_now turns.Closed is so_far turn puts =
+    inr (
+      mid,
+      moments,
+      puts.0,
+      puts.1,
+      ends_behind last may start mid input left taken then moments calls calls_then
+          (λ rest_then mid_then told. (behind : Option (List ℕ)) × ((reply : Replied may mid after rest_then behind mid_then now puts.0)
+          × (last (request_of reply.turn.parts) ≡ true) × (calls_now ≡ raised (puts_after (request_of reply.turn.parts).fields told))))
+          so_far (rest, puts.2),
+    )
+well_put last may halts start mid after input left rest taken then now moments moments_now calls calls_then calls_now turns.Ended is so_far turn puts =
+    inl (ends_idle last may start mid after input left taken then moments moments_now calls calls_then (λ rest mid told. calls_now ≡ told) so_far turn.0 puts)
+well_put last may halts start mid after input left rest taken then now moments moments_now calls calls_then calls_now turns.Answered (inl is) so_far turn puts =
+    cc
+well_put last may halts start mid after input left rest taken then now moments moments_now calls calls_then calls_now turns.Answered (inr is) so_far turn puts =
+    cc
 
 -- a turn that ended the session by a fault ended it so
-pub fault_put : {S : Type 0} (last : Request → Bool) (may : Serves S) (halts : Halts S) (mid after : S)
-    (input left rest then_taken now_taken : Option (List ℕ)) (moments moments_now : List ℕ) (calls then now : ℕ) (fault : SessionFault)
-    → PutsSoFar input left (length moments) calls then
-    → IsTurn last may halts mid after moments moments_now left rest then_taken now_taken (Err fault) → PutsForTurn left rest then now (Err fault)
-    → PutsForSession input moments_now calls now (Err fault)
-fault_put last may halts mid after input left rest then_taken now_taken moments moments_now calls then now faults.ReadFault so_far turn puts =
-    ends_behind input left _ _ calls then (λ rest mid. MayTell rest mid now) so_far (ap length (sym turn.0.no_moment)) puts
-fault_put last may halts mid after input left rest then_taken now_taken moments moments_now calls then now faults.BadInput so_far turn puts =
-    ends_behind input left _ _ calls then (λ rest mid. MayTellAndPuts rest mid now) so_far (ap length (sym turn.0.no_moment)) puts
-fault_put last may halts mid after input left rest then_taken now_taken moments moments_now calls then now faults.WriteFault so_far (inl idles) puts =
-    inl (ends_behind input left _ _ calls then (λ rest mid. MayTellAndPuts rest mid now) so_far (ap length (sym idles.0.no_moment)) puts)
-fault_put last may halts mid after input left rest then_taken now_taken moments moments_now calls then now faults.WriteFault so_far (inr cuts) puts =
-    inr (ends_behind input left _ _ calls then (λ rest mid. MayTellAndPuts rest mid now) so_far (one_fewer moments moments_now cuts.0 cuts.1) puts)
-fault_put last may halts mid after input left rest then_taken now_taken moments moments_now calls then now faults.NoMemory so_far (inl idles) puts =
-    inl (ends_behind input left _ _ calls then (λ rest mid. MayTell rest mid now) so_far (ap length (sym idles.0.no_moment)) puts)
-fault_put last may halts mid after input left rest then_taken now_taken moments moments_now calls then now faults.NoMemory so_far (inr (inl cuts)) puts =
-    inr (ends_behind input left _ _ calls then (λ rest mid. MayTell rest mid now) so_far (one_fewer moments moments_now cuts.0 cuts.1) puts)
-fault_put last may halts mid after input left rest then_taken now_taken moments moments_now calls then now faults.NoMemory so_far (inr (inr halt)) puts =
-    inr (ends_behind input left _ _ calls then (λ rest mid. MayTell rest mid now) so_far (one_fewer moments moments_now halt.0 halt.1) puts)
-fault_put last may halts mid after input left rest then_taken now_taken moments moments_now calls then now faults.ServerFault so_far turn puts =
-    ends_behind input left _ _ calls then (λ left mid. (behind : Option (List ℕ)) × TakesAndTells left behind mid now) so_far
-    (one_fewer moments moments_now turn.0 turn.1) (rest, puts)
-fault_put last may halts mid after input left rest then_taken now_taken moments moments_now calls then now faults.TooLong so_far turn puts = absurd turn
+module _ {S : Type 0} (last : Request → Bool) (may : Serves S) (halts : Halts S) (start mid after : S)
+    (input left rest taken then now : Option (List ℕ)) (moments moments_now : List ℕ) (calls calls_then calls_now : ℕ)
+    (so_far : PutsSoFar last may start input left taken then moments mid calls calls_then) where
+  idle_tells : Idles mid after moments moments_now → MayTell left calls_then calls_now
+      → OwnPutsBehind last may start after input taken moments_now calls (λ rest mid told. MayTell rest told calls_now)
+  idle_tells idles puts = ends_idle last may start mid after input left taken then moments moments_now calls calls_then
+      (λ rest mid told. MayTell rest told calls_now) so_far idles puts
+
+  idle_puts : Idles mid after moments moments_now → MayTellAndPuts left calls_then calls_now
+      → OwnPutsBehind last may start after input taken moments_now calls (λ rest mid told. MayTellAndPuts rest told calls_now)
+  idle_puts idles puts = ends_idle last may start mid after input left taken then moments moments_now calls calls_then
+      (λ rest mid told. MayTellAndPuts rest told calls_now) so_far idles puts
+
+  more_tells : (moment : ℕ) → moments_now ≡ moments ++ moment ∷ [] → MayTell left calls_then calls_now
+      → OwnPutsAtOneMore last may start input taken moments_now calls (λ then moment rest mid told. MayTell rest told calls_now)
+  more_tells moment is puts = (
+    mid,
+    moments,
+    moment,
+    is,
+    ends_behind last may start mid input left taken then moments calls calls_then (λ rest mid told. MayTell rest told calls_now) so_far puts,
+  )
+
+  more_puts : (moment : ℕ) → moments_now ≡ moments ++ moment ∷ [] → MayTellAndPuts left calls_then calls_now
+      → OwnPutsAtOneMore last may start input taken moments_now calls (λ then moment rest mid told. MayTellAndPuts rest told calls_now)
+  more_puts moment is puts = (
+    mid,
+    moments,
+    moment,
+    is,
+    ends_behind last may start mid input left taken then moments calls calls_then (λ rest mid told. MayTellAndPuts rest told calls_now) so_far puts,
+  )
+
+  pub fault_put : (fault : SessionFault)
+      → IsTurn last may halts mid after moments moments_now left rest then now (Err fault)
+      → PutsForTurn last may halts mid after moments moments_now left rest then now calls_then calls_now (Err fault)
+      → OwnPuts last may halts start after input taken now moments_now calls calls_now (Err fault)
+  fault_put faults.ReadFault turn puts = idle_tells turn.0 puts
+  fault_put faults.BadInput turn puts = idle_puts turn.0 puts
+  fault_put faults.WriteFault (inl idles) puts = inl (idle_puts idles.0 puts)
+  fault_put faults.WriteFault (inr cuts) puts = inr (more_puts cuts.0 cuts.1 puts)
+  fault_put faults.NoMemory (inl idles) puts = inl (idle_tells idles.0 puts)
+  fault_put faults.NoMemory (inr (inl cuts)) puts = inr (more_tells cuts.0 cuts.1 puts)
+  fault_put faults.NoMemory (inr (inr halt)) puts = inr (more_tells halt.0 halt.1 puts)
+  fault_put faults.ServerFault turn puts = (
+    mid,
+    moments,
+    puts.0,
+    puts.1,
+    ends_behind last may start mid input left taken then moments calls calls_then
+        (λ rest_then mid_then told. (behind : Option (List ℕ)) × ((halt : Halted halts mid after rest_then behind mid_then now puts.0 servers.Failed)
+        × (calls_now ≡ puts_after (request_of halt.parts).fields told)))
+        so_far (rest, puts.2),
+  )
+  fault_put faults.TooLong turn puts = absurd turn
 
 -- a read failed in a turn: no whole request was seen behind those that were answered
-pub waits_behind : {S : Type 0} (last : Request → Bool) (may : Serves S) (halts : Halts S) (mid after : S)
-    (input left rest then_taken now_taken source_left : Option (List ℕ)) (moments moments_now : List ℕ) (calls then now : ℕ) (fault : SessionFault)
-    → PutsSoFar input left (length moments) calls then
-    → IsTurn last may halts mid after moments moments_now left rest then_taken now_taken (Err fault) → fault ≡ faults.ReadFault
-    → IfSeen left source_left (IsCutShort then_taken now_taken then now) → WaitsForMore input source_left now_taken moments_now calls now
-waits_behind last may halts mid after input left rest then_taken now_taken source_left moments moments_now calls then now fault so_far turn is seen =
-    let idles = (subst (λ (f : SessionFault). IsTurn last may halts mid after moments moments_now left rest then_taken now_taken (Err f)) is turn).0 in
-    ends_behind input left _ _ calls then (λ rest told_by. (w : Option (List ℕ)) × IfSeen rest source_left (IsCutShort w now_taken told_by now)) so_far
-    (ap length (sym idles.no_moment)) (then_taken, seen)
+pub waits_behind : {S : Type 0} (last : Request → Bool) (may : Serves S) (halts : Halts S) (start mid after : S)
+    (input left rest taken then now source_left : Option (List ℕ)) (moments moments_now : List ℕ) (calls calls_then calls_now : ℕ) (fault : SessionFault)
+    → PutsSoFar last may start input left taken then moments mid calls calls_then
+    → IsTurn last may halts mid after moments moments_now left rest then now (Err fault) → fault ≡ faults.ReadFault
+    → IfSeen left source_left (IsCutShort then now calls_then calls_now)
+    → WaitsForMore last may start after input source_left taken now moments_now calls calls_now
+waits_behind last may halts start mid after input left rest taken then now source_left moments moments_now calls calls_then calls_now fault so_far turn
+    is seen =
+    let idles = (subst (λ (f : SessionFault). IsTurn last may halts mid after moments moments_now left rest then now (Err f)) is turn).0 in
+    ends_idle last may start mid after input left taken then moments moments_now calls calls_then
+    (λ rest mid told_by. IfSeen rest source_left (IsCutShort mid now told_by calls_now)) so_far idles seen
+
+-- ---- the same, told by the number of requests
+
+-- as many requests as moments were answered
+as_many : {S : Type 0} (may : Serves S) (start after : S) (requests : List Request) (moments text : List ℕ) → Replies may start requests moments text after
+    → length requests ≡ length moments
+as_many may start after [] moments text replied = sym (ap length replied.0)
+as_many may start after (r ∷ requests) moments text replied =
+    let tail = as_many may replied.1 after requests replied.3 replied.4 replied.8 in
+    let here = ap length replied.6 in
+    omega arith
+
+counted_behind : {S : Type 0} (last : Request → Bool) (may : Serves S) (start after : S) (input taken : Option (List ℕ)) (moments : List ℕ) (calls count : ℕ)
+    (ends : Option (List ℕ) → Option (List ℕ) → ℕ → Type 0) (counted : Option (List ℕ) → ℕ → Type 0)
+    → length moments ≡ count → ((rest mid : Option (List ℕ)) (told : ℕ) → ends rest mid told → counted rest told)
+    → OwnPutsBehind last may start after input taken moments calls ends → PutsBehind input count calls counted
+counted_behind last may start after input taken moments calls count ends counted is step own = record {
+  requests = own.done.requests;
+  count_is = as_many may start after own.done.requests moments own.done.text own.done.replied ∙ is;
+  rest = own.rest;
+  begins = own.done.begins;
+  end = step own.rest own.mid (puts_for own.done.requests calls) own.end;
+}
+
+counted : {S : Type 0} (last : Request → Bool) (may : Serves S) (halts : Halts S) (start after : S) (input taken taken_now : Option (List ℕ))
+    (moments : List ℕ) (calls calls_now : ℕ) (result : Result ⊤ SessionFault)
+    → OwnPuts last may halts start after input taken taken_now moments calls calls_now result → PutsForSession input moments calls calls_now result
+counted {S} last may halts start after input taken taken_now moments calls calls_now result own = by result own
+  where
+    behind : (ends : Option (List ℕ) → ℕ → Type 0) → OwnPutsBehind last may start after input taken moments calls (λ rest mid told. ends rest told)
+        → PutsBehind input (length moments) calls ends
+    behind ends own =
+        counted_behind last may start after input taken moments calls (length moments) (λ rest mid told. ends rest told) ends refl
+        (λ rest mid told end. end) own
+
+    one : (ends : Option (List ℕ) → ℕ → Type 0) → OwnPutsAtOneMore last may start input taken moments calls (λ then moment rest mid told. ends rest told)
+        → PutsBehind input (length moments - 1) calls ends
+    one ends own =
+        counted_behind last may start own.0 input taken own.1 calls (length moments - 1) (λ rest mid told. ends rest told) ends
+        (one_fewer own.1 moments own.2 own.3) (λ rest mid told end. end) own.4
+
+    closed : OwnPutsAtOneMore last may start input taken moments calls (λ then moment rest mid told. (behind : Option (List ℕ))
+        × ((reply : Replied may then after rest behind mid taken_now moment) × (last (request_of reply.turn.parts) ≡ true)
+        × (calls_now ≡ raised (puts_after (request_of reply.turn.parts).fields told)))) → PutsBehind input (length moments) calls (λ rest mid. calls_now ≡ mid)
+    closed own =
+        let so_far = own.4.done in
+        let reply = own.4.end.1.0 in
+        let request = request_of reply.turn.parts in
+        let many = as_many may start own.0 so_far.requests own.1 so_far.text so_far.replied in
+        record {
+          requests = so_far.requests ++ request ∷ [];
+          count_is = length-append so_far.requests (request ∷ []) ∙ ap (λ (n : ℕ). n + 1) many ∙ sym (one_longer own.1 moments own.2 own.3);
+          rest = own.4.end.0;
+          begins = begins_with_more input own.4.rest own.4.end.0 so_far.requests reply.turn.parts so_far.begins reply.turn.are_parts reply.turn.consumed;
+          end = own.4.end.1.2 ∙ sym (puts_for-one so_far.requests request calls);
+        }
+
+    by : (result : Result ⊤ SessionFault) → OwnPuts last may halts start after input taken taken_now moments calls calls_now result
+        → PutsForSession input moments calls calls_now result
+    by (Ok _) (inl own) = behind (λ rest mid. calls_now ≡ mid) own
+    by (Ok _) (inr own) = closed own
+    by (Err faults.ReadFault) own = behind (λ rest mid. MayTell rest mid calls_now) own
+    by (Err faults.WriteFault) (inl own) = inl (behind (λ rest mid. MayTellAndPuts rest mid calls_now) own)
+    by (Err faults.WriteFault) (inr own) = inr (one (λ rest mid. MayTellAndPuts rest mid calls_now) own)
+    by (Err faults.TooLong) own = behind (λ rest mid. calls_now ≡ mid) own
+    by (Err faults.BadInput) own = behind (λ rest mid. MayTellAndPuts rest mid calls_now) own
+    by (Err faults.ServerFault) own =
+        counted_behind last may start own.0 input taken own.1 calls (length moments - 1)
+        (λ rest mid told. (behind : Option (List ℕ)) × ((halt : Halted halts own.0 after rest behind mid taken_now own.2 servers.Failed)
+        × (calls_now ≡ puts_after (request_of halt.parts).fields told)))
+        (λ rest mid. (behind : Option (List ℕ)) × TakesAndTells rest behind mid calls_now)
+        (one_fewer own.1 moments own.2 own.3)
+        (λ rest mid told end. (
+          end.0,
+          record { parts = end.1.0.parts; are_parts = end.1.0.are_parts; consumed = end.1.0.consumed; told = end.1.1 },
+        )) own.4
+    by (Err faults.NoMemory) (inl own) = inl (behind (λ rest mid. MayTell rest mid calls_now) own)
+    by (Err faults.NoMemory) (inr own) = inr (one (λ rest mid. MayTell rest mid calls_now) own)
+
+pub fault_counted : {S : Type 0} (last : Request → Bool) (may : Serves S) (halts : Halts S) (start mid after : S)
+    (input left rest taken then now : Option (List ℕ)) (moments moments_now : List ℕ) (calls calls_then calls_now : ℕ)
+    → PutsSoFar last may start input left taken then moments mid calls calls_then → (fault : SessionFault)
+    → IsTurn last may halts mid after moments moments_now left rest then now (Err fault)
+    → PutsForTurn last may halts mid after moments moments_now left rest then now calls_then calls_now (Err fault)
+    → PutsForSession input moments_now calls calls_now (Err fault)
+fault_counted last may halts start mid after input left rest taken then now moments moments_now calls calls_then calls_now so_far fault turn puts =
+    counted last may halts start after input taken now moments_now calls calls_now (Err fault)
+    (fault_put last may halts start mid after input left rest taken then now moments moments_now calls calls_then calls_now so_far fault turn puts)
+
+pub well_counted : {S : Type 0} (last : Request → Bool) (may : Serves S) (halts : Halts S) (start mid after : S)
+    (input left rest taken then now : Option (List ℕ)) (moments moments_now : List ℕ) (calls calls_then calls_now : ℕ) (turned : Turned)
+    → (turned ≡ turns.Closed) ⊎ (turned ≡ turns.Ended) → PutsSoFar last may start input left taken then moments mid calls calls_then
+    → IsTurn last may halts mid after moments moments_now left rest then now (Ok turned)
+    → PutsForTurn last may halts mid after moments moments_now left rest then now calls_then calls_now (Ok turned)
+    → PutsForSession input moments_now calls calls_now (Ok tt)
+well_counted last may halts start mid after input left rest taken then now moments moments_now calls calls_then calls_now turned is so_far turn puts =
+    counted last may halts start after input taken now moments_now calls calls_now (Ok tt)
+    (well_put last may halts start mid after input left rest taken then now moments moments_now calls calls_then calls_now turned is so_far turn puts)
+
+pub full_counted : {S : Type 0} (last : Request → Bool) (may : Serves S) (halts : Halts S) (start after : S) (input left taken now : Option (List ℕ))
+    (moments : List ℕ) (calls calls_now : ℕ)
+    → PutsSoFar last may start input left taken now moments after calls calls_now → PutsForSession input moments calls calls_now (Err faults.TooLong)
+full_counted last may halts start after input left taken now moments calls calls_now so_far =
+    counted last may halts start after input taken now moments calls calls_now (Err faults.TooLong)
+    (full_put last may halts start after input left taken now moments calls calls_now so_far)
+
+-- ---- reads
+
+-- more was needed behind the requests that were answered
+pub between : {S : Type 0} (last : Request → Bool) (may : Serves S) (start after : S) (input rest taken now seen_to : Option (List ℕ)) (moments more : List ℕ)
+    → SoFar last may start input rest taken now moments after → IfSeen rest seen_to NeedsMore
+    → IfSeen input seen_to (IsBetween last may start (moments ++ more))
+between last may start after input rest taken now seen_to moments more done needs =
+    let parts = done.begins.parts in
+    seen_behind input rest seen_to (flat_map text_of parts) (IsBetween last may start (moments ++ more)) NeedsMore done.begins.texts
+    (λ behind holds. record {
+      parts = parts;
+      rest = behind;
+      reads = record { are_parts = done.begins.are_parts; whole = refl };
+      none_last = subst (All (λ (r : Request). last r ≡ false)) done.begins.requests_are done.none_last;
+      earlier = moments;
+      later = more;
+      moments_are = refl;
+      text = done.text;
+      then = after;
+      replied = subst (λ (rs : List Request). Replies may start rs moments done.text after) done.begins.requests_are done.replied;
+      needs = holds;
+    }) needs
+
+-- it still was, once further ones were answered
+pub between_more : {S : Type 0} (last : Request → Bool) (may : Serves S) (start : S) (moments more bytes : List ℕ)
+    → IsBetween last may start moments bytes → IsBetween last may start (moments ++ more) bytes
+between_more last may start moments more bytes is = record {
+  parts = is.parts;
+  rest = is.rest;
+  reads = is.reads;
+  none_last = is.none_last;
+  earlier = is.earlier;
+  later = is.later ++ more;
+  moments_are = ap (λ (m : List ℕ). m ++ more) is.moments_are ∙ append_assoc is.earlier is.later more;
+  text = is.text;
+  then = is.then;
+  replied = is.replied;
+  needs = is.needs;
+}
+
+-- a turn kept no moment, or one more
+kept_more : {S : Type 0} (last : Request → Bool) (may : Serves S) (halts : Halts S) (mid after : S) (moments moments_now : List ℕ)
+    (input rest taken now : Option (List ℕ)) (result : Result Turned SessionFault)
+    → IsTurn last may halts mid after moments moments_now input rest taken now result → (more : List ℕ) × (moments_now ≡ moments ++ more)
+kept_more last may halts mid after moments moments_now input rest taken now result turn = by result turn
+  where
+    none : Idles mid after moments moments_now → (more : List ℕ) × (moments_now ≡ moments ++ more)
+    none idles = ([], idles.no_moment ∙ sym (append-nil moments))
+
+    by : (result : Result Turned SessionFault) → IsTurn last may halts mid after moments moments_now input rest taken now result
+        → (more : List ℕ) × (moments_now ≡ moments ++ more)
+    by (Ok turns.Answered) turn = (turn.0 ∷ [], turn.1)
+    by (Ok turns.Closed) turn = (turn.0 ∷ [], turn.1)
+    by (Ok turns.Ended) turn = none turn.0
+    by (Err faults.BadInput) turn = none turn.0
+    by (Err faults.ReadFault) turn = none turn.0
+    by (Err faults.WriteFault) (inl idles) = none idles.0
+    by (Err faults.WriteFault) (inr cuts) = (cuts.0 ∷ [], cuts.1)
+    by (Err faults.NoMemory) (inl idles) = none idles.0
+    by (Err faults.NoMemory) (inr (inl cuts)) = (cuts.0 ∷ [], cuts.1)
+    by (Err faults.NoMemory) (inr (inr halt)) = (halt.0 ∷ [], halt.1)
+    by (Err faults.TooLong) turn = absurd turn
+    by (Err faults.ServerFault) turn = (turn.0 ∷ [], turn.1)
+
+-- the reads of one turn more
+pub turn_reads : {S A : Type 0} {left : A → Option (List ℕ)} {calls : A → ℕ} {old then now : A} (last : Request → Bool) (may : Serves S) (halts : Halts S)
+    (start mid after : S) (input held rest taken then_taken now_taken : Option (List ℕ)) (moments moments_now : List ℕ) (count : ℕ)
+    (result : Result Turned SessionFault)
+    → Progress last may start input held taken then_taken moments mid count
+    → IsTurn last may halts mid after moments moments_now held rest then_taken now_taken result
+    → ReadsWhile left calls old then input (IsBetween last may start moments) → ReadsWhile left calls then now held NeedsMore
+    → ReadsWhile left calls old now input (IsBetween last may start moments_now)
+turn_reads {left = left} {calls = calls} {old = old} {now = now} last may halts start mid after input held rest taken then_taken now_taken
+    moments moments_now count result progress turn before reads =
+    let kept = kept_more last may halts mid after moments moments_now held rest then_taken now_taken result turn in
+    subst (λ (ms : List ℕ). ReadsWhile left calls old now input (IsBetween last may start ms)) (sym kept.1)
+    (reads_then input (IsBetween last may start (moments ++ kept.0))
+    (reads_map input input (IsBetween last may start moments) (IsBetween last may start (moments ++ kept.0)) before
+    (λ seen_to seen. seen_map input seen_to (IsBetween last may start moments) (IsBetween last may start (moments ++ kept.0))
+    (between_more last may start moments kept.0) seen))
+    (reads_map held input NeedsMore (IsBetween last may start (moments ++ kept.0)) reads
+    (λ seen_to seen. between last may start mid input held taken then_taken seen_to moments kept.0 progress.done seen)))

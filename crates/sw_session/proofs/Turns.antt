@@ -20,7 +20,7 @@ use Rattle.sw_message.specs.declared.writer.WriteFault.TheVariants as writes
 use Rattle.sw_session.specs.Fault.{fault_of, halt_of}
 use Rattle.sw_session.specs.Replies.{Halts, Serves}
 use Rattle.sw_session.specs.Turn.{CutsReply, HaltsTurn, IsCounted, IsReadingFault, IsReceived, IsRefusal, IsTold, IsTurn, RefusesRestPart, Replied}
-use Rattle.sw_session.specs.Turn.{MayTell, PutsForTurn, TakesAndTells, TellsWhole, Turns, refusal}
+use Rattle.sw_session.specs.Turn.{MayTell, PutsForReading, PutsForTurn, TakesAndTells, TellsWhole, Turns, refusal}
 use Rattle.sw_session.specs.declared.server.ServerFault.{ServerFault}
 use Rattle.sw_session.specs.declared.server.ServerFault.TheVariants as servers
 use Rattle.sw_session.specs.declared.session.SessionFault.{SessionFault}
@@ -75,20 +75,6 @@ takes_and_tells input rest taken mid calls told request takes is = record {
   consumed = takes.consumed;
   told = subst (λ (q : Request). told ≡ puts_after q.fields calls) takes.request_is is;
 }
-
--- the server halted at a request
-pub halted_puts : (input rest : Option (List ℕ)) (calls now : ℕ) (fault : ServerFault)
-    → TakesAndTells input rest calls now → PutsForTurn input rest calls now (Err (halt_of fault))
-halted_puts input rest calls now servers.Failed takes = takes
-halted_puts input rest calls now servers.NoMemory takes = may_tell input rest calls now takes
-
--- the reply was not written whole
-pub broken_puts : (input rest : Option (List ℕ)) (calls told now : ℕ) (fault : WriteFault) → TakesAndTells input rest calls told
-    → (fault ≢ writes.NoMemory → now ≡ raised told) → (fault ≡ writes.NoMemory → now ≡ told)
-    → PutsForTurn input rest calls now (Err (fault_of fault))
-broken_puts input rest calls told now writes.Failed takes once none = (told, may_tell input rest calls told takes, once (λ is. cc))
-broken_puts input rest calls told now writes.NoMemory takes once none =
-    subst (MayTell input calls) (sym (none refl)) (may_tell input rest calls told takes)
 
 -- ---- moments
 
@@ -219,9 +205,9 @@ broken_step last may halts before after moments moments_now input rest taken mid
     inr (inl (broken_turn may before after moments moments_now input rest taken mid now request moment response takes answer one_more written))
 
 -- the server halted at a request that was taken off the input
-halted_turn : {S : Type 0} (halts : Halts S) (before after : S) (moments moments_now : List ℕ)
+abbrev halted_turn : {S : Type 0} (halts : Halts S) (before after : S) (moments moments_now : List ℕ)
     (input rest taken now : Option (List ℕ)) (request : Request) (moment : ℕ) (fault : ServerFault)
-    → Takes input rest taken now request → halts before request moment fault after → moments_now ≡ moments ++ moment ∷ []
+    → (takes : Takes input rest taken now request) → halts before request moment fault after → moments_now ≡ moments ++ moment ∷ []
     → HaltsTurn halts before after moments moments_now input rest taken now fault
 halted_turn halts before after moments moments_now input rest taken now request moment fault takes halted one_more = (
   moment,
@@ -243,3 +229,68 @@ halted_step last may halts before after moments moments_now input rest taken now
     halted_turn halts before after moments moments_now input rest taken now request moment servers.Failed takes halted one_more
 halted_step last may halts before after moments moments_now input rest taken now request moment servers.NoMemory takes halted one_more =
     inr (inr (halted_turn halts before after moments moments_now input rest taken now request moment servers.NoMemory takes halted one_more))
+
+-- ---- counts of the sink's calls in a turn
+
+-- no request was read
+pub reading_puts : {S : Type 0} (last : Request → Bool) (may : Serves S) (halts : Halts S) (before after : S) (moments moments_now : List ℕ)
+    (input rest taken now : Option (List ℕ)) (calls calls_now : ℕ) (fault : SessionFault) → PutsForReading input calls calls_now (Err fault)
+    → PutsForTurn last may halts before after moments moments_now input rest taken now calls calls_now (Err fault)
+reading_puts last may halts before after moments moments_now input rest taken now calls calls_now faults.BadInput puts = puts
+reading_puts last may halts before after moments moments_now input rest taken now calls calls_now faults.ReadFault puts = puts
+reading_puts last may halts before after moments moments_now input rest taken now calls calls_now faults.WriteFault puts = puts
+reading_puts last may halts before after moments moments_now input rest taken now calls calls_now faults.NoMemory puts = puts
+reading_puts last may halts before after moments moments_now input rest taken now calls calls_now faults.TooLong puts = absurd puts
+reading_puts last may halts before after moments moments_now input rest taken now calls calls_now faults.ServerFault puts = absurd puts
+
+-- the calls for a request that was taken off the input
+its_calls : (input rest taken mid : Option (List ℕ)) (calls told : ℕ) (request : Request) (takes : Takes input rest taken mid request)
+    → told ≡ puts_after request.fields calls → told ≡ puts_after (request_of takes.parts).fields calls
+its_calls input rest taken mid calls told request takes is = subst (λ (q : Request). told ≡ puts_after q.fields calls) takes.request_is is
+
+-- the reply was written whole
+pub answered_puts : {S : Type 0} (last : Request → Bool) (may : Serves S) (halts : Halts S) (before after : S) (moments moments_now : List ℕ)
+    (input rest taken mid now : Option (List ℕ)) (request : Request) (moment : ℕ) (response : Response) (is_last : Bool) (calls told calls_now : ℕ)
+    → Takes input rest taken mid request → may before request moment response after → moments_now ≡ moments ++ moment ∷ []
+    → Appends mid now (reply_text response) → is_last ≡ last request → told ≡ puts_after request.fields calls → calls_now ≡ raised told
+    → PutsForTurn last may halts before after moments moments_now input rest taken now calls calls_now (Ok (turned is_last))
+answered_puts {S} last may halts before after moments moments_now input rest taken mid now request moment response is_last calls told calls_now takes answer
+    one_more written is told_is once =
+    by is_last (ap last (sym takes.request_is) ∙ sym is)
+  where
+    reply : Replied may before after input rest taken now moment
+    reply = record {
+      response = response;
+      turn = turn_taken may before after input rest taken mid request moment response takes answer;
+      written = Appends-trans taken mid now _ _ takes.continued written;
+    }
+
+    called : calls_now ≡ raised (puts_after (request_of takes.parts).fields calls)
+    called = once ∙ ap raised (its_calls input rest taken mid calls told request takes told_is)
+
+    by : (b : Bool) → last (request_of takes.parts) ≡ b
+        → PutsForTurn last may halts before after moments moments_now input rest taken now calls calls_now (Ok (turned b))
+    by true ends = (moment, one_more, (reply, ends, called))
+    by false ends = (moment, one_more, (reply, ends, called))
+
+-- the server halted at a request
+pub halted_puts : {S : Type 0} (last : Request → Bool) (may : Serves S) (halts : Halts S) (before after : S) (moments moments_now : List ℕ)
+    (input rest taken now : Option (List ℕ)) (request : Request) (moment calls calls_now : ℕ) (fault : ServerFault)
+    → Takes input rest taken now request → halts before request moment fault after → moments_now ≡ moments ++ moment ∷ []
+    → calls_now ≡ puts_after request.fields calls
+    → PutsForTurn last may halts before after moments moments_now input rest taken now calls calls_now (Err (halt_of fault))
+halted_puts last may halts before after moments moments_now input rest taken now request moment calls calls_now servers.Failed takes halted one_more is =
+    let turn = halted_turn halts before after moments moments_now input rest taken now request moment servers.Failed takes halted one_more in
+    (moment, one_more, (turn.2, its_calls input rest taken now calls calls_now request takes is))
+halted_puts last may halts before after moments moments_now input rest taken now request moment calls calls_now servers.NoMemory takes halted one_more is =
+    may_tell input rest calls calls_now (takes_and_tells input rest taken now calls calls_now request takes is)
+
+-- the reply was not written whole
+pub broken_puts : {S : Type 0} (last : Request → Bool) (may : Serves S) (halts : Halts S) (before after : S) (moments moments_now : List ℕ)
+    (input rest taken now : Option (List ℕ)) (calls told calls_now : ℕ) (fault : WriteFault) → TakesAndTells input rest calls told
+    → (fault ≢ writes.NoMemory → calls_now ≡ raised told) → (fault ≡ writes.NoMemory → calls_now ≡ told)
+    → PutsForTurn last may halts before after moments moments_now input rest taken now calls calls_now (Err (fault_of fault))
+broken_puts last may halts before after moments moments_now input rest taken now calls told calls_now writes.Failed takes once none =
+    (told, may_tell input rest calls told takes, once (λ is. cc))
+broken_puts last may halts before after moments moments_now input rest taken now calls told calls_now writes.NoMemory takes once none =
+    subst (MayTell input calls) (sym (none refl)) (may_tell input rest calls told takes)

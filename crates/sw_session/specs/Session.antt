@@ -2,13 +2,13 @@
 --
 -- How bytes become requests is the grammar's, in `BeginsWith`; who answers them is a relation, and how that one may halt is another.
 -- Which requests are the last ones of their sessions is a test. `SoFar` is the one statement that every way to end a session begins with.
-use Rattle.std.specs.Prelude.{◌≡◌, ℕ, ◌-◌, ◌<◌, Bool, true, false, List, [], ◌∷◌, ◌++◌, length, All, ⊤, Option, IfSome, Result, Ok, Err, ◌⊎◌}
+use Rattle.std.specs.Prelude.{◌≡◌, ℕ, ◌-◌, ◌<◌, Bool, true, false, List, [], ◌∷◌, ◌++◌, length, map, All, ⊤, Option, IfSome, Result, Ok, Err, ◌⊎◌}
 use Rattle.std.specs.Io.KnownBytes.{Appends, IsAtEnd}
 use Rattle.sw_outside.specs.Counts.{raised}
-use Rattle.sw_http.specs.Continue.{IsCutShort, puts_after}
+use Rattle.sw_http.specs.Continue.{IsCutShort, NeedsMore, puts_after}
 use Rattle.sw_http.specs.Input.{IfSeen}
-use Rattle.sw_http.specs.Reading.{BeginsWith}
-use Rattle.sw_http.specs.Request.{IsSkipped, request_of}
+use Rattle.sw_http.specs.Reading.{BeginsWith, ReadsAll}
+use Rattle.sw_http.specs.Request.{IsSkipped, Parts, request_of}
 use Rattle.sw_message.specs.declared.request.Request.{Request}
 use Rattle.sw_session.specs.Passages.{Passage}
 use Rattle.sw_session.specs.Replies.{Halts, Replies, Serves}
@@ -158,12 +158,44 @@ pub record PutsBehind (input : Option (List ℕ)) (count calls : ℕ) (ends : Op
   pub begins : BeginsWith input requests rest
   pub end : ends rest (puts_for requests calls)
 
+-- The first requests of the input were answered, as the session tells of them, and `ends` tells of the rest of the input, of what was written by
+-- then, and of the calls that there were: those for these very requests.
+pub record OwnPutsBehind {S : Type 0} (last : Request → Bool) (may : Serves S) (start after : S) (input taken : Option (List ℕ)) (moments : List ℕ)
+    (calls : ℕ) (ends : Option (List ℕ) → Option (List ℕ) → ℕ → Type 0) : Type 0 where
+  pub rest : Option (List ℕ)
+  pub mid : Option (List ℕ)
+  pub done : SoFar last may start input rest taken mid moments after
+  pub end : ends rest mid (puts_for done.requests calls)
+
+-- the same of those before one request more, which has a moment of its own; `ends` tells what the server was before it too, and that moment
+abbrev pub OwnPutsAtOneMore : {S : Type 0} → (Request → Bool) → Serves S → S → Option (List ℕ) → Option (List ℕ) → List ℕ → ℕ
+    → (S → ℕ → Option (List ℕ) → Option (List ℕ) → ℕ → Type 0) → Type 0
+OwnPutsAtOneMore {S} last may start input taken moments calls ends =
+    (then : S) × (earlier : List ℕ) × (moment : ℕ) × (moments ≡ earlier ++ moment ∷ [])
+    × OwnPutsBehind last may start then input taken earlier calls (ends then moment)
+
 -- A read failed when these first bytes of the input had been seen: the texts of the requests that were answered, and a rest in which no whole
 -- request stands. So what came whole was answered before more was asked for, and a client that waits for a reply has it; and its next request had
 -- been told what its head asks for, in one call, where that head had come.
-abbrev pub WaitsForMore : Option (List ℕ) → Option (List ℕ) → Option (List ℕ) → List ℕ → ℕ → ℕ → Type 0
-WaitsForMore input left taken moments calls calls_now = PutsBehind input (length moments) calls
-    (λ rest told_by. (written : Option (List ℕ)) × IfSeen rest left (IsCutShort written taken told_by calls_now))
+abbrev pub WaitsForMore : {S : Type 0} → (Request → Bool) → Serves S → S → S → Option (List ℕ) → Option (List ℕ) → Option (List ℕ) → Option (List ℕ)
+    → List ℕ → ℕ → ℕ → Type 0
+WaitsForMore last may start after input left taken taken_now moments calls calls_now = OwnPutsBehind last may start after input taken moments calls
+    (λ rest mid told_by. IfSeen rest left (IsCutShort mid taken_now told_by calls_now))
+
+-- Bytes are the texts of requests that were answered, each at its moment and none of them a last one, and a rest in which no whole request stands and
+-- may still come. Where these are what was seen when more was asked for, all that came whole was answered by the session.
+pub record IsBetween {S : Type 0} (last : Request → Bool) (may : Serves S) (start : S) (moments : List ℕ) (bytes : List ℕ) : Type 0 where
+  pub parts : List Parts
+  pub rest : List ℕ
+  pub reads : ReadsAll bytes parts rest
+  pub none_last : All (λ (r : Request). last r ≡ false) (map request_of parts)
+  pub earlier : List ℕ
+  pub later : List ℕ
+  pub moments_are : moments ≡ earlier ++ later
+  pub text : List ℕ
+  pub then : S
+  pub replied : Replies may start (map request_of parts) earlier text then
+  pub needs : NeedsMore rest
 
 -- How many calls of the sink a session made, by what its loop answered: those for the requests that were answered, each at a moment of its own,
 -- and those of what ended it. Where that is one request more, the last moment is that one's.
@@ -180,3 +212,28 @@ PutsForSession input moments calls calls_now (Err faults.ServerFault) =
 PutsForSession input moments calls calls_now (Err faults.NoMemory) =
     PutsBehind input (length moments) calls (λ rest mid. MayTell rest mid calls_now)
     ⊎ PutsBehind input (length moments - 1) calls (λ rest mid. MayTell rest mid calls_now)
+
+-- How many calls of the sink a session made for its own requests, by what its loop answered: for those that were answered, each at its moment, and
+-- for what ended it.
+abbrev pub OwnPuts : {S : Type 0} → (Request → Bool) → Serves S → Halts S → S → S → Option (List ℕ) → Option (List ℕ) → Option (List ℕ) → List ℕ
+    → ℕ → ℕ → Result ⊤ SessionFault → Type 0
+OwnPuts last may halts start after input taken taken_now moments calls calls_now (Ok _) =
+    OwnPutsBehind last may start after input taken moments calls (λ rest mid told. calls_now ≡ told)
+    ⊎ OwnPutsAtOneMore last may start input taken moments calls (λ then moment rest mid told. (behind : Option (List ℕ))
+    × ((reply : Replied may then after rest behind mid taken_now moment) × (last (request_of reply.turn.parts) ≡ true)
+    × (calls_now ≡ raised (puts_after (request_of reply.turn.parts).fields told))))
+OwnPuts last may halts start after input taken taken_now moments calls calls_now (Err faults.ReadFault) =
+    OwnPutsBehind last may start after input taken moments calls (λ rest mid told. MayTell rest told calls_now)
+OwnPuts last may halts start after input taken taken_now moments calls calls_now (Err faults.WriteFault) =
+    OwnPutsBehind last may start after input taken moments calls (λ rest mid told. MayTellAndPuts rest told calls_now)
+    ⊎ OwnPutsAtOneMore last may start input taken moments calls (λ then moment rest mid told. MayTellAndPuts rest told calls_now)
+OwnPuts last may halts start after input taken taken_now moments calls calls_now (Err faults.TooLong) =
+    OwnPutsBehind last may start after input taken moments calls (λ rest mid told. calls_now ≡ told)
+OwnPuts last may halts start after input taken taken_now moments calls calls_now (Err faults.BadInput) =
+    OwnPutsBehind last may start after input taken moments calls (λ rest mid told. MayTellAndPuts rest told calls_now)
+OwnPuts last may halts start after input taken taken_now moments calls calls_now (Err faults.ServerFault) =
+    OwnPutsAtOneMore last may start input taken moments calls (λ then moment rest mid told. (behind : Option (List ℕ))
+    × ((halt : Halted halts then after rest behind mid taken_now moment servers.Failed) × (calls_now ≡ puts_after (request_of halt.parts).fields told)))
+OwnPuts last may halts start after input taken taken_now moments calls calls_now (Err faults.NoMemory) =
+    OwnPutsBehind last may start after input taken moments calls (λ rest mid told. MayTell rest told calls_now)
+    ⊎ OwnPutsAtOneMore last may start input taken moments calls (λ then moment rest mid told. MayTell rest told calls_now)

@@ -185,9 +185,20 @@ pub record TakesAndTells (input rest : Option (List ℕ)) (calls calls_now : ℕ
   pub consumed : Consumes input rest (text_of parts)
   pub told : calls_now ≡ puts_after (request_of parts).fields calls
 
--- the same, and then it was called once more
-abbrev pub TakesAndPuts : Option (List ℕ) → Option (List ℕ) → ℕ → ℕ → Type 0
-TakesAndPuts input rest calls calls_now = (told : ℕ) × TakesAndTells input rest calls told × (calls_now ≡ raised told)
+-- one request more was answered, its reply written whole by one call of the sink, and there was one before it where its client waits to be told
+abbrev pub AnswersByPuts : {S : Type 0} → (Request → Bool) → Serves S → S → S → List ℕ → List ℕ → Option (List ℕ) → Option (List ℕ) → Option (List ℕ)
+    → Option (List ℕ) → Bool → ℕ → ℕ → Type 0
+AnswersByPuts last may before after moments moments_now input rest taken now is_last calls calls_now =
+    (moment : ℕ) × (moments_now ≡ moments ++ moment ∷ [])
+    × ((reply : Replied may before after input rest taken now moment) × (last (request_of reply.turn.parts) ≡ is_last)
+    × (calls_now ≡ raised (puts_after (request_of reply.turn.parts).fields calls)))
+
+-- the server halted at one request more, and the sink was called once where its client waits to be told, and else not
+abbrev pub HaltsByPuts : {S : Type 0} → Halts S → S → S → List ℕ → List ℕ → Option (List ℕ) → Option (List ℕ) → Option (List ℕ) → Option (List ℕ)
+    → ServerFault → ℕ → ℕ → Type 0
+HaltsByPuts halts before after moments moments_now input rest taken now fault calls calls_now =
+    (moment : ℕ) × (moments_now ≡ moments ++ moment ∷ [])
+    × ((halt : Halted halts before after input rest taken now moment fault) × (calls_now ≡ puts_after (request_of halt.parts).fields calls))
 
 -- how many calls of the sink there were and are now, once a rest was refused: one more, and none where memory ran out before it
 abbrev pub PutsForRefusal : ℕ → ℕ → Result (Option Request) SessionFault → Type 0
@@ -211,13 +222,19 @@ PutsForReading input calls calls_now (Err faults.TooLong) = ⊥
 PutsForReading input calls calls_now (Err faults.ServerFault) = ⊥
 
 -- the same for a whole turn: a reply is one call more, and none is made for it where the server halts or memory runs out
-abbrev pub PutsForTurn : Option (List ℕ) → Option (List ℕ) → ℕ → ℕ → Result Turned SessionFault → Type 0
-PutsForTurn input rest calls calls_now (Ok turns.Answered) = TakesAndPuts input rest calls calls_now
-PutsForTurn input rest calls calls_now (Ok turns.Closed) = TakesAndPuts input rest calls calls_now
-PutsForTurn input rest calls calls_now (Ok turns.Ended) = calls_now ≡ calls
-PutsForTurn input rest calls calls_now (Err faults.BadInput) = MayTellAndPuts input calls calls_now
-PutsForTurn input rest calls calls_now (Err faults.ReadFault) = MayTell input calls calls_now
-PutsForTurn input rest calls calls_now (Err faults.WriteFault) = MayTellAndPuts input calls calls_now
-PutsForTurn input rest calls calls_now (Err faults.NoMemory) = MayTell input calls calls_now
-PutsForTurn input rest calls calls_now (Err faults.TooLong) = ⊥
-PutsForTurn input rest calls calls_now (Err faults.ServerFault) = TakesAndTells input rest calls calls_now
+abbrev pub PutsForTurn : {S : Type 0} → (Request → Bool) → Serves S → Halts S → S → S → List ℕ → List ℕ → Option (List ℕ) → Option (List ℕ)
+    → Option (List ℕ) → Option (List ℕ) → ℕ → ℕ → Result Turned SessionFault → Type 0
+PutsForTurn last may halts before after moments moments_now input rest taken now calls calls_now (Ok turns.Answered) =
+    AnswersByPuts last may before after moments moments_now input rest taken now false calls calls_now
+PutsForTurn last may halts before after moments moments_now input rest taken now calls calls_now (Ok turns.Closed) =
+    AnswersByPuts last may before after moments moments_now input rest taken now true calls calls_now
+PutsForTurn last may halts before after moments moments_now input rest taken now calls calls_now (Ok turns.Ended) = calls_now ≡ calls
+PutsForTurn last may halts before after moments moments_now input rest taken now calls calls_now (Err faults.BadInput) =
+    MayTellAndPuts input calls calls_now
+PutsForTurn last may halts before after moments moments_now input rest taken now calls calls_now (Err faults.ReadFault) = MayTell input calls calls_now
+PutsForTurn last may halts before after moments moments_now input rest taken now calls calls_now (Err faults.WriteFault) =
+    MayTellAndPuts input calls calls_now
+PutsForTurn last may halts before after moments moments_now input rest taken now calls calls_now (Err faults.NoMemory) = MayTell input calls calls_now
+PutsForTurn last may halts before after moments moments_now input rest taken now calls calls_now (Err faults.TooLong) = ⊥
+PutsForTurn last may halts before after moments moments_now input rest taken now calls calls_now (Err faults.ServerFault) =
+    HaltsByPuts halts before after moments moments_now input rest taken now servers.Failed calls calls_now

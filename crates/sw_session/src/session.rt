@@ -2,9 +2,10 @@ ghost use Rattle.std.specs.Prelude.{◌≡◌, ℕ, List, OnOk, Option, None, Ok
 ghost use Rattle.std.specs.Io.KnownBytes.{IsAtEnd, prepend_known};
 ghost use Rattle.sw_outside.specs.Readings.{TicksEach};
 ghost use Rattle.sw_session.specs.Passages.{passage};
-ghost use Rattle.sw_http.specs.Continue.{IsCutShort};
+ghost use Rattle.sw_http.specs.Continue.{IsCutShort, NeedsMore};
 ghost use Rattle.sw_http.specs.Input.{IfSeen};
-ghost use Rattle.sw_session.specs.Session.{IsSession, PutsForSession, WaitsForMore};
+ghost use Rattle.sw_http.specs.Reads.{ReadsWhile};
+ghost use Rattle.sw_session.specs.Session.{IsBetween, IsSession, OwnPuts, PutsForSession, WaitsForMore};
 ghost use Rattle.sw_session.specs.declared.session.Turned.TheVariants as turns;
 ghost use Rattle.sw_session.specs.Turn.{IsCounted, IsReceived, IsRefusal, IsTurn, PutsForReading, PutsForRefusal, PutsForTurn};
 
@@ -88,6 +89,7 @@ fn receive<R: Source, W: Sink>(
     ensures seen { result ≡ Err SessionFault.ReadFault → IfSeen (prepend_known held.old (R.left source.old)) (R.left source.new)
         (IsCutShort (W.taken out.old) (W.taken out.new) (W.calls out.old) (W.calls out.new)) }
     ensures puts { PutsForReading (prepend_known held.old (R.left source.old)) (W.calls out.old) (W.calls out.new) result }
+    ensures reads { ReadsWhile R.left R.calls source.old source.new (prepend_known held.old (R.left source.old)) NeedsMore }
     ensures source_number { R.number source.new ≡ R.number source.old }
     ensures sink_number { W.number out.new ≡ W.number out.old }
 {
@@ -134,8 +136,9 @@ fn turn<V: Server, R: Source, W: Sink, C: Clock>(
     ensures counted { IsCounted (R.faults source.old) (R.faults source.new) (W.faults out.old) (W.faults out.new) result }
     ensures seen { result ≡ Err SessionFault.ReadFault → IfSeen (prepend_known held.old (R.left source.old)) (R.left source.new)
         (IsCutShort (W.taken out.old) (W.taken out.new) (W.calls out.old) (W.calls out.new)) }
-    ensures puts { PutsForTurn (prepend_known held.old (R.left source.old)) (prepend_known held.new (R.left source.new)) (W.calls out.old)
-        (W.calls out.new) result }
+    ensures puts { PutsForTurn V.last V.serves V.halts server.old server.new moments.old.items moments.new.items (prepend_known held.old (R.left source.old))
+        (prepend_known held.new (R.left source.new)) (W.taken out.old) (W.taken out.new) (W.calls out.old) (W.calls out.new) result }
+    ensures reads { ReadsWhile R.left R.calls source.old source.new (prepend_known held.old (R.left source.old)) NeedsMore }
     ensures source_number { R.number source.new ≡ R.number source.old }
     ensures sink_number { W.number out.new ≡ W.number out.old }
 {
@@ -158,7 +161,8 @@ fn turn<V: Server, R: Source, W: Sink, C: Clock>(
 }
 
 /// Answers the requests that come from the source, one after the other, each at the moment that the clock shows once it was read: to the
-/// end of the input, or to the first request that is a last one, or at which the server halts. Behind that one nothing is read.
+/// end of the input, or to the first request that is a last one, or at which the server halts. Behind that one nothing is read, and while a
+/// whole request waits for its reply nothing is either.
 /// `moments` is empty at the call, and holds these moments at the end.
 pub fn serve<V: Server, R: Source, W: Sink, C: Clock>(
     alloc: Global,
@@ -175,10 +179,18 @@ pub fn serve<V: Server, R: Source, W: Sink, C: Clock>(
     ensures ticks { TicksEach (C.readings clock.old) (C.readings clock.new) moments.new.items }
 
     // A read is made only where all that came whole was answered: else one that fails would break this.
-    ensures waits { result ≡ Err SessionFault.ReadFault → WaitsForMore (R.left source.old) (R.left source.new) (W.taken out.new) moments.new.items
-        (W.calls out.old) (W.calls out.new) }
+    ensures waits { result ≡ Err SessionFault.ReadFault → WaitsForMore V.last V.serves server.old server.new (R.left source.old) (R.left source.new)
+        (W.taken out.old) (W.taken out.new) moments.new.items (W.calls out.old) (W.calls out.new) }
+
+    // No read is made behind a last request, and none for one that came whole: what was seen before each were the texts of requests that
+    // were answered, and a rest in which one may still come.
+    ensures reads { ReadsWhile R.left R.calls source.old source.new (R.left source.old) (IsBetween V.last V.serves server.old moments.new.items) }
 
     // Each reply is one call of the sink, and so is what tells a client to go on, and a refusal. No other call is made.
+    ensures own_puts { OwnPuts V.last V.serves V.halts server.old server.new (R.left source.old) (W.taken out.old) (W.taken out.new) moments.new.items
+        (W.calls out.old) (W.calls out.new) result }
+
+    // The same, told by how many requests were answered.
     ensures puts { PutsForSession (R.left source.old) moments.new.items (W.calls out.old) (W.calls out.new) result }
     ensures source_number { R.number source.new ≡ R.number source.old }
     ensures sink_number { W.number out.new ≡ W.number out.old }

@@ -4,6 +4,7 @@ use Rattle.sw_message.specs.declared.framing.Framing.TheVariants.{Length}
 use Rattle.sw_http.proofs.BodyLemmas.{plain_taken, no_plain, plain_cut}
 use Rattle.sw_http.proofs.InputLemmas.{if_some_map}
 use Rattle.std.proofs.lemmas.Result.{err_from_is_err_and}
+use Rattle.sw_http.proofs.ReadsLemmas.{reads_map, reads_none}
 use Rattle.sw_http.proofs.body.take_plain.Goals as goal
 
 pub returns-then-branch-clause-taken : goal.returns-then-branch-clause-taken
@@ -20,3 +21,18 @@ returns-in_err-take_content-clause-cut g c e =
     let exit = err_from_is_err_and c.from_residual-in_err-take_content.result c.from_residual-in_err-take_content.ensures.1 in let given = exit.1 in let same =
     exit.2 in
     plain_cut _ _ _ _ (c.in_err-take_content.ensures.cut (cc))
+
+pub returns-then-len-room-clause-reads : goal.returns-then-len-room-clause-reads
+returns-then-len-room-clause-reads g c = reads_none _ _ _
+
+pub returns-in_err-body-clause-reads : goal.returns-in_err-body-clause-reads
+returns-in_err-body-clause-reads g c = reads_none _ _ _
+
+pub returns-in_err-take_content-clause-reads : goal.returns-in_err-take_content-clause-reads
+returns-in_err-take_content-clause-reads g c = reads_map _ _ _ _ c.take_content.ensures.reads (λ now. plain_cut _ now _ _)
+
+pub returns-then-branch-clause-reads : goal.returns-then-branch-clause-reads
+returns-then-branch-clause-reads g c = reads_map _ _ _ _ c.take_content.ensures.reads (λ now. plain_cut _ now _ _)
+
+pub returns-else-branch-clause-reads : goal.returns-else-branch-clause-reads
+returns-else-branch-clause-reads g c = reads_map _ _ _ _ c.take_content.ensures.reads (λ now. plain_cut _ now _ _)

@@ -1,6 +1,8 @@
 use Rattle.std.proofs.Common.{◌-◌, arith}
+use Rattle.sw_http.specs.ChunkSteps.{HasNoChunked}
 use Rattle.sw_http.proofs.ChunkedLemmas.{chunks_more, chunks_within, chunked_taken, chunks_refused, trailer_refused, chunks_cut, trailer_cut}
 use Rattle.std.proofs.lemmas.Result.{err_from_is_err_and}
+use Rattle.sw_http.proofs.ReadsLemmas.{reads_map, reads_then}
 use Rattle.sw_http.proofs.chunk.take_chunked.Goals as goal
 
 pub loop-len-preserved : goal.loop-len-preserved
@@ -11,6 +13,8 @@ loop-len-preserved g c =
       few = omega arith;
       within = chunks_within _ _ _ _ _ _ takes;
       takes = takes;
+      reads = reads_then _ _ c.loop-len.invariant.reads
+          (reads_map _ _ _ _ c.take_chunk.ensures.reads (λ now. chunks_cut _ _ now _ _ _ _ c.loop-len.invariant.takes));
       sound = omega (arith, c.in_ok-len.ensures.sound);
       same = omega (arith, c.in_ok-len.ensures.source_number);
     }
@@ -38,3 +42,21 @@ pub returns-in-Last-clause-cut : goal.returns-in-Last-clause-cut
 returns-in-Last-clause-cut g c e =
     let step = rw c.in-Last.is at c.in_ok-len.ensures.step in
     trailer_cut _ _ _ _ _ _ _ _ _ c.loop-len.invariant.takes step.0 step.1 (c.take_trailer.ensures.cut e)
+
+pub returns-in_err-len-clause-reads : goal.returns-in_err-len-clause-reads
+returns-in_err-len-clause-reads g c =
+    reads_then _ _ c.loop-len.invariant.reads
+    (reads_map _ _ _ _ c.take_chunk.ensures.reads (λ now. chunks_cut _ _ now _ _ _ _ c.loop-len.invariant.takes))
+
+pub returns-in-Bad-clause-reads : goal.returns-in-Bad-clause-reads
+returns-in-Bad-clause-reads g c =
+    reads_then _ _ c.loop-len.invariant.reads
+    (reads_map _ _ _ _ c.take_chunk.ensures.reads (λ now. chunks_cut _ _ now _ _ _ _ c.loop-len.invariant.takes))
+
+pub returns-in-Last-clause-reads : goal.returns-in-Last-clause-reads
+returns-in-Last-clause-reads g c =
+    let step = rw c.in-Last.is at c.in_ok-len.ensures.step in
+    let earlier = reads_then _ (HasNoChunked c.args.room) c.loop-len.invariant.reads
+    (reads_map _ _ _ _ c.take_chunk.ensures.reads (λ now. chunks_cut _ _ now _ _ _ _ c.loop-len.invariant.takes)) in
+    reads_then _ _ earlier
+    (reads_map _ _ _ _ c.take_trailer.ensures.reads (λ now. trailer_cut _ _ _ now _ _ _ _ _ c.loop-len.invariant.takes step.0 step.1))

@@ -5,6 +5,7 @@ use Rattle.std.specs.List.{prefix_len}
 use Rattle.sw_http.specs.ChunkSteps.{HasNoLine}
 use Rattle.sw_http.proofs.InputLemmas.{kept_read, read_none, if_kept, if_always, if_ended, seen_held, seen_kept}
 use Rattle.sw_http.proofs.LineLemmas.{no_line_long, no_line_empty, no_line_ended, has_digits}
+use Rattle.sw_http.proofs.ReadsLemmas.{reads_more}
 use Rattle.sw_http.proofs.chunk_line.read_digits.Goals as goal
 
 pub returns-then-run-gt-MAX_SIZE_DIGITS-clause-none : goal.returns-then-run-gt-MAX_SIZE_DIGITS-clause-none
@@ -39,3 +40,26 @@ returns-in_err-read_more-clause-cut g c _ =
     let all = subst (λ (l : List ℕ). length l ≤ c.digit_run-run.result) c.rest-in-loop-run.ensures (omega arith) in
     let read = c.in_err-read_more.ensures.read in
     seen_kept _ _ _ HasNoLine c.loop-run.invariant.kept (seen_held _ _ _ _ HasNoLine read.0 read.1 (no_line_ended _ _ is all))
+
+pub returns-in_err-read_more-clause-reads : goal.returns-in_err-read_more-clause-reads
+returns-in_err-read_more-clause-reads g c =
+    let is = c.digit_run-run.ensures ∙ ap (prefix_len is_ascii_hexdigit) c.rest.ensures in
+    let all = subst (λ (l : List ℕ). length l ≤ c.digit_run-run.result) c.rest-in-loop-run.ensures (omega arith) in
+    reads_more _ c.loop-run.held _ c.loop-run.invariant.reads c.loop-run.invariant.kept (no_line_ended _ _ is all) c.read_more.ensures.reads
+
+pub returns-then-branch-eq0-clause-reads : goal.returns-then-branch-eq0-clause-reads
+returns-then-branch-eq0-clause-reads g c =
+    let is = c.digit_run-run.ensures ∙ ap (prefix_len is_ascii_hexdigit) c.rest.ensures in
+    let all = subst (λ (l : List ℕ). length l ≤ c.digit_run-run.result) c.rest-in-loop-run.ensures (omega arith) in
+    reads_more _ c.loop-run.held _ c.loop-run.invariant.reads c.loop-run.invariant.kept (no_line_ended _ _ is all) c.read_more.ensures.reads
+
+pub loop-run-preserved : goal.loop-run-preserved
+loop-run-preserved g c =
+    let is = c.digit_run-run.ensures ∙ ap (prefix_len is_ascii_hexdigit) c.rest.ensures in
+    let all = subst (λ (l : List ℕ). length l ≤ c.digit_run-run.result) c.rest-in-loop-run.ensures (omega arith) in
+    record {
+      kept = Keeps-trans _ _ _ c.loop-run.invariant.kept (kept_read _ _ _ _ _ c.in_ok-read_more.ensures.read);
+      reads = reads_more _ c.loop-run.held _ c.loop-run.invariant.reads c.loop-run.invariant.kept (no_line_ended _ _ is all) c.read_more.ensures.reads;
+      sound = omega (arith, c.in_ok-read_more.ensures.sound, c.loop-run.invariant.sound);
+      same = omega (arith, c.read_more.ensures.source_number, c.loop-run.invariant.same);
+    }

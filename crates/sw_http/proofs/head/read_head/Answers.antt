@@ -7,6 +7,7 @@ use Rattle.sw_http.specs.Fronts.{IsUnfinished}
 use Rattle.sw_http.specs.Opening.{IsHeadCut}
 use Rattle.sw_http.proofs.InputLemmas.{unfinished_none, unfinished_still, front_read, longer_read, seen_still}
 use Rattle.sw_http.proofs.InputLemmas.{kept_read, read_none, if_kept, if_always, if_ended}
+use Rattle.sw_http.proofs.ReadsLemmas.{reads_more, reads_none}
 use Rattle.sw_http.proofs.head.read_head.Goals as goal
 
 pub loop-spans-init : goal.loop-spans-init
@@ -17,6 +18,7 @@ loop-spans-init g c = record {
   none_seen = no_head_in_none _ refl;
   unfinished = unfinished_none _;
   kept = Keeps-refl _;
+  reads = reads_none _ _ _;
   sound = omega arith;
   same = omega arith;
 }
@@ -39,6 +41,12 @@ loop-spans-preserved g c =
     let read = c.in_ok-read_more.ensures.read in
     let none_there = subst HasNoHead c.rest.ensures c.in-NotYet.ensures.look in
     let still = unfinished_still MayBecomeRequest _ _ (rw c.rest.ensures c.loop-spans.invariant.unfinished) c.in-NotYet.ensures.unfinished in
+    let cut : IsHeadCut c.loop-spans.held = record {
+      begins = c.loop-spans.invariant.begins;
+      none = subst HasNoHead c.rest.ensures c.in-NotYet.ensures.look;
+      short = subst (λ (l : List ℕ). length l < 65536) c.rest-seen.ensures c.if-seen-ge-MAX_HEAD.false;
+      unfinished = subst (IsUnfinished MayBecomeRequest) c.rest.ensures still;
+    } in
     record {
       room = search rules;
       within = rw c.rest-seen.ensures (longer_read _ _ _ _ _ read);
@@ -47,6 +55,7 @@ loop-spans-preserved g c =
       unfinished =
           rw c.rest-seen.ensures (front_read (IsUnfinished MayBecomeRequest) _ _ _ _ _ (subst (IsUnfinished MayBecomeRequest) c.rest.ensures still) read);
       kept = Keeps-trans _ _ _ c.loop-spans.invariant.kept (kept_read _ _ _ _ _ read);
+      reads = reads_more _ c.loop-spans.held _ c.loop-spans.invariant.reads c.loop-spans.invariant.kept cut c.read_more.ensures.reads;
       sound = search rules;
       same = search rules;
     }
@@ -60,3 +69,25 @@ returns-in_err-read_more-clause-cut g c e =
       short = subst (λ (l : List ℕ). length l < 65536) c.rest-seen.ensures c.if-seen-ge-MAX_HEAD.false;
       unfinished = subst (IsUnfinished MayBecomeRequest) c.rest.ensures still;
     })
+
+pub returns-in_err-read_more-clause-reads : goal.returns-in_err-read_more-clause-reads
+returns-in_err-read_more-clause-reads g c =
+    let still = unfinished_still MayBecomeRequest _ _ (rw c.rest.ensures c.loop-spans.invariant.unfinished) c.in-NotYet.ensures.unfinished in
+    let cut : IsHeadCut c.loop-spans.held = record {
+      begins = c.loop-spans.invariant.begins;
+      none = subst HasNoHead c.rest.ensures c.in-NotYet.ensures.look;
+      short = subst (λ (l : List ℕ). length l < 65536) c.rest-seen.ensures c.if-seen-ge-MAX_HEAD.false;
+      unfinished = subst (IsUnfinished MayBecomeRequest) c.rest.ensures still;
+    } in
+    reads_more _ c.loop-spans.held _ c.loop-spans.invariant.reads c.loop-spans.invariant.kept cut c.read_more.ensures.reads
+
+pub returns-then-branch-eq0-clause-reads : goal.returns-then-branch-eq0-clause-reads
+returns-then-branch-eq0-clause-reads g c =
+    let still = unfinished_still MayBecomeRequest _ _ (rw c.rest.ensures c.loop-spans.invariant.unfinished) c.in-NotYet.ensures.unfinished in
+    let cut : IsHeadCut c.loop-spans.held = record {
+      begins = c.loop-spans.invariant.begins;
+      none = subst HasNoHead c.rest.ensures c.in-NotYet.ensures.look;
+      short = subst (λ (l : List ℕ). length l < 65536) c.rest-seen.ensures c.if-seen-ge-MAX_HEAD.false;
+      unfinished = subst (IsUnfinished MayBecomeRequest) c.rest.ensures still;
+    } in
+    reads_more _ c.loop-spans.held _ c.loop-spans.invariant.reads c.loop-spans.invariant.kept cut c.read_more.ensures.reads

@@ -4,6 +4,8 @@ use Rattle.httparse.specs.Grammar.{MayBecomeRequest}
 use Rattle.httparse.specs.Pieces.{Stops, is_newline}
 use Rattle.sw_http.specs.Fronts.{IsUnfinished}
 use Rattle.sw_message.specs.Head.{HasNoHead}
+use Rattle.sw_http.specs.Reads.{ReadsWhile}
+use Rattle.sw_http.specs.Opening.{IsHeadCut}
 use Rattle.sw_http.proofs.head.read_head.Given as goal
 
 -- the bytes were only read, and no head stands in front of those that were looked at
@@ -15,6 +17,7 @@ invariant-loop-spans g l = record {
   none_seen : HasNoHead (take l.seen l.held);
   unfinished : IsUnfinished MayBecomeRequest (take l.seen l.held);
   kept : Keeps (prepend_known l.initial.held (g.R.Source.left l.initial.source)) (prepend_known l.held (g.R.Source.left l.source));
+  reads : ReadsWhile g.R.Source.left g.R.Source.calls l.initial.source l.source (prepend_known l.initial.held (g.R.Source.left l.initial.source)) IsHeadCut;
   sound : g.R.Source.faults l.source ≡ g.R.Source.faults l.initial.source;
   same : g.R.Source.number l.source ≡ g.R.Source.number l.initial.source;
 }

@@ -2,6 +2,7 @@ use Rattle.std.proofs.Common.{◌≡◌, ℕ, ◌+◌, ◌≤◌, ◌<◌, lengt
 use Rattle.std.proofs.lemmas.Grind.{common_steps}
 use Rattle.std.proofs.lemmas.List.{length-take-le}
 use Rattle.sw_http.proofs.ListLemmas.{read_in}
+use Rattle.sw_http.proofs.ReadsLemmas.{reads_none, reads_once, reads_failed}
 use Rattle.sw_http.proofs.input.read_behind.Goals as goal
 
 pub returns-in-Ok-clause-read : goal.returns-in-Ok-clause-read
@@ -21,3 +22,12 @@ returns-in-Ok-clause-read g c =
       read = c.in-Ok.ensures.bytes.0;
       at_end = λ none. c.in-Ok.ensures.bytes.1 none some;
     }
+
+pub returns-in_err-extend_from_slice-clause-reads : goal.returns-in_err-extend_from_slice-clause-reads
+returns-in_err-extend_from_slice-clause-reads g c = reads_none _ _ _
+
+pub returns-in-Ok-clause-reads : goal.returns-in-Ok-clause-reads
+returns-in-Ok-clause-reads g c = reads_once _ _ _ _ _ c.in-Ok.ensures.bytes.0 c.in-Ok.ensures.calls
+
+pub returns-in-Err-clause-reads : goal.returns-in-Err-clause-reads
+returns-in-Err-clause-reads g c = reads_failed _ _ _ _ c.in-Err.ensures.bytes c.in-Err.ensures.calls

@@ -3,6 +3,8 @@ use Rattle.std.proofs.lemmas.Result.{err_from_is_err_and}
 use Rattle.sw_http.specs.Input.{fault_of}
 use Rattle.sw_http.specs.declared.reader.HttpFault.TheVariants as faults
 use Rattle.sw_http.proofs.RequestLemmas.{called_once, cut_body, cut_opening, fault_is_failed, request_taken, refuses_body, refuses_headless, told_whole}
+use Rattle.sw_http.proofs.RequestLemmas.{needs_body, needs_opening}
+use Rattle.sw_http.proofs.ReadsLemmas.{reads_map, reads_then}
 use Rattle.sw_http.proofs.reader.next_request.Goals as goal
 
 pub returns-in-Some-clause-request : goal.returns-in-Some-clause-request
@@ -49,5 +51,37 @@ returns-in_err-body-clause-puts g c =
 
 pub returns-in-Some-clause-puts : goal.returns-in-Some-clause-puts
 returns-in-Some-clause-puts g c =
+    let opens = rw c.in-Head.is at c.in_ok-open.ensures.opening in
+    called_once _ _ c.in-Head.open c.in-Head.room _ _ opens c.in_ok-body.ensures.puts
+
+pub returns-in_err-open-clause-reads : goal.returns-in_err-open-clause-reads
+returns-in_err-open-clause-reads g c = reads_map _ _ _ _ c.take_opening.ensures.reads (λ now. needs_opening _ now)
+
+pub returns-in-Ended-clause-reads : goal.returns-in-Ended-clause-reads
+returns-in-Ended-clause-reads g c = reads_map _ _ _ _ c.take_opening.ensures.reads (λ now. needs_opening _ now)
+
+pub returns-in-Bad-clause-reads : goal.returns-in-Bad-clause-reads
+returns-in-Bad-clause-reads g c = reads_map _ _ _ _ c.take_opening.ensures.reads (λ now. needs_opening _ now)
+
+pub returns-in_err-body-clause-reads : goal.returns-in_err-body-clause-reads
+returns-in_err-body-clause-reads g c =
+    let opens = rw c.in-Head.is at c.in_ok-open.ensures.opening in
+    reads_then _ _ (reads_map _ _ _ _ c.take_opening.ensures.reads (λ now. needs_opening _ now))
+    (reads_map _ _ _ _ c.read_body.ensures.reads (λ now. needs_body _ _ now c.in-Head.open c.in-Head.room opens))
+
+pub returns-in-Some-clause-reads : goal.returns-in-Some-clause-reads
+returns-in-Some-clause-reads g c =
+    let opens = rw c.in-Head.is at c.in_ok-open.ensures.opening in
+    reads_then _ _ (reads_map _ _ _ _ c.take_opening.ensures.reads (λ now. needs_opening _ now))
+    (reads_map _ _ _ _ c.read_body.ensures.reads (λ now. needs_body _ _ now c.in-Head.open c.in-Head.room opens))
+
+pub returns-in-None-clause-reads : goal.returns-in-None-clause-reads
+returns-in-None-clause-reads g c =
+    let opens = rw c.in-Head.is at c.in_ok-open.ensures.opening in
+    reads_then _ _ (reads_map _ _ _ _ c.take_opening.ensures.reads (λ now. needs_opening _ now))
+    (reads_map _ _ _ _ c.read_body.ensures.reads (λ now. needs_body _ _ now c.in-Head.open c.in-Head.room opens))
+
+pub returns-in-None-clause-puts : goal.returns-in-None-clause-puts
+returns-in-None-clause-puts g c =
     let opens = rw c.in-Head.is at c.in_ok-open.ensures.opening in
     called_once _ _ c.in-Head.open c.in-Head.room _ _ opens c.in_ok-body.ensures.puts

@@ -1,6 +1,12 @@
-use Rattle.std.proofs.Common.{sym, ◌∙◌}
+use Rattle.std.specs.Prelude.{is_some}
+use Rattle.std.proofs.Common.{sym, ◌∙◌, ◌≡◌, ℕ, List, true, Option, Some, ap, subst}
 use Rattle.std.proofs.lemmas.Result.{err_from_is_err_and}
 use Rattle.sw_http.proofs.RequestLemmas.{nothing_told, part_of_all}
+use Rattle.sw_message.specs.Framing.{framing_of}
+use Rattle.sw_message.specs.declared.framing.Framing.{Framing}
+use Rattle.sw_http.specs.ChunkSteps.{HasNoBody}
+use Rattle.sw_http.proofs.InputLemmas.{seen_map}
+use Rattle.sw_http.proofs.ReadsLemmas.{reads_map, reads_none}
 use Rattle.sw_http.proofs.reader.read_body.Goals as goal
 
 pub returns-in_default-clause-told : goal.returns-in_default-clause-told
@@ -10,3 +16,25 @@ pub returns-in_err-take_body-clause-told_part : goal.returns-in_err-take_body-cl
 returns-in_err-take_body-clause-told_part g c =
     let exit = err_from_is_err_and c.from_residual-in_err-take_body.result c.from_residual-in_err-take_body.ensures.1 in
     rw exit.1 (part_of_all _ _ _ c.in_ok-send_continue.ensures.all)
+
+pub returns-in_default-clause-reads : goal.returns-in_default-clause-reads
+returns-in_default-clause-reads g c = reads_none _ _ _
+
+pub returns-in_err-send_continue-clause-reads : goal.returns-in_err-send_continue-clause-reads
+returns-in_err-send_continue-clause-reads g c = reads_none _ _ _
+
+pub returns-in_err-take_body-clause-reads : goal.returns-in_err-take_body-clause-reads
+returns-in_err-take_body-clause-reads g c =
+    let framing : framing_of c.args.fields.now ≡ Some c.in-Some.framing = sym c.framing_of.ensures ∙ c.in-Some.is in
+    reads_map _ _ (HasNoBody (Some c.in-Some.framing) c.args.room) _ c.take_body.ensures.reads
+    (λ now. seen_map _ now (HasNoBody (Some c.in-Some.framing) c.args.room)
+    (λ (seen : List ℕ). (is_some (framing_of c.args.fields.now) ≡ true) × HasNoBody (framing_of c.args.fields.now) c.args.room seen)
+    (λ bytes none. (ap is_some framing, subst (λ (f : Option Framing). HasNoBody f c.args.room bytes) (sym framing) none)))
+
+pub returns-clause-reads : goal.returns-clause-reads
+returns-clause-reads g c =
+    let framing : framing_of c.args.fields.now ≡ Some c.in-Some.framing = sym c.framing_of.ensures ∙ c.in-Some.is in
+    reads_map _ _ (HasNoBody (Some c.in-Some.framing) c.args.room) _ c.take_body.ensures.reads
+    (λ now. seen_map _ now (HasNoBody (Some c.in-Some.framing) c.args.room)
+    (λ (seen : List ℕ). (is_some (framing_of c.args.fields.now) ≡ true) × HasNoBody (framing_of c.args.fields.now) c.args.room seen)
+    (λ bytes none. (ap is_some framing, subst (λ (f : Option Framing). HasNoBody f c.args.room bytes) (sym framing) none)))

@@ -5,6 +5,7 @@ use Rattle.std.specs.List.{prefix_len}
 use Rattle.sw_http.specs.Input.{test_of}
 use Rattle.sw_http.proofs.InputLemmas.{run_step, run_step_stops, run_within, run_kept, run_few, run_too_long, run_is_all, all_at_end, kept_read, kept_unread}
 use Rattle.sw_http.proofs.InputLemmas.{read_none, no_bytes, run_cut}
+use Rattle.sw_http.proofs.ReadsLemmas.{reads_run, reads_then}
 use Rattle.sw_http.proofs.run.skip_run.Goals as goal
 
 pub returns-then-run-limit-clause-run : goal.returns-then-run-limit-clause-run
@@ -46,9 +47,12 @@ pub loop-skipped-preserved : goal.loop-skipped-preserved
 loop-skipped-preserved g c =
     let is = c.run_len-run.ensures ∙ ap (prefix_len (test_of c.args.class)) c.rest.ensures in
     let taken = run_step _ _ c.loop-skipped.held _ _ _ _ c.loop-skipped.invariant.taken is c.advance.ensures in
+    let nothing : length c.rest-in-loop-skipped.result.now ≡ 0 = grind (arith, nat_tests) in
+    let none = sym c.rest-in-loop-skipped.ensures ∙ no_bytes _ nothing in
     record {
       few = omega arith;
       taken = run_kept _ _ _ _ _ taken (kept_read _ _ _ _ _ c.in_ok-read_more.ensures.read);
+      reads = reads_then _ _ c.loop-skipped.invariant.reads (reads_run _ _ _ _ _ taken (omega arith) none c.read_more.ensures.reads);
       sound = omega (arith, c.in_ok-read_more.ensures.sound);
       same = omega (arith, c.read_more.ensures.source_number);
     }
@@ -60,3 +64,19 @@ returns-in_err-read_more-clause-cut g c _ =
     let nothing : length c.rest-in-loop-skipped.result.now ≡ 0 = grind (arith, nat_tests) in
     let read = c.in_err-read_more.ensures.read in
     run_cut _ _ _ _ _ _ _ _ taken (omega arith) (sym c.rest-in-loop-skipped.ensures ∙ no_bytes _ nothing) read.0 read.1
+
+pub returns-in_err-read_more-clause-reads : goal.returns-in_err-read_more-clause-reads
+returns-in_err-read_more-clause-reads g c =
+    let is = c.run_len-run.ensures ∙ ap (prefix_len (test_of c.args.class)) c.rest.ensures in
+    let taken = run_step _ _ c.loop-skipped.held _ _ _ _ c.loop-skipped.invariant.taken is c.advance.ensures in
+    let nothing : length c.rest-in-loop-skipped.result.now ≡ 0 = grind (arith, nat_tests) in
+    let none = sym c.rest-in-loop-skipped.ensures ∙ no_bytes _ nothing in
+    reads_then _ _ c.loop-skipped.invariant.reads (reads_run _ _ _ _ _ taken (omega arith) none c.read_more.ensures.reads)
+
+pub returns-then-branch-eq0-clause-reads : goal.returns-then-branch-eq0-clause-reads
+returns-then-branch-eq0-clause-reads g c =
+    let is = c.run_len-run.ensures ∙ ap (prefix_len (test_of c.args.class)) c.rest.ensures in
+    let taken = run_step _ _ c.loop-skipped.held _ _ _ _ c.loop-skipped.invariant.taken is c.advance.ensures in
+    let nothing : length c.rest-in-loop-skipped.result.now ≡ 0 = grind (arith, nat_tests) in
+    let none = sym c.rest-in-loop-skipped.ensures ∙ no_bytes _ nothing in
+    reads_then _ _ c.loop-skipped.invariant.reads (reads_run _ _ _ _ _ taken (omega arith) none c.read_more.ensures.reads)

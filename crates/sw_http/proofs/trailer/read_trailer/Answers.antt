@@ -6,6 +6,7 @@ use Rattle.sw_http.specs.Fronts.{IsUnfinished}
 use Rattle.sw_http.proofs.TrailerLemmas.{no_trailer_in_none, never_long}
 use Rattle.sw_http.proofs.InputLemmas.{unfinished_none, unfinished_still, front_read, longer_read, seen_still}
 use Rattle.sw_http.proofs.InputLemmas.{kept_read, read_none, if_kept, if_always, if_ended}
+use Rattle.sw_http.proofs.ReadsLemmas.{reads_more, reads_none}
 use Rattle.sw_http.proofs.trailer.read_trailer.Goals as goal
 
 pub loop-len-init : goal.loop-len-init
@@ -15,6 +16,7 @@ loop-len-init g c = record {
   none_seen = no_trailer_in_none _ refl;
   unfinished = unfinished_none _;
   kept = Keeps-refl _;
+  reads = reads_none _ _ _;
   sound = omega arith;
   same = omega arith;
 }
@@ -37,6 +39,11 @@ loop-len-preserved g c =
     let read = c.in_ok-read_more.ensures.read in
     let none_there = subst HasNoTrailer c.rest.ensures c.in-NotYet.ensures.look in
     let still = unfinished_still MayBecomeSection _ _ (rw c.rest.ensures c.loop-len.invariant.unfinished) c.in-NotYet.ensures.unfinished in
+    let cut : IsTrailerCut c.loop-len.held = record {
+      none = subst HasNoTrailer c.rest.ensures c.in-NotYet.ensures.look;
+      short = subst (λ (l : List ℕ). length l < 65536) c.rest-seen.ensures c.if-seen-ge-MAX_HEAD.false;
+      unfinished = subst (IsUnfinished MayBecomeSection) c.rest.ensures still;
+    } in
     record {
       room = search rules;
       within = rw c.rest-seen.ensures (longer_read _ _ _ _ _ read);
@@ -44,6 +51,7 @@ loop-len-preserved g c =
       unfinished =
           rw c.rest-seen.ensures (front_read (IsUnfinished MayBecomeSection) _ _ _ _ _ (subst (IsUnfinished MayBecomeSection) c.rest.ensures still) read);
       kept = Keeps-trans _ _ _ c.loop-len.invariant.kept (kept_read _ _ _ _ _ read);
+      reads = reads_more _ c.loop-len.held _ c.loop-len.invariant.reads c.loop-len.invariant.kept cut c.read_more.ensures.reads;
       sound = search rules;
       same = search rules;
     }
@@ -56,3 +64,23 @@ returns-in_err-read_more-clause-cut g c e =
       short = subst (λ (l : List ℕ). length l < 65536) c.rest-seen.ensures c.if-seen-ge-MAX_HEAD.false;
       unfinished = subst (IsUnfinished MayBecomeSection) c.rest.ensures still;
     })
+
+pub returns-in_err-read_more-clause-reads : goal.returns-in_err-read_more-clause-reads
+returns-in_err-read_more-clause-reads g c =
+    let still = unfinished_still MayBecomeSection _ _ (rw c.rest.ensures c.loop-len.invariant.unfinished) c.in-NotYet.ensures.unfinished in
+    let cut : IsTrailerCut c.loop-len.held = record {
+      none = subst HasNoTrailer c.rest.ensures c.in-NotYet.ensures.look;
+      short = subst (λ (l : List ℕ). length l < 65536) c.rest-seen.ensures c.if-seen-ge-MAX_HEAD.false;
+      unfinished = subst (IsUnfinished MayBecomeSection) c.rest.ensures still;
+    } in
+    reads_more _ c.loop-len.held _ c.loop-len.invariant.reads c.loop-len.invariant.kept cut c.read_more.ensures.reads
+
+pub returns-then-branch-eq0-clause-reads : goal.returns-then-branch-eq0-clause-reads
+returns-then-branch-eq0-clause-reads g c =
+    let still = unfinished_still MayBecomeSection _ _ (rw c.rest.ensures c.loop-len.invariant.unfinished) c.in-NotYet.ensures.unfinished in
+    let cut : IsTrailerCut c.loop-len.held = record {
+      none = subst HasNoTrailer c.rest.ensures c.in-NotYet.ensures.look;
+      short = subst (λ (l : List ℕ). length l < 65536) c.rest-seen.ensures c.if-seen-ge-MAX_HEAD.false;
+      unfinished = subst (IsUnfinished MayBecomeSection) c.rest.ensures still;
+    } in
+    reads_more _ c.loop-len.held _ c.loop-len.invariant.reads c.loop-len.invariant.kept cut c.read_more.ensures.reads

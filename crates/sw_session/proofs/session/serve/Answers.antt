@@ -2,8 +2,11 @@ use Rattle.std.proofs.Common.{◌≡◌, ap, arith, refl, ◌∙◌, Ok, Err}
 use Rattle.std.specs.Io.KnownBytes.{prepend_known}
 use Rattle.std.proofs.lemmas.Result.{err_from_is_err_and}
 use Rattle.sw_session.specs.Passages.{Passage, passage}
-use Rattle.sw_session.proofs.Ends.{begun_with, ended_by, ended_well, fault_put, filled, none_put, turn_made, turn_put, waits_behind, well_put}
+use Rattle.sw_http.proofs.ReadsLemmas.{reads_none}
+use Rattle.sw_session.proofs.Ends.{begun_with, ended_by, ended_well, fault_counted, fault_put, filled, full_counted, full_put, none_put}
+use Rattle.sw_session.proofs.Ends.{turn_made, turn_put, turn_reads, waits_behind, well_counted, well_put}
 use Rattle.sw_session.specs.declared.session.SessionFault.TheVariants as faults
+use Rattle.sw_session.specs.declared.session.Turned.TheVariants as turns
 use Rattle.sw_session.proofs.session.serve.Goals as goal
 
 pub loop-init : goal.loop-init
@@ -11,11 +14,12 @@ loop-init g c = record {
   ready = c.requires.ready;
   progress = rw c.requires.none_read (rw c.new-held.ensures (begun_with g.V.Server.last g.V.Server.serves _ _ _));
   ticks = rw c.requires.none_read refl;
+  needed = reads_none _ _ _;
   reads = refl;
   writes = refl;
   read_at = refl;
   written_at = refl;
-  puts = rw c.requires.none_read (rw c.new-held.ensures (none_put _ _));
+  puts = rw c.requires.none_read (rw c.new-held.ensures (none_put g.V.Server.last g.V.Server.serves _ _ _ _));
 }
 
 pub turn-requires : goal.turn-requires
@@ -33,19 +37,27 @@ returns-in_err-turn-clause-session g c =
     c.loop.invariant.reads c.loop.invariant.writes c.in_err-turn.ensures.counted
     )
 
+pub returns-in_err-turn-clause-own_puts : goal.returns-in_err-turn-clause-own_puts
+returns-in_err-turn-clause-own_puts g c =
+    let exit = err_from_is_err_and c.from_residual.result c.from_residual.ensures.1 in
+    rw (exit.1, exit.2) (
+    fault_put g.V.Server.last g.V.Server.serves g.V.Server.halts _ _ _ _ _ _ _ _ _ _ _ _ _ _ c.loop.invariant.puts _
+    c.in_err-turn.ensures.turn c.in_err-turn.ensures.puts
+    )
+
 pub returns-in_err-turn-clause-puts : goal.returns-in_err-turn-clause-puts
 returns-in_err-turn-clause-puts g c =
     let exit = err_from_is_err_and c.from_residual.result c.from_residual.ensures.1 in
     rw (exit.1, exit.2) (
-    fault_put g.V.Server.last g.V.Server.serves g.V.Server.halts _ _ _ _ _ _ _ _ _ _ _ _ _ c.loop.invariant.puts c.in_err-turn.ensures.turn
-    c.in_err-turn.ensures.puts
+    fault_counted g.V.Server.last g.V.Server.serves g.V.Server.halts _ _ _ _ _ _ _ _ _ _ _ _ _ _ c.loop.invariant.puts _
+    c.in_err-turn.ensures.turn c.in_err-turn.ensures.puts
     )
 
 pub returns-in_err-turn-clause-waits : goal.returns-in_err-turn-clause-waits
 returns-in_err-turn-clause-waits g c e =
     let exit = err_from_is_err_and c.from_residual.result c.from_residual.ensures.1 in
     let failed : c.in_err-turn.field-0.0 ≡ faults.ReadFault = cc in
-    waits_behind g.V.Server.last g.V.Server.serves g.V.Server.halts _ _ _ _ _ _ _ _ _ _ _ _ _ c.in_err-turn.field-0.0 c.loop.invariant.puts
+    waits_behind g.V.Server.last g.V.Server.serves g.V.Server.halts _ _ _ _ _ _ _ _ _ _ _ _ _ _ _ c.in_err-turn.field-0.0 c.loop.invariant.puts
     c.in_err-turn.ensures.turn failed (c.in_err-turn.ensures.seen (ap Err failed))
 
 -- the input ended, or the last request was answered
@@ -57,9 +69,14 @@ returns-in-Closed-clause-session g c =
     _ _ _ _ _ _ c.in_ok-turn.field-0 c.in-Closed.is c.loop.invariant.progress c.loop-test.true c.in_ok-turn.ensures.turn
     (λ is. c.in_ok-turn.ensures.at_end (ap Ok is)) c.loop.invariant.reads c.loop.invariant.writes c.in_ok-turn.ensures.counted
 
+pub returns-in-Closed-clause-own_puts : goal.returns-in-Closed-clause-own_puts
+returns-in-Closed-clause-own_puts g c =
+    well_put g.V.Server.last g.V.Server.serves g.V.Server.halts _ _ _ _ _ _ _ _ _ _ _ _ _ _ c.in_ok-turn.field-0 c.in-Closed.is c.loop.invariant.puts
+    c.in_ok-turn.ensures.turn c.in_ok-turn.ensures.puts
+
 pub returns-in-Closed-clause-puts : goal.returns-in-Closed-clause-puts
 returns-in-Closed-clause-puts g c =
-    well_put g.V.Server.last g.V.Server.serves g.V.Server.halts _ _ _ _ _ _ _ _ _ _ _ _ c.in_ok-turn.field-0 c.in-Closed.is c.loop.invariant.puts
+    well_counted g.V.Server.last g.V.Server.serves g.V.Server.halts _ _ _ _ _ _ _ _ _ _ _ _ _ _ c.in_ok-turn.field-0 c.in-Closed.is c.loop.invariant.puts
     c.in_ok-turn.ensures.turn c.in_ok-turn.ensures.puts
 
 -- one request more
@@ -69,12 +86,14 @@ loop-preserved g c = record {
   progress = turn_made g.V.Server.last g.V.Server.serves g.V.Server.halts _ _ _ _ _ _ _ _ _ _ _ _ c.loop.invariant.progress
       (rw c.in-Answered.is at c.in_ok-turn.ensures.turn);
   ticks = c.turn.ensures.ticks _ c.loop.invariant.ticks;
+  needed = turn_reads g.V.Server.last g.V.Server.serves g.V.Server.halts _ _ _ _ _ _ _ _ _ _ _ _ (Ok turns.Answered) c.loop.invariant.progress
+      (rw c.in-Answered.is at c.in_ok-turn.ensures.turn) c.loop.invariant.needed c.turn.ensures.reads;
   reads = c.in_ok-turn.ensures.counted.0 ∙ c.loop.invariant.reads;
   writes = c.in_ok-turn.ensures.counted.1 ∙ c.loop.invariant.writes;
   read_at = c.turn.ensures.source_number ∙ c.loop.invariant.read_at;
   written_at = c.turn.ensures.sink_number ∙ c.loop.invariant.written_at;
-  puts = turn_put g.V.Server.last g.V.Server.serves _ _ _ _ _ _ _ _ _ _ _ _ _ c.loop.invariant.puts
-      (rw c.in-Answered.is at c.in_ok-turn.ensures.puts) (rw c.in-Answered.is at c.in_ok-turn.ensures.turn);
+  puts = turn_put g.V.Server.last g.V.Server.serves _ _ _ _ _ _ _ _ _ _ _ _ _ _ c.loop.invariant.puts
+      (rw c.in-Answered.is at c.in_ok-turn.ensures.puts);
 }
 
 -- as many requests were answered as a session has at most
@@ -84,3 +103,20 @@ returns-clause-session g c = (
   c.loop.invariant.reads,
   c.loop.invariant.writes,
 )
+
+-- each read was needed
+pub returns-in_err-turn-clause-reads : goal.returns-in_err-turn-clause-reads
+returns-in_err-turn-clause-reads g c =
+    turn_reads g.V.Server.last g.V.Server.serves g.V.Server.halts _ _ _ _ _ _ _ _ _ _ _ _ (Err c.in_err-turn.field-0.0) c.loop.invariant.progress
+    c.in_err-turn.ensures.turn c.loop.invariant.needed c.turn.ensures.reads
+
+pub returns-in-Closed-clause-reads : goal.returns-in-Closed-clause-reads
+returns-in-Closed-clause-reads g c =
+    turn_reads g.V.Server.last g.V.Server.serves g.V.Server.halts _ _ _ _ _ _ _ _ _ _ _ _ (Ok c.in_ok-turn.field-0) c.loop.invariant.progress
+    c.in_ok-turn.ensures.turn c.loop.invariant.needed c.turn.ensures.reads
+
+pub returns-clause-own_puts : goal.returns-clause-own_puts
+returns-clause-own_puts g c = full_put g.V.Server.last g.V.Server.serves g.V.Server.halts _ _ _ _ _ _ _ _ _ c.loop.invariant.puts
+
+pub returns-clause-puts : goal.returns-clause-puts
+returns-clause-puts g c = full_counted g.V.Server.last g.V.Server.serves g.V.Server.halts _ _ _ _ _ _ _ _ _ c.loop.invariant.puts
