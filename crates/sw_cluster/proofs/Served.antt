@@ -186,6 +186,7 @@ module _ {V : Type 0} (tells : V → Bool) (files : V → Folders) (faults : V �
           machine = went.1.after;
           run = went.1.run;
           stands = went.1.stands;
-          stored = left-stored store_calls rests out (opened serve_bytes ring volumes) whole w stores rests_now is resting same_out (all-tell-on tells files faults ring w told_on) went.0 went.1.after went.1.run
+          stored = left-stored store_calls rests out (opened serve_bytes ring volumes) whole w stores rests_now is resting same_out
+              (all-tell-on tells files faults ring w told_on) went.0 went.1.after went.1.run
               went.1.stands.objects left;
         }

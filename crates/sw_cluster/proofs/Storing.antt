@@ -26,7 +26,8 @@ use Rattle.sw_machine.specs.Machine.{KnownWrite, Machine, RunLine, Runs, machine
 use Rattle.sw_object_steps.specs.Halves.{ObjHalf}
 use Rattle.sw_object_steps.specs.Rules.{ObjHistory}
 use Rattle.sw_object_steps.specs.Values.{ObjValue}
-use Rattle.sw_core.specs.Worlds.{AllNodes, AreLifted, HasLimits, IsWorld, Lifts, SlotTellsOn, TellsOn, first_of, held_of, lock_of, nodes_of, past_of, seen_of, shown, sight_of}
+use Rattle.sw_core.specs.Worlds.{AllNodes, AreLifted, HasLimits, IsWorld, Lifts, SlotTellsOn, TellsOn, first_of, held_of, lock_of, nodes_of}
+use Rattle.sw_core.specs.Worlds.{past_of, seen_of, shown, sight_of}
 use Rattle.sw_core.specs.Worlds.{stripe_at}
 use Rattle.sw_core.specs.declared.slot.Slot.{Slot}
 use Rattle.sw_core.specs.declared.slot.Slot.TheVariants as slots

@@ -1,5 +1,6 @@
 -- How a session ends, by its status, and what its trail tells. (This project's own.)
-use Rattle.std.specs.Prelude.{◌≡◌, ⊤, ℕ, ◌*◌, ◌^◌, ◌<◌, ◌≤◌, ◌==◌, ◌&&◌, Bool, true, false, List, [], ◌++◌, length, Option, None, Some, Result, Ok, Err, ◌⊎◌, if◌then◌else◌}
+use Rattle.std.specs.Prelude.{◌≡◌, ⊤, ℕ, ◌*◌, ◌^◌, ◌<◌, ◌≤◌, ◌==◌, ◌&&◌, Bool, true, false, List, [], ◌++◌, length, Option, None, Some, Result}
+use Rattle.std.specs.Prelude.{Ok, Err, ◌⊎◌, if◌then◌else◌}
 use Rattle.sw_outside.specs.Readings.{TicksEach}
 use Rattle.sw_message.specs.declared.request.Request.{Request}
 use Rattle.sw_session.specs.Passages.{Passage}

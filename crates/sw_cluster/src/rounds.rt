@@ -115,7 +115,8 @@ fn serve_over<W: Sink, S: Stores, N: Doors, C: Clock>(
     doors: &mut N,
     clock: &mut C,
 ) -> u8
-    requires begun { (volumes : List S.V) × (length volumes ≡ length ring.now.devices * 2 ^ ring.now.lock_bits) × (world ≡ opened serve_bytes ring.now volumes) }
+    requires begun { (volumes : List S.V) × (length volumes ≡ length ring.now.devices * 2 ^ ring.now.lock_bits)
+        × (world ≡ opened serve_bytes ring.now volumes) }
     requires out { (d s : ℕ) → S.out stores.old d s ≡ places_of ring.now d s }
     requires doors { length (N.finished doors.old) ≤ length (N.accepts doors.old) }
     ensures home { (d s : ℕ) → S.out stores.new d s ≡ false }

@@ -70,7 +70,8 @@ module _ {V : Type 0} where
   lifted-down power max_bytes v (slots.Open k) y secrets e is = cc
   lifted-down power max_bytes v slots.Empty y secrets e is = cc
 
-  pub one-down : (power max_bytes first place : ℕ) (given : List V) (v : V) (old now : List (Slot V)) (x y : Slot V) → place ≡ first + length given → place < length now
+  pub one-down : (power max_bytes first place : ℕ) (given : List V) (v : V) (old now : List (Slot V)) (x y : Slot V) → place ≡ first + length given
+      → place < length now
       → AreSetDown power max_bytes first given old now → slice_get now place ≡ Some x → IsSetDown power max_bytes v x y →
       AreSetDown power max_bytes first (given ++ v ∷ []) old (slice_set now place y)
   one-down power max_bytes first place given v old now x y here below all there is = record {

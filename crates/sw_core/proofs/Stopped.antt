@@ -80,8 +80,9 @@ module _ {V : Type 0} where
       where
         each : (length (flat_map volume_in w.slots) ≡ length w.slots) ×
             ((l : ℕ) (k : Kept V) → slice_get w.slots l ≡ Some (slots.Open k) → slice_get (flat_map volume_in w.slots) l ≡ Some k.volume)
-        each = open-volumes w.slots (λ l h. let at = subst (λ (o : Option ℕ). IsSlot w.secrets w.power w.max_bytes (is_out w.lock_bits o l) (slice_get w.slots l)) whole
-            (is.slots l h) in (at.0, at.1))
+        each = open-volumes w.slots (λ l h. let at =
+            subst (λ (o : Option ℕ). IsSlot w.secrets w.power w.max_bytes (is_out w.lock_bits o l) (slice_get w.slots l)) whole (is.slots l h) in
+            (at.0, at.1))
 
     module _ (device : ℕ) (out : w.lifted ≡ Some device) where
       abbrev f : ℕ

@@ -1,6 +1,7 @@
 -- What a control request makes of the nodes: a device whose files were listed, and one that went back to the stores and came again, or
 -- didn't.
-use Rattle.std.proofs.Common.{◌≡◌, ℕ, ◌+◌, ◌*◌, ◌%◌, ◌^◌, ◌≤◌, ◌<◌, Bool, true, false, MatchBool, Option, Some, Result, Ok, Err, IfOk, IfErr, OnErr, OnOk, refl, sym}
+use Rattle.std.proofs.Common.{◌≡◌, ℕ, ◌+◌, ◌*◌, ◌%◌, ◌^◌, ◌≤◌, ◌<◌, Bool, true, false, MatchBool, Option, Some, Result, Ok, Err, IfOk, IfErr}
+use Rattle.std.proofs.Common.{OnErr, OnOk, refl, sym}
 use Rattle.std.proofs.Common.{◌∙◌}
 use Rattle.std.proofs.Common.{ap, subst, inl, inr, ◌⊎◌, arith, MutBor}
 use Rattle.std.proofs.lemmas.Nat.{one_shl}

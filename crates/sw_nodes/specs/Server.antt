@@ -1,4 +1,4 @@
--- What a request is answered, and which lines it leaves in the trail. (OpenStack Swift's servers, in the profile of this product.)
+-- What a request is answered, and what it leaves of the nodes. (OpenStack Swift's servers, in the profile of this product.)
 --
 -- A reply is a relation, since want of memory may be answered in place of any reply. Then no step came, or the one that the request asks
 -- for, which changed nothing.

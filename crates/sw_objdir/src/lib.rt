@@ -6,7 +6,8 @@
 //! and answers from what it finds once none is left.
 //!
 //! Each step is one by the rules of objects, which `sw_object_steps` has and every door of object nodes speaks of too. `specs/Directories` says what
-//! a hash stands for, `specs/Stepping` what a step is, and `specs/Calling` which calls of the volume it makes, in their order, and what each leaves of the files where it is the one that failed.
+//! a hash stands for, `specs/Stepping` what a step is, and `specs/Calling` which calls of the volume it makes, in their order, and what each leaves
+//! of the files where it is the one that failed.
 //! `specs/Comparing` has the calls of a read of a partition.
 //!
 //! The next layer down is `sw_hashdir`, which has the calls of one directory; the next one up is `sw_core`, whose world is made

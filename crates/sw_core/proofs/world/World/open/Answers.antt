@@ -20,7 +20,8 @@ invariant_of-result g c =
     let amount : length c.args.parts.volumes.items ≡ length c.as_slice.result.now * 2 ^ ring.lock_bits = rw c.as_slice.ensures c.requires.volumes in
     let wide : length c.open_slots.new.places.items ≤ c.in-Ok-with_capacity.room.cap =
     omega (arith, c.open_slots.ensures.count, same-count g c, c.args.parts.volumes.ok.0, c.len-count.ensures, c.in-Ok-with_capacity.ensures.capacity) in (
-      opened-world c.in-Ok.secrets ring.power c.args.max_bytes c.args.parts.volumes.items c.in-Ok-lifted_slots.slots.items c.open_slots.new.places.items (same-count g c)
+      opened-world c.in-Ok.secrets ring.power c.args.max_bytes c.args.parts.volumes.items c.in-Ok-lifted_slots.slots.items
+          c.open_slots.new.places.items (same-count g c)
           (all-out g c) c.open_slots.ensures (length c.as_slice.result.now) ring.lock_bits
           c.new.result.items 0 c.in-Ok-empty_locks.containers few ring.few_lock_bits ring.lock_bits_within_power ring.least_power greatest amount,
       record {
@@ -37,7 +38,8 @@ invariant_of-result g c =
 pub returns-clause-opens : goal.returns-clause-opens
 returns-clause-opens g c =
     let ring = c.args.ring.now in
-    let slots = opened-slots c.in-Ok.secrets ring.power c.args.max_bytes c.args.parts.volumes.items c.in-Ok-lifted_slots.slots.items c.open_slots.new.places.items
+    let slots = opened-slots c.in-Ok.secrets ring.power c.args.max_bytes c.args.parts.volumes.items c.in-Ok-lifted_slots.slots.items
+        c.open_slots.new.places.items
     (same-count g c) (all-out g c) c.open_slots.ensures in
     let containers = empty-is c.len-count.result c.args.parts.volumes.items c.in-Ok-empty_locks.containers
     (omega (arith, c.len-count.ensures, c.args.parts.volumes.ok.0)) c.in-Ok-empty_locks.ensures in

@@ -19,7 +19,8 @@ loop-volume-preserved g c =
     let below : c.loop-volume.at < length now = omega arith in
     record {
       place = omega (arith, length-push given c.in-Some.volume);
-      down = one-down c.args.power c.args.max_bytes c.args.first c.loop-volume.at given c.in-Some.volume c.args.places.now.items now c.index_mut.result.now c.open_slot.new.place
+      down = one-down c.args.power c.args.max_bytes c.args.first c.loop-volume.at given c.in-Some.volume c.args.places.now.items now
+          c.index_mut.result.now c.open_slot.new.place
           place below c.loop-volume.invariant.down (slice_get_read now (length now) c.loop-volume.at c.index_mut.result.now refl below
           c.index_mut.ensures.value) c.open_slot.ensures;
     }
