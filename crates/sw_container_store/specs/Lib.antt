@@ -1,0 +1,5 @@
+pub mod Statements
+pub mod Values
+pub mod Runs
+pub mod OpenList
+pub mod Paths
