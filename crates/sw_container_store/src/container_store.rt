@@ -17,16 +17,16 @@ use sw_outside::{NoMemory, StoreError};
 /// At most 16 databases are open, and the one that was used longest ago is closed for another. One whose call has failed is open no more, so that the next call
 /// opens it anew. The time of `names` grows with the number of containers and with what is in them, since an open looks at the whole of a database.
 #[derive(Drop)]
-pub struct ContainerStore<H, D> {
+pub struct ContainerStore<H: Databases> {
     databases: H,
-    opened: OpenList<D>,
+    opened: OpenList<H::Open>,
     calls: u64,
     faults: u64,
 }
 
-impl<D: Database, H: Databases<Open = D>> ContainerStore<H, D> {
+impl<H: Databases> ContainerStore<H> {
     /// The keeper over these databases, none of which is open.
-    pub fn new(alloc: Global, databases: H) -> Result<ContainerStore<H, D>, NoMemory>
+    pub fn new(alloc: Global, databases: H) -> Result<ContainerStore<H>, NoMemory>
         ensures { IfOk result (λ store. (store.calls ≡ 0) × (store.faults ≡ 0) × (store.opened ≡ [])) }
     {
         Ok(ContainerStore {
@@ -55,7 +55,7 @@ impl<D: Database, H: Databases<Open = D>> ContainerStore<H, D> {
     }
 
     /// The database of a place, taken out of those that are open, or opened.
-    fn reach(&mut self, alloc: Global, place: &Place) -> Result<OpenDatabase<D>, StoreError>
+    fn reach(&mut self, alloc: Global, place: &Place) -> Result<OpenDatabase<H::Open>, StoreError>
         ensures room { OnOk result (length self.new.opened < 16) }
         ensures counts { (self.new.calls ≡ self.old.calls) × (self.new.faults ≡ self.old.faults) }
     {
@@ -144,7 +144,7 @@ fn compare(one: &Place, other: &Place) -> Ordering {
         .then(one.hash.as_slice().cmp(other.hash.as_slice()))
 }
 
-impl<D: Database, H: Databases<Open = D>> Keeper for ContainerStore<H, D> {
+impl<H: Databases> Keeper for ContainerStore<H> {
     ghost tells = { λ _. false };
 
     ghost holds = { λ _ _. None };
