@@ -6,7 +6,6 @@ use crate::database::Databases;
 use crate::sql_database::SqlDatabase;
 use hex::FromHex;
 use itoa::Buffer;
-use sqlite::{Connection, File, FileStore};
 use std::alloc::{AllocError, Global};
 use std::io::ErrorKind;
 use std::{fs, io};
@@ -81,7 +80,7 @@ impl<'a, N: Notes> HostDatabases<'a, N> {
 }
 
 impl<'a, N: Notes> Databases for HostDatabases<'a, N> {
-    type Open = SqlDatabase<'a, Connection<FileStore<File>>, N>;
+    type Open = SqlDatabase<'a, N>;
 
     ghost key = { λ h hash. database_path (string_bytes h.root) h.power hash };
 
@@ -93,11 +92,7 @@ impl<'a, N: Notes> Databases for HostDatabases<'a, N> {
         }
     }
 
-    fn open(
-        &self,
-        alloc: Global,
-        hash: &[u8; 16],
-    ) -> Result<SqlDatabase<'a, Connection<FileStore<File>>, N>, StoreError> {
+    fn open(&self, alloc: Global, hash: &[u8; 16]) -> Result<SqlDatabase<'a, N>, StoreError> {
         let path = self.path(alloc, hash)?;
         if let Err(error) = make_way(&self.host, self.root.as_str(), above(path.as_str())) {
             return Err(store_error(error));

@@ -7,7 +7,6 @@ use crate::database::{Damage, Database};
 use crate::statements::{Command, Query, SCHEMA};
 use sqlite::types::ValueRef;
 use sqlite::{Connection, Error, ErrorCode, File, FileStore, Row};
-use sqlite_disk::Disk;
 use std::io;
 use std::io::ErrorKind;
 use sw_host::{HostCall, Notes};
@@ -16,13 +15,13 @@ use sw_outside::StoreError;
 /// A database of SQLite that is open. The notes are told why a call on it failed. What `sqlite` says of a call on files that have returned what was written to
 /// them is what it may be asked and may tell.
 #[derive(Drop)]
-pub struct SqlDatabase<'a, C, N: Notes> {
-    connection: C,
+pub struct SqlDatabase<'a, N: Notes> {
+    connection: Connection<FileStore<File>>,
     path: String,
     notes: &'a N,
 }
 
-impl<'a, N: Notes> SqlDatabase<'a, Connection<FileStore<File>>, N> {
+impl<'a, N: Notes> SqlDatabase<'a, N> {
     /// Opens the database at a path, and makes it with its tables where there is none. An open looks at the whole of it.
     pub fn open(rt: &HostRuntime, notes: &'a N, path: String) -> Result<Self, StoreError>
         ensures { IfOk result (λ d. d.path ≡ path) }
@@ -96,7 +95,7 @@ fn reason(error: Error) -> io::Error {
     }
 }
 
-impl<D: Disk + Drop, N: Notes> Database for SqlDatabase<'_, Connection<FileStore<D>>, N> {
+impl<N: Notes> Database for SqlDatabase<'_, N> {
     ghost key = { λ d. string_bytes d.path };
 
     ghost runs = { λ command values old new. HasCleanDisk (file_state new.connection)
