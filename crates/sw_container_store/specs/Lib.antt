@@ -3,3 +3,4 @@ pub mod Values
 pub mod Runs
 pub mod OpenList
 pub mod Paths
+pub mod Making

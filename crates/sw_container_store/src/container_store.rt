@@ -1,5 +1,8 @@
-ghost use Rattle.std.specs.Prelude.{◌≡◌, ◌<◌, [], length, false, None, IfOk, OnOk};
-ghost use Rattle.sw_keeper.specs.Keeping.{HasCause};
+ghost use Rattle.std.specs.Prelude.{◌≡◌, ◌<◌, [], length, true, false, None, Ok, IfOk, OnOk};
+ghost use Rattle.sw_container_store.specs.Making.{IsMade, IsReached};
+ghost use Rattle.sw_keeper.specs.Changes.{IsBatch};
+ghost use Rattle.sw_keeper.specs.Keeping.{Changes, HasCause, IsSame, MayChange, OnFailed, OnNoMemory};
+ghost use Rattle.sw_outside.specs.Counts.{raised};
 
 use crate::database::{Damage, Database, Databases};
 use crate::open_list::{OpenDatabase, OpenList};
@@ -39,6 +42,7 @@ impl<H: Databases> ContainerStore<H> {
 
     /// Counts what has failed, and has it told.
     fn told<T>(&mut self, answer: Result<T, StoreError>) -> Result<T, KeeperError>
+        ensures ok { IfOk result (λ value. answer ≡ Ok value) }
         ensures cause { HasCause self.old.faults self.new.faults result }
         ensures calls { self.new.calls ≡ self.old.calls }
         ensures opened { self.new.opened ≡ self.old.opened }
@@ -56,6 +60,7 @@ impl<H: Databases> ContainerStore<H> {
 
     /// The database of a place, taken out of those that are open, or opened.
     fn reach(&mut self, alloc: Global, place: &Place) -> Result<OpenDatabase<H::Open>, StoreError>
+        ensures reached { IfOk result (λ entry. IsReached self.old.opened place.now entry.database) }
         ensures room { OnOk result (length self.new.opened < 16) }
         ensures counts { (self.new.calls ≡ self.old.calls) × (self.new.faults ≡ self.old.faults) }
     {
@@ -87,6 +92,7 @@ impl<H: Databases> ContainerStore<H> {
 
     /// Makes a batch in the database of a place.
     fn write(&mut self, alloc: Global, place: &Place, batch: &Batch) -> Result<(), StoreError>
+        ensures made { OnOk result (IsMade H.Open.runs self.old.opened self.new.opened place.now batch.now) }
         ensures counts { (self.new.calls ≡ self.old.calls) × (self.new.faults ≡ self.old.faults) }
     {
         let mut entry = self.reach(alloc, place)?;
@@ -165,7 +171,16 @@ impl<H: Databases> Keeper for ContainerStore<H> {
         self.told(loaded)
     }
 
-    fn commit(&mut self, alloc: Global, place: &Place, batch: &Batch) -> Result<(), KeeperError> {
+    fn commit(&mut self, alloc: Global, place: &Place, batch: &Batch) -> Result<(), KeeperError>
+        requires fits { false ≡ true → IsBatch None batch.now }
+        ensures ok { OnOk result (false ≡ true → Changes (λ _. None) (λ _. None) place.now batch.now) }
+        ensures failed { OnFailed result (false ≡ true → MayChange (λ _. None) (λ _. None) place.now batch.now) }
+        ensures no_memory { OnNoMemory result (false ≡ true → IsSame (λ _. None) (λ _. None)) }
+        ensures told { false ≡ false }
+        ensures cause { HasCause self.old.faults self.new.faults result }
+        ensures calls { self.new.calls ≡ raised self.old.calls }
+        ensures made { OnOk result (IsMade H.Open.runs self.old.opened self.new.opened place.now batch.now) }
+    {
         self.calls = self.calls.saturating_add(1);
         let made = self.write(alloc, place, batch);
         self.told(made)
