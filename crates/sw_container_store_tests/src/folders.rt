@@ -60,7 +60,7 @@ pub(crate) fn row(
         created_at: time(units),
         size,
         content_type: text(alloc, "text/plain")?,
-        etag: [size as u8; 16],
+        etag: [7; 16],
         deleted,
     })
 }

@@ -1,3 +1,5 @@
+ghost use Rattle.std.specs.Prelude.{◌≡◌, false, IfOk};
+
 use std::test::Fail;
 use sw_container_store::{ContainerStore, HostDatabases};
 use sw_host::NoNotes;
@@ -7,8 +9,9 @@ use sw_keeper::Keeper;
 pub(crate) trait Opens {
     type K: Keeper + Drop;
 
-    /// A keeper over the databases below a folder.
-    fn open(&self, root: &str) -> Result<Self::K, Fail>;
+    /// A keeper over the databases below a folder, which tells nothing of what it holds.
+    fn open(&self, root: &str) -> Result<Self::K, Fail>
+        ensures { IfOk result (λ keeper. Self.K.tells keeper ≡ false) };
 }
 
 /// The host's databases.

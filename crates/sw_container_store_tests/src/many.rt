@@ -1,3 +1,5 @@
+ghost use Rattle.std.specs.Prelude.{◌≡◌, false};
+
 use crate::folders::{creation, database_path, end_folder, fresh_folder, place, tables_text};
 use crate::host::{Host, Opens};
 use std::alloc::Global;
@@ -8,7 +10,9 @@ use sw_keeper::{Batch, Change, Keeper};
 /// How many containers there are: more than may be open.
 const MANY: usize = 20;
 
-fn create_all<K: Keeper>(alloc: Global, store: &mut K) -> Result<(), Fail> {
+fn create_all<K: Keeper>(alloc: Global, store: &mut K) -> Result<(), Fail>
+    requires { K.tells store.old ≡ false }
+{
     for number in 0..MANY {
         let place = place(alloc, &format!(in alloc; "c{number}")?)?;
         store.commit(alloc, &place, &creation(alloc, "o", 5)?)?;
