@@ -1,13 +1,11 @@
-use crate::host::Host;
 use crate::host_stores::root_of;
 use crate::layout::Layout;
-use crate::notes::{HostCall, Notes};
-use crate::paths::{above, below};
 use std::alloc::Global;
 use std::fs::{File, OpenFile, OpenOptions, TryLockError};
 use std::io::{ErrorKind, Write};
 use std::rt::Files;
 use std::{fs, io};
+use sw_host::{Host, HostCall, Notes, above, below};
 
 /// The file whose lock the one process has that may touch the folder. The host ends the lock with the process, however that ends.
 const LOCK: &str = "lock";

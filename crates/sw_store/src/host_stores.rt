@@ -7,15 +7,14 @@ ghost use Rattle.sw_stores.specs.Telling.{faults_after};
 ghost use Rattle.sw_stores.specs.Volumes.{StartsFrom};
 
 use crate::claim::claim;
-use crate::host::Host;
-use crate::host_volume::{HostVolume, store_error};
+use crate::host_volume::HostVolume;
 use crate::layout::Layout;
-use crate::notes::{HostCall, Notes};
 use std::alloc::Global;
 use std::fs::File;
 use std::io::ErrorKind;
 use std::rt::Files;
 use std::{fs, io};
+use sw_host::{Host, HostCall, Notes, store_error};
 use sw_outside::{Bytes, NoMemory, StoreError};
 use sw_stores::{Stores, VolumeShelf};
 

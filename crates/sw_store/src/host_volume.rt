@@ -2,18 +2,15 @@ ghost use Rattle.std.specs.Prelude.{◌≡◌, ◌≢◌, ◌≤◌, [], false, 
 ghost use Rattle.std.specs.IoError.{error_kind};
 ghost use Rattle.sw_outside.specs.Counts.{raised};
 ghost use Rattle.sw_outside.specs.Faults as outside;
-ghost use Rattle.sw_outside.specs.declared.store_error.StoreError.{StoreError as StoreErrorSeen};
 ghost use Rattle.sw_volume.specs.Volume.{HasCause, OnFailed, OnNoMemory};
 
-use crate::host::Host;
-use crate::notes::{HostCall, Notes};
-use crate::paths::{HostPath, file_path, folder_path, put_path, writing_path};
-use crate::writing::make_way;
+use crate::paths::{file_path, folder_path, put_path, writing_path};
 use std::alloc::{AllocError, Global};
 use std::fs::DirEntry;
 use std::io::ErrorKind;
 use std::rt::Files;
 use std::{fs, io};
+use sw_host::{Host, HostCall, HostPath, Notes, make_way, store_error};
 use sw_outside::{Bytes, BytesList, Failed, StoreError};
 use sw_volume::{Listing, Volume, VolumeError};
 
@@ -82,18 +79,6 @@ impl<'a, R: Files + AllocGlobal, N: Notes> HostVolume<'a, R, N> {
             Err(error) if error.kind() == ErrorKind::OutOfMemory => Err(VolumeError::NoMemory),
             Err(_) => Err(self.fail().into()),
         }
-    }
-}
-
-/// What an error of the host is to stores: want of memory is no failure of theirs, and each other one is.
-pub(crate) fn store_error(error: io::Error) -> StoreError
-    ensures memory { result ≡ StoreErrorSeen.NoMemory → error_kind error ≡ ErrorKind.OutOfMemory }
-    ensures failed { result ≡ StoreErrorSeen.Failed → error_kind error ≢ ErrorKind.OutOfMemory }
-{
-    if error.kind() == ErrorKind::OutOfMemory {
-        StoreError::NoMemory
-    } else {
-        StoreError::Failed
     }
 }
 

@@ -5,26 +5,23 @@
 //! socket, is under no contract: these are adapters, proved to be safe and to count calls and faults as their traits say.
 //!
 //! Stores make their process the one owner of their folder, and look whether it was made for the ring that they read. [`Notes`] are told which call on the
-//! host failed, and why.
+//! host failed, and why: that is `sw_host`, the layer below.
 #![tactic(auto)]
 
 mod claim;
-mod host;
 mod host_stores;
 mod host_volume;
 mod layout;
-mod notes;
 mod pace;
 mod paths;
 mod tcp_doors;
 mod tcp_sink;
 mod tcp_source;
-mod writing;
 
 pub use host_stores::HostStores;
 pub use host_volume::HostVolume;
-pub use notes::{HostCall, LineNotes, NoNotes, Notes};
 pub use pace::Patience;
+pub use sw_host::{HostCall, LineNotes, NoNotes, Notes};
 pub use tcp_doors::{TcpDoors, TcpFinished};
 pub use tcp_sink::TcpSink;
 pub use tcp_source::TcpSource;

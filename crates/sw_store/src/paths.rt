@@ -1,13 +1,9 @@
-use arrayvec::ArrayString;
 use itoa::Buffer;
-use std::io::ErrorKind;
 use std::{io, str};
+use sw_host::{HostPath, add, below, refused};
 
 /// The folder of a volume in which files are written before they are moved to their places. No file of the volume stands in it.
 const WRITING: &str = "tmp";
-
-/// The path of a file or a folder of the host: at most as long as the host takes one, so that it is made without memory.
-pub(crate) type HostPath = ArrayString<4096>;
 
 /// The folder of a directory of the volume whose own folder is `root`.
 pub(crate) fn folder_path(root: &str, dir: &[u8]) -> io::Result<HostPath> {
@@ -34,36 +30,11 @@ pub(crate) fn writing_path(root: &str) -> io::Result<HostPath> {
 pub(crate) fn put_path(root: &str, owner: u32, number: u64) -> io::Result<HostPath> {
     let mut path = writing_path(root)?;
     let mut digits = Buffer::new();
-    push(&mut path, "/put-")?;
-    push(&mut path, digits.format(owner))?;
-    push(&mut path, "-")?;
-    push(&mut path, digits.format(number))?;
+    add(&mut path, "/put-")?;
+    add(&mut path, digits.format(owner))?;
+    add(&mut path, "-")?;
+    add(&mut path, digits.format(number))?;
     Ok(path)
-}
-
-/// The folder above: `.` where the path is one name, `/` where it is a name below that.
-pub(crate) fn above(path: &str) -> &str {
-    match path.rsplit_once('/') {
-        None => ".",
-        Some(("", _)) => "/",
-        Some((above, _)) => above,
-    }
-}
-
-/// A path below a folder.
-pub(crate) fn below(folder: &str, path: &str) -> io::Result<HostPath> {
-    let mut whole = HostPath::new();
-    push(&mut whole, folder)?;
-    push(&mut whole, "/")?;
-    push(&mut whole, path)?;
-    Ok(whole)
-}
-
-fn push(path: &mut HostPath, text: &str) -> io::Result<()> {
-    match path.try_push_str(text) {
-        Ok(()) => Ok(()),
-        Err(_) => Err(refused()),
-    }
 }
 
 /// The text of a directory, where a volume may keep files in it: it is UTF-8, each of its segments is a name, and the first isn't that of the
@@ -89,8 +60,4 @@ fn name_text(file: &[u8]) -> Option<&str> {
 /// Whether a segment names something below its folder.
 fn is_name(segment: &str) -> bool {
     !segment.is_empty() && segment != "." && segment != ".."
-}
-
-fn refused() -> io::Error {
-    io::Error::from(ErrorKind::InvalidInput)
 }

@@ -1,8 +1,6 @@
 ghost use Rattle.std.specs.Prelude.{◌≡◌, [], None};
 ghost use Rattle.sw_store.specs.Connections.{accepts_of, finished_of};
 
-use crate::host_volume::store_error;
-use crate::notes::{HostCall, Notes, noted};
 use crate::pace::Patience;
 use crate::tcp_sink::TcpSink;
 use crate::tcp_source::TcpSource;
@@ -14,6 +12,7 @@ use std::io::ErrorKind;
 use std::net::{Ipv4Addr, Net, SocketAddr, TcpListener, TcpStream};
 use std::rc::Rc;
 use std::time::Clock;
+use sw_host::{HostCall, Notes, noted, store_error};
 use sw_outside::{Doors, Failed, NoMemory, Roll, StoreError};
 
 /// The numbers and the counts of both ends of a connection that was finished, its status, and how many had been accepted by then.

@@ -12,6 +12,8 @@ use std::{fmt, io};
 pub enum HostCall {
     /// Waiting for a connection, and making it ready.
     Accept,
+    /// Running a statement that changes a database.
+    ChangeDatabase,
     /// Comparing what is there with what is wanted.
     Check,
     Create,
@@ -24,7 +26,10 @@ pub enum HostCall {
     MakeFolder,
     /// Making the path of a file: it is refused where a name in it is none, or where it is too long.
     Name,
+    /// Opening a database, which looks at the whole of it.
+    OpenDatabase,
     Read,
+    ReadDatabase,
     Remove,
     Rename,
     SyncFile,
@@ -37,6 +42,7 @@ impl HostCall {
     pub fn words(self) -> &'static str {
         match self {
             HostCall::Accept => "accept at",
+            HostCall::ChangeDatabase => "change database",
             HostCall::Check => "check",
             HostCall::Create => "create",
             HostCall::ListFolder => "list folder",
@@ -45,7 +51,9 @@ impl HostCall {
             HostCall::Look => "look for",
             HostCall::MakeFolder => "make folder",
             HostCall::Name => "name a file in",
+            HostCall::OpenDatabase => "open database",
             HostCall::Read => "read",
+            HostCall::ReadDatabase => "read database",
             HostCall::Remove => "remove",
             HostCall::Rename => "rename to",
             HostCall::SyncFile => "sync file",
@@ -66,7 +74,7 @@ pub trait Notes {
 }
 
 /// What a call on the host answered; where it failed that is kept.
-pub(crate) fn noted<T, N: Notes>(
+pub fn noted<T, N: Notes>(
     notes: &N,
     call: HostCall,
     path: &str,

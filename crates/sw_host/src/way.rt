@@ -1,14 +1,14 @@
-//! How a volume makes its folders. Of each folder below its own this is kept true at every moment, so also after a kill: a folder in which anything stands was
-//! synced into the one above it before its first entry was made. So an entry is on the disk once its own folder was synced, and a folder is synced into the one
-//! above it where it was just made, or where nothing stands in it yet: then a kill may have come between.
+//! How a node makes folders below one of its own, as a volume does. Of each of them this is kept true at every moment, so also after a kill: a folder in which
+//! anything stands was synced into the one above it before its first entry was made. So an entry is on the disk once its own folder was synced, and a folder is
+//! synced into the one above it where it was just made, or where nothing stands in it yet: then a kill may have come between.
 use crate::host::Host;
 use crate::notes::Notes;
 use crate::paths::above;
 use std::io;
 use std::rt::Files;
 
-/// Makes the folders that are missing on the way to one below the volume's own.
-pub(crate) fn make_way<R: Files, N: Notes>(
+/// Makes the folders that are missing on the way to `folder`, which lies below `root`.
+pub fn make_way<R: Files, N: Notes>(
     host: &Host<'_, R, N>,
     root: &str,
     folder: &str,
@@ -25,7 +25,7 @@ pub(crate) fn make_way<R: Files, N: Notes>(
     Ok(())
 }
 
-/// How much of the way is there, in bytes of its path: the volume's own folder at least. The last folder of it may take an entry.
+/// How much of the way is there, in bytes of its path: `root` at least. The last folder of it may take an entry.
 fn there_of<R: Files, N: Notes>(
     host: &Host<'_, R, N>,
     root: &str,

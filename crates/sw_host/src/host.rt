@@ -9,7 +9,7 @@ use std::{fs, io};
 
 /// The host's files. Of each call that fails it is kept which one it was, on which path, and why.
 #[derive(Drop)]
-pub(crate) struct Host<'a, R: Files, N: Notes> {
+pub struct Host<'a, R: Files, N: Notes> {
     pub rt: &'a R,
     pub notes: &'a N,
 }

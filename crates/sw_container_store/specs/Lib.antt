@@ -1,0 +1,6 @@
+pub mod Statements
+pub mod Values
+pub mod Runs
+pub mod OpenList
+pub mod Paths
+pub mod Making

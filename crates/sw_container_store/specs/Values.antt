@@ -1,0 +1,52 @@
+-- What is asked of a container's database with values, and what it tells: times as texts, numbers as whole numbers, digests as bytes. (This project's own.)
+use Rattle.std.specs.Prelude.{ℕ, pos, if◌then◌else◌, List, [], ◌∷◌, ◌++◌, map, Option, None, Some}
+use Rattle.sqlite_value.specs.Order.{Row as SqlRow}
+use Rattle.sqlite_value.specs.declared.value.Value.{Value}
+use Rattle.sqlite_value.specs.declared.value.Value.TheVariants.{Null, Int, Text, Blob}
+use Rattle.sw_hashpath.specs.declared.place.Place.{Place}
+use Rattle.sw_keeper.specs.declared.batch.Change.{Change}
+use Rattle.sw_keeper.specs.declared.batch.Change.TheVariants.{Times, PutRow, CutRow}
+use Rattle.sw_rows.specs.declared.numbered.Numbered.{Numbered}
+use Rattle.sw_rows.specs.declared.row.Row.{Row}
+use Rattle.sw_container_store.specs.declared.statements.Command.{Command}
+use Rattle.sw_container_store.specs.declared.statements.Command.TheVariants as command
+use Rattle.sw_timestamp.specs.TimeText.{text_of}
+
+-- a time that may be missing
+abbrev pub time_value : Option ℕ → Value
+time_value None = Null
+time_value (Some time) = Text (text_of time)
+
+-- which container a database is, and its times
+abbrev pub info_values : Place → ℕ → Option ℕ → SqlRow
+info_values place put_time delete_time = Text place.account ∷ Text place.container ∷ Blob place.hash ∷ Text (text_of put_time) ∷ time_value delete_time ∷ []
+
+-- a row under its number
+abbrev pub row_values : ℕ → Row → SqlRow
+row_values rowid row =
+    Int (pos rowid) ∷ Text row.name ∷ Text (text_of row.created_at) ∷ Int (pos row.size) ∷ Text row.content_type ∷ Blob row.etag
+    ∷ Int (pos (if row.deleted then 1 else 0)) ∷ []
+
+abbrev pub numbered_values : Numbered → SqlRow
+numbered_values n = row_values n.rowid n.row
+
+-- a command and its values
+pub record Asked : Type 0 where
+  pub command : Command
+  pub values : SqlRow
+
+-- what a change of a container's tables asks of its database
+abbrev pub asked_of : Place → Change → Asked
+asked_of place (Times put_time delete_time) = record { command = command.PutInfo; values = info_values place put_time delete_time }
+asked_of place (PutRow row rowid) = record { command = command.PutRow; values = row_values rowid row }
+asked_of place (CutRow rowid) = record { command = command.CutRow; values = Int (pos rowid) ∷ [] }
+
+abbrev pub begin : Asked
+begin = record { command = command.Begin; values = [] }
+
+abbrev pub commit : Asked
+commit = record { command = command.Commit; values = [] }
+
+-- what a batch asks: one transaction, in which each change is one statement, in their order
+abbrev pub transaction : Place → List Change → List Asked
+transaction place batch = begin ∷ map (asked_of place) batch ++ commit ∷ []

@@ -1,0 +1,188 @@
+ghost use Rattle.std.specs.Prelude.{◌≡◌, ◌<◌, [], length, true, false, None, Ok, IfOk, OnOk};
+ghost use Rattle.sw_container_store.specs.Making.{IsMade, IsReached};
+ghost use Rattle.sw_keeper.specs.Changes.{IsBatch};
+ghost use Rattle.sw_keeper.specs.Keeping.{Changes, HasCause, IsSame, MayChange, OnFailed, OnNoMemory};
+ghost use Rattle.sw_outside.specs.Counts.{raised};
+
+use crate::database::{Damage, Database, Databases};
+use crate::open_list::{OpenDatabase, OpenList};
+use crate::reading::{check, check_format, info_in, tables_in};
+use crate::writing::make;
+use std::alloc::Global;
+use std::cmp::Ordering;
+use sw_hashpath::Place;
+use sw_keeper::{Batch, Keeper, KeeperError, Tables};
+use sw_outside::{NoMemory, StoreError};
+
+/// A keeper over databases, one for each container, which tells nothing of what it holds. A batch is one transaction; a place at which no times were ever put
+/// holds nothing.
+///
+/// At most 16 databases are open, and the one that was used longest ago is closed for another. One whose call has failed is open no more, so that the next call
+/// opens it anew. The time of `names` grows with the number of containers and with what is in them, since an open looks at the whole of a database.
+#[derive(Drop)]
+pub struct ContainerStore<H: Databases> {
+    databases: H,
+    opened: OpenList<H::Open>,
+    calls: u64,
+    faults: u64,
+}
+
+impl<H: Databases> ContainerStore<H> {
+    /// The keeper over these databases, none of which is open.
+    pub fn new(alloc: Global, databases: H) -> Result<ContainerStore<H>, NoMemory>
+        ensures { IfOk result (λ store. (store.calls ≡ 0) × (store.faults ≡ 0) × (store.opened ≡ [])) }
+    {
+        Ok(ContainerStore {
+            databases,
+            opened: OpenList::new(alloc)?,
+            calls: 0,
+            faults: 0,
+        })
+    }
+
+    /// Counts what has failed, and has it told.
+    fn told<T>(&mut self, answer: Result<T, StoreError>) -> Result<T, KeeperError>
+        ensures ok { IfOk result (λ value. answer ≡ Ok value) }
+        ensures cause { HasCause self.old.faults self.new.faults result }
+        ensures calls { self.new.calls ≡ self.old.calls }
+        ensures opened { self.new.opened ≡ self.old.opened }
+    {
+        match answer {
+            Ok(value) => Ok(value),
+            Err(StoreError::NoMemory) => Err(KeeperError::NoMemory),
+            Err(StoreError::Failed) => {
+                self.faults = self.faults.saturating_add(1);
+                self.databases.tell();
+                Err(KeeperError::Failed)
+            }
+        }
+    }
+
+    /// The database of a place, taken out of those that are open, or opened.
+    fn reach(&mut self, alloc: Global, place: &Place) -> Result<OpenDatabase<H::Open>, StoreError>
+        ensures reached { IfOk result (λ entry. IsReached self.old.opened place.now entry.database) }
+        ensures room { OnOk result (length self.new.opened < 16) }
+        ensures counts { (self.new.calls ≡ self.old.calls) × (self.new.faults ≡ self.old.faults) }
+    {
+        if let Some(entry) = self.opened.take(place) {
+            return Ok(entry);
+        }
+        let copy = place.copy(alloc)?;
+        self.opened.make_room();
+        let mut database = self.databases.open(alloc, &place.hash)?;
+        check(alloc, &mut database, place)?;
+        Ok(OpenDatabase {
+            place: copy,
+            database,
+        })
+    }
+
+    /// The tables that are in the database of a place, where there is one.
+    fn read(&mut self, alloc: Global, place: &Place) -> Result<Option<Tables>, StoreError>
+        ensures counts { (self.new.calls ≡ self.old.calls) × (self.new.faults ≡ self.old.faults) }
+    {
+        if !self.opened.has(place) && !self.databases.is_there(&place.hash)? {
+            return Ok(None);
+        }
+        let mut entry = self.reach(alloc, place)?;
+        let tables = tables_in(alloc, &mut entry.database, place)?;
+        self.opened.put(entry);
+        Ok(tables)
+    }
+
+    /// Makes a batch in the database of a place.
+    fn write(&mut self, alloc: Global, place: &Place, batch: &Batch) -> Result<(), StoreError>
+        ensures made { OnOk result (IsMade H.Open.runs self.old.opened self.new.opened place.now batch.now) }
+        ensures counts { (self.new.calls ≡ self.old.calls) × (self.new.faults ≡ self.old.faults) }
+    {
+        let mut entry = self.reach(alloc, place)?;
+        make(&mut entry.database, place, batch)?;
+        self.opened.put(entry);
+        Ok(())
+    }
+
+    /// The places of all containers in whose databases something is, in byte order of account, container and hash.
+    fn places(&mut self, alloc: Global) -> Result<Vec<Place>, StoreError>
+        ensures counts { (self.new.calls ≡ self.old.calls) × (self.new.faults ≡ self.old.faults) }
+    {
+        let hashes = self.databases.hashes(alloc)?;
+        let mut places = Vec::with_capacity(alloc, hashes.len()).map_err(NoMemory::from)?;
+        for hash in &hashes {
+            if let Some(place) = self.place_of(alloc, hash)? {
+                places.push(place).map_err(NoMemory::from)?;
+            }
+        }
+        places.sort_unstable_by(compare);
+        Ok(places)
+    }
+
+    /// The place of the container whose hash this is, unless nothing is in its database.
+    fn place_of(&mut self, alloc: Global, hash: &[u8; 16]) -> Result<Option<Place>, StoreError>
+        ensures counts { (self.new.calls ≡ self.old.calls) × (self.new.faults ≡ self.old.faults) }
+    {
+        if let Some(mut entry) = self.opened.take_by_hash(hash) {
+            let info = info_in(alloc, &mut entry.database)?;
+            self.opened.put(entry);
+            return Ok(info.map(|info| info.place));
+        }
+        if !self.databases.is_there(hash)? {
+            return Ok(None);
+        }
+        self.opened.make_room();
+        let mut database = self.databases.open(alloc, hash)?;
+        check_format(&mut database)?;
+        let info = info_in(alloc, &mut database)?;
+        let found = info.map(|info| info.place);
+        if found.as_ref().is_some_and(|place| place.hash != *hash) {
+            return Err(database.refuse(Damage::Container));
+        }
+        database.close();
+        Ok(found)
+    }
+}
+
+/// Places in byte order of account, container and hash.
+fn compare(one: &Place, other: &Place) -> Ordering {
+    one.account
+        .as_slice()
+        .cmp(other.account.as_slice())
+        .then(one.container.as_slice().cmp(other.container.as_slice()))
+        .then(one.hash.as_slice().cmp(other.hash.as_slice()))
+}
+
+impl<H: Databases> Keeper for ContainerStore<H> {
+    ghost tells = { λ _. false };
+
+    ghost holds = { λ _ _. None };
+
+    ghost faults = { λ s. s.faults };
+
+    ghost calls = { λ s. s.calls };
+
+    fn names(&mut self, alloc: Global) -> Result<Vec<Place>, KeeperError> {
+        self.calls = self.calls.saturating_add(1);
+        let names = self.places(alloc);
+        self.told(names)
+    }
+
+    fn load(&mut self, alloc: Global, place: &Place) -> Result<Option<Tables>, KeeperError> {
+        self.calls = self.calls.saturating_add(1);
+        let loaded = self.read(alloc, place);
+        self.told(loaded)
+    }
+
+    fn commit(&mut self, alloc: Global, place: &Place, batch: &Batch) -> Result<(), KeeperError>
+        requires fits { false ≡ true → IsBatch None batch.now }
+        ensures ok { OnOk result (false ≡ true → Changes (λ _. None) (λ _. None) place.now batch.now) }
+        ensures failed { OnFailed result (false ≡ true → MayChange (λ _. None) (λ _. None) place.now batch.now) }
+        ensures no_memory { OnNoMemory result (false ≡ true → IsSame (λ _. None) (λ _. None)) }
+        ensures told { false ≡ false }
+        ensures cause { HasCause self.old.faults self.new.faults result }
+        ensures calls { self.new.calls ≡ raised self.old.calls }
+        ensures made { OnOk result (IsMade H.Open.runs self.old.opened self.new.opened place.now batch.now) }
+    {
+        self.calls = self.calls.saturating_add(1);
+        let made = self.write(alloc, place, batch);
+        self.told(made)
+    }
+}

@@ -1,0 +1,312 @@
+ghost use Rattle.std.specs.Prelude.{◌≡◌, ◌++◌, ◌∷◌, [], pos, map, true, if◌then◌else◌, IsTrue, IfOk, IfSome};
+ghost use Rattle.std.specs.Str.{is_utf8 as is_utf8_text};
+ghost use Rattle.sqlite_value.specs.declared.value.Value.TheVariants as value;
+ghost use Rattle.sqlite_value.specs.Order.{column};
+ghost use Rattle.sw_container_store.specs.Values.{info_values, numbered_values, time_value};
+ghost use Rattle.sw_timestamp.specs.TimeText.{text_of};
+
+use crate::database::{Damage, Database};
+use crate::open_list::is_same;
+use crate::statements::Query;
+use sqlite::Row;
+use sqlite::types::ValueRef;
+use std::alloc::Global;
+use sw_hashpath::Place;
+use sw_keeper::Tables;
+use sw_outside::{Bytes, NoMemory, StoreError, is_utf8};
+use sw_rows::{Numbered, Rows};
+use sw_timestamp::Timestamp;
+
+/// How many rows are read at once, unless there are no more.
+const PAGE: usize = 1000;
+
+/// The tables that are in the database of a place, where any are.
+pub(crate) fn tables_in<D: Database>(
+    alloc: Global,
+    database: &mut D,
+    place: &Place,
+) -> Result<Option<Tables>, StoreError>
+    ensures key { D.key database.new ≡ D.key database.old }
+{
+    let Some(info) = info_in(alloc, database)? else {
+        return Ok(None);
+    };
+    if !is_same(&info.place, place) {
+        return Err(database.refuse(Damage::Container));
+    }
+    let rows = rows_in(alloc, database)?;
+    Ok(Some(Tables {
+        put_time: info.put_time,
+        delete_time: info.delete_time,
+        rows,
+    }))
+}
+
+/// Whether the database may be that of a place: it has this format, and is that of no other place.
+pub(crate) fn check<D: Database>(
+    alloc: Global,
+    database: &mut D,
+    place: &Place,
+) -> Result<(), StoreError>
+    ensures key { D.key database.new ≡ D.key database.old }
+{
+    check_format(database)?;
+    match info_in(alloc, database)? {
+        Some(info) if !is_same(&info.place, place) => Err(database.refuse(Damage::Container)),
+        _ => Ok(()),
+    }
+}
+
+/// Whether the database has the format of this project, which has the number 1.
+pub(crate) fn check_format<D: Database>(database: &mut D) -> Result<(), StoreError>
+    ensures key { D.key database.new ≡ D.key database.old }
+{
+    let rows = database.ask(Query::Format, &[])?;
+    match rows.as_slice() {
+        [row] if number(row, 0) == Some(1) => Ok(()),
+        _ => Err(database.refuse(Damage::Format)),
+    }
+}
+
+/// Which container a database is, and its times.
+#[derive(Debug, Drop)]
+pub(crate) struct Info {
+    pub(crate) place: Place,
+    pub(crate) put_time: Timestamp,
+    pub(crate) delete_time: Option<Timestamp>,
+}
+
+/// What a database tells of itself, unless nothing was kept in it yet.
+pub(crate) fn info_in<D: Database>(
+    alloc: Global,
+    database: &mut D,
+) -> Result<Option<Info>, StoreError>
+    ensures key { D.key database.new ≡ D.key database.old }
+{
+    let rows = database.ask(Query::Info, &[])?;
+    match rows.as_slice() {
+        [] => Ok(None),
+        [row] => match info_of(alloc, row)? {
+            Some(info) => Ok(Some(info)),
+            None => Err(database.refuse(Damage::Row)),
+        },
+        _ => Err(database.refuse(Damage::Row)),
+    }
+}
+
+/// All rows in a database, under their numbers.
+fn rows_in<D: Database>(alloc: Global, database: &mut D) -> Result<Rows, StoreError>
+    ensures key { D.key database.new ≡ D.key database.old }
+{
+    let top = top_in(database)?;
+    let mut rows = Rows::empty_at(alloc, top);
+    let mut after = 0;
+    for _ in 0..u64::MAX {
+        let page = database.ask(Query::Rows, &[ValueRef::Int(after)])?;
+        if !add_page(alloc, &mut rows, &page)? {
+            break;
+        }
+        match page.last() {
+            Some(last) if page.len() >= PAGE => after = rowid_of(last),
+            _ => return Ok(rows),
+        }
+    }
+    Err(database.refuse(Damage::Row))
+}
+
+/// The greatest number that was given out in a database.
+fn top_in<D: Database>(database: &mut D) -> Result<u64, StoreError>
+    ensures key { D.key database.new ≡ D.key database.old }
+{
+    let rows = database.ask(Query::Top, &[])?;
+    match rows.as_slice() {
+        [] => Ok(0),
+        [row] => match number(row, 0) {
+            Some(top) => Ok(top),
+            None => Err(database.refuse(Damage::Row)),
+        },
+        _ => Err(database.refuse(Damage::Row)),
+    }
+}
+
+/// Puts the rows of a page behind the others. It answers false where one of them is none, or can't stand there.
+fn add_page(alloc: Global, rows: &mut Rows, page: &[Row]) -> Result<bool, NoMemory>
+    ensures { IfOk result (λ all. IsTrue all → (map numbered_values rows.new.list ≡ map numbered_values rows.old.list ++ page.now) × (rows.new.top ≡ rows.old.top)) }
+{
+    for row in page {
+        if !add(alloc, rows, row)? {
+            return Ok(false);
+        }
+    }
+    Ok(true)
+}
+
+fn add(alloc: Global, rows: &mut Rows, row: &Row) -> Result<bool, NoMemory>
+    ensures { IfOk result (λ all. IsTrue all → (map numbered_values rows.new.list ≡ map numbered_values rows.old.list ++ row.now ∷ []) × (rows.new.top ≡ rows.old.top)) }
+{
+    match numbered_of(alloc, row)? {
+        Some(numbered) => rows.restore(alloc, numbered.rowid, numbered.row),
+        None => Ok(false),
+    }
+}
+
+/// The number of a row, as the database has it.
+fn rowid_of(row: &Row) -> i64 {
+    match row.get_ref(0) {
+        Ok(ValueRef::Int(number)) => number,
+        _ => i64::MAX,
+    }
+}
+
+/// What a row of information says, where it is one.
+fn info_of(alloc: Global, row: &Row) -> Result<Option<Info>, NoMemory>
+    ensures { IfOk result (λ info. IfSome info (λ i. row.now ≡ info_values i.place i.put_time i.delete_time)) }
+{
+    if row.column_count() != 5 {
+        return Ok(None);
+    }
+    let (Some(account), Some(container), Some(hash), Some(put_time), Some(delete_time)) = (
+        text(row, 0),
+        text(row, 1),
+        digest(row, 2),
+        time(row, 3),
+        time_or_null(row, 4),
+    ) else {
+        return Ok(None);
+    };
+    Ok(Some(Info {
+        place: Place {
+            account: Bytes::copy(alloc, account)?,
+            container: Bytes::copy(alloc, container)?,
+            hash,
+        },
+        put_time,
+        delete_time,
+    }))
+}
+
+/// The row and the number that a row of the database is, where it is one.
+fn numbered_of(alloc: Global, row: &Row) -> Result<Option<Numbered>, NoMemory>
+    ensures { IfOk result (λ numbered. IfSome numbered (λ n. row.now ≡ numbered_values n)) }
+{
+    if row.column_count() != 7 {
+        return Ok(None);
+    }
+    let (
+        Some(rowid),
+        Some(name),
+        Some(created_at),
+        Some(size),
+        Some(content_type),
+        Some(etag),
+        Some(deleted),
+    ) = (
+        number(row, 0),
+        text(row, 1),
+        time(row, 2),
+        number(row, 3),
+        text(row, 4),
+        digest(row, 5),
+        flag(row, 6),
+    ) else {
+        return Ok(None);
+    };
+    let name = Bytes::copy(alloc, name)?;
+    let content_type = Bytes::copy(alloc, content_type)?;
+    let row = row_of(name, created_at, size, content_type, etag, deleted);
+    Ok(Some(Numbered { rowid, row }))
+}
+
+fn row_of(
+    name: Bytes,
+    created_at: Timestamp,
+    size: u64,
+    content_type: Bytes,
+    etag: [u8; 16],
+    deleted: bool,
+) -> sw_rows::Row
+    requires name { is_utf8_text name ≡ true }
+    requires content_type { is_utf8_text content_type ≡ true }
+    ensures name { result.name ≡ name }
+    ensures created_at { result.created_at ≡ created_at }
+    ensures size { result.size ≡ size }
+    ensures content_type { result.content_type ≡ content_type }
+    ensures etag { result.etag ≡ etag }
+    ensures deleted { result.deleted ≡ deleted }
+{
+    sw_rows::Row {
+        name,
+        created_at,
+        size,
+        content_type,
+        etag,
+        deleted,
+    }
+}
+
+/// The text in a column, where one stands there that is UTF-8.
+fn text(row: &Row, at: usize) -> Option<&[u8]>
+    ensures value { IfSome result (λ text. column row.now at ≡ value.Text text.now) }
+    ensures text { IfSome result (λ text. is_utf8_text text.now ≡ true) }
+{
+    match row.get_ref(at) {
+        Ok(ValueRef::Text(text)) if is_utf8(text) => Some(text),
+        _ => None,
+    }
+}
+
+/// The number in a column, where one stands there that isn't below 0.
+fn number(row: &Row, at: usize) -> Option<u64>
+    ensures { IfSome result (λ number. column row.now at ≡ value.Int (pos number)) }
+{
+    match row.get_ref(at) {
+        Ok(ValueRef::Int(number)) => u64::try_from(number).ok(),
+        _ => None,
+    }
+}
+
+/// Whether the number in a column is 1, where it is that or 0.
+fn flag(row: &Row, at: usize) -> Option<bool>
+    ensures { IfSome result (λ flag. column row.now at ≡ value.Int (pos (if flag then 1 else 0))) }
+{
+    match row.get_ref(at) {
+        Ok(ValueRef::Int(0)) => Some(false),
+        Ok(ValueRef::Int(1)) => Some(true),
+        _ => None,
+    }
+}
+
+/// The digest in a column, where one stands there.
+fn digest(row: &Row, at: usize) -> Option<[u8; 16]>
+    ensures { IfSome result (λ digest. column row.now at ≡ value.Blob digest) }
+{
+    match row.get_ref(at) {
+        Ok(ValueRef::Blob(bytes)) => bytes.try_into().ok(),
+        _ => None,
+    }
+}
+
+/// The time in a column, where the text of one stands there.
+fn time(row: &Row, at: usize) -> Option<Timestamp>
+    ensures { IfSome result (λ time. column row.now at ≡ value.Text (text_of time)) }
+{
+    let text = text(row, at)?;
+    let time = Timestamp::parse(text).ok()?;
+    let mut normal = [0; 16];
+    time.write_normal(&mut normal);
+    if text == normal.as_slice() {
+        Some(time)
+    } else {
+        None
+    }
+}
+
+/// The same, or no time where there is none.
+fn time_or_null(row: &Row, at: usize) -> Option<Option<Timestamp>>
+    ensures { IfSome result (λ time. column row.now at ≡ time_value time) }
+{
+    match row.get_ref(at) {
+        Ok(ValueRef::Null) => Some(None),
+        _ => Some(Some(time(row, at)?)),
+    }
+}

@@ -1,0 +1,89 @@
+ghost use Rattle.std.specs.Prelude.{◌≡◌};
+ghost use Rattle.sw_container_store.specs.Statements.{changes_of, command_text, query_text};
+
+/// The tables of a database and the number of their format, made in one transaction. A row's name, of which there is one for each, is found by an index. That
+/// a number (ROWID) is never given out again is kept by AUTOINCREMENT, also over a later start. (After the tables of OpenStack Swift's container databases;
+/// the table of the format, and that the account's and the container's hash is there, are this project's own.)
+pub const SCHEMA: &str = "BEGIN; \
+CREATE TABLE format (version INTEGER NOT NULL) STRICT; \
+INSERT INTO format (version) VALUES (1); \
+CREATE TABLE container_info (id INTEGER PRIMARY KEY, account TEXT NOT NULL, container TEXT NOT NULL, hash BLOB NOT NULL, \
+put_timestamp TEXT NOT NULL, delete_timestamp TEXT) STRICT; \
+CREATE TABLE object (ROWID INTEGER PRIMARY KEY AUTOINCREMENT, name TEXT NOT NULL, created_at TEXT NOT NULL, size INTEGER NOT NULL, \
+content_type TEXT NOT NULL, etag BLOB NOT NULL, deleted INTEGER NOT NULL) STRICT; \
+CREATE UNIQUE INDEX object_name ON object (name); \
+COMMIT";
+
+/// What a database is asked to do. Each is one statement.
+#[derive(Clone, Copy, Debug, PartialEq, Eq)]
+pub enum Command {
+    /// Begins a transaction.
+    Begin,
+    /// Ends it: all that was asked since is made, or nothing.
+    Commit,
+    /// Says which container it is, and its times.
+    PutInfo,
+    /// Puts a row under its number.
+    PutRow,
+    /// Takes the row of a number away.
+    CutRow,
+}
+
+impl Command {
+    /// The statement.
+    #[tactic(auto, unfolding(crate::specs::Statements::command_text))]
+    pub fn text(self) -> &'static str
+        ensures { result.now ≡ command_text self }
+    {
+        match self {
+            Command::Begin => "BEGIN",
+            Command::Commit => "COMMIT",
+            Command::PutInfo =>
+                "INSERT OR REPLACE INTO container_info (id, account, container, hash, put_timestamp, delete_timestamp) VALUES (1, ?1, ?2, ?3, ?4, ?5)",
+            Command::PutRow =>
+                "INSERT INTO object (ROWID, name, created_at, size, content_type, etag, deleted) VALUES (?1, ?2, ?3, ?4, ?5, ?6, ?7)",
+            Command::CutRow => "DELETE FROM object WHERE ROWID = ?1",
+        }
+    }
+
+    /// How many rows it changes.
+    #[tactic(auto, unfolding(crate::specs::Statements::changes_of))]
+    pub fn changes(self) -> usize
+        ensures { result ≡ changes_of self }
+    {
+        match self {
+            Command::Begin | Command::Commit => 0,
+            Command::PutInfo | Command::PutRow | Command::CutRow => 1,
+        }
+    }
+}
+
+/// What a database is asked to tell. Each is one statement.
+#[derive(Clone, Copy, Debug, PartialEq, Eq)]
+pub enum Query {
+    /// The number of its format.
+    Format,
+    /// Which container it is, and its times: no row where nothing was kept in it yet.
+    Info,
+    /// The greatest number given out: no row where none was.
+    Top,
+    /// The next rows above a number, in the order of their numbers: at most 1,000.
+    Rows,
+}
+
+impl Query {
+    /// The statement.
+    #[tactic(auto, unfolding(crate::specs::Statements::query_text))]
+    pub fn text(self) -> &'static str
+        ensures { result.now ≡ query_text self }
+    {
+        match self {
+            Query::Format => "SELECT version FROM format",
+            Query::Info =>
+                "SELECT account, container, hash, put_timestamp, delete_timestamp FROM container_info",
+            Query::Top => "SELECT seq FROM sqlite_sequence WHERE name = 'object'",
+            Query::Rows =>
+                "SELECT ROWID, name, created_at, size, content_type, etag, deleted FROM object WHERE ROWID > ?1 ORDER BY ROWID LIMIT 1000",
+        }
+    }
+}
