@@ -131,7 +131,8 @@ fn top_in<D: Database>(database: &mut D) -> Result<u64, StoreError>
 
 /// Puts the rows of a page behind the others. It answers false where one of them is none, or can't stand there.
 fn add_page(alloc: Global, rows: &mut Rows, page: &[Row]) -> Result<bool, NoMemory>
-    ensures { IfOk result (λ all. IsTrue all → (map numbered_values rows.new.list ≡ map numbered_values rows.old.list ++ page.now) × (rows.new.top ≡ rows.old.top)) }
+    ensures { IfOk result (λ all. IsTrue all →
+        (map numbered_values rows.new.list ≡ map numbered_values rows.old.list ++ page.now) × (rows.new.top ≡ rows.old.top)) }
 {
     for row in page {
         if !add(alloc, rows, row)? {
@@ -142,7 +143,8 @@ fn add_page(alloc: Global, rows: &mut Rows, page: &[Row]) -> Result<bool, NoMemo
 }
 
 fn add(alloc: Global, rows: &mut Rows, row: &Row) -> Result<bool, NoMemory>
-    ensures { IfOk result (λ all. IsTrue all → (map numbered_values rows.new.list ≡ map numbered_values rows.old.list ++ row.now ∷ []) × (rows.new.top ≡ rows.old.top)) }
+    ensures { IfOk result (λ all. IsTrue all →
+        (map numbered_values rows.new.list ≡ map numbered_values rows.old.list ++ row.now ∷ []) × (rows.new.top ≡ rows.old.top)) }
 {
     match numbered_of(alloc, row)? {
         Some(numbered) => rows.restore(alloc, numbered.rowid, numbered.row),
