@@ -2,8 +2,8 @@
 //!
 //! A [`World`] is all nodes of all devices of a ring, each object lock an object directory (`sw_objdir`) over a volume of its own, and is a
 //! door (`sw_peer`): each call is one step at one device, and the world keeps a line of it. A device is restarted by [`World::lift`], which
-//! gives its volumes, and [`World::set_down`], which begins anew on them. What runs of such lines leave at each device is said by the machines of the
-//! crates above.
+//! gives its volumes, and [`World::set_down`], which begins anew on them. What runs of such lines leave at each device is said by the one machine
+//! (`sw_machine`).
 //!
 //! Beside each object lock stands one of containers (`sw_container_locks`), whose tables are kept in memory. The world is their door too.
 //!
