@@ -6,3 +6,5 @@ mod Ways
 mod Turning
 mod Readying
 mod Kept
+mod Logs
+mod Makes

@@ -24,11 +24,11 @@ and_off : (x y : Bool) → x ≡ false → (x && y) ≡ false
 and_off true y e = cc
 and_off false y e = refl
 
-and_on : (x y : Bool) → (x && y) ≡ true → (x ≡ true) × (y ≡ true)
+pub and_on : (x y : Bool) → (x && y) ≡ true → (x ≡ true) × (y ≡ true)
 and_on true y e = (refl, e)
 and_on false y e = cc
 
-and_both : (x y : Bool) → x ≡ true → y ≡ true → (x && y) ≡ true
+pub and_both : (x y : Bool) → x ≡ true → y ≡ true → (x && y) ≡ true
 and_both true y e f = f
 and_both false y e f = cc
 

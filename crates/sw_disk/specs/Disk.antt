@@ -14,6 +14,14 @@ pub record DiskState : Type 0 where
   pub earlier : List ℕ → List ℕ → List (Option DiskFile)  -- what stood there since the folder was synced
   pub folders : List ℕ → Option Bool  -- none where there is no folder; else whether the one above it was synced since it was made
 
--- a file stands in a folder, or another folder does
+-- a file stands in a folder
+abbrev pub HasFile : DiskState → List ℕ → Type 0
+HasFile s dir = (file : List ℕ) × IsSome (s.files dir file)
+
+-- a folder stands in another
+abbrev pub HasFolder : DiskState → List ℕ → Type 0
+HasFolder s dir = (d : List ℕ) × ¬ (d ≡ []) × (above d ≡ dir) × IsSome (s.folders d)
+
+-- something stands in a folder
 abbrev pub IsFilled : DiskState → List ℕ → Type 0
-IsFilled s dir = ((file : List ℕ) × IsSome (s.files dir file)) ⊎ ((d : List ℕ) × ¬ (d ≡ []) × (above d ≡ dir) × IsSome (s.folders d))
+IsFilled s dir = HasFile s dir ⊎ HasFolder s dir

@@ -6,3 +6,5 @@ pub mod Moments
 pub mod Keeping
 pub mod Standings
 pub mod Places
+pub mod Changes
+pub mod Folders

@@ -5,7 +5,10 @@
 //! at is there whole or not at all.
 #![tactic(auto)]
 
+mod change;
 mod disk;
+mod disk_log;
+mod mem_disk;
 mod names;
 mod opening;
 mod paths;
@@ -14,5 +17,6 @@ mod volume;
 mod writing;
 
 pub use disk::{Disk, Standing};
+pub use mem_disk::MemDisk;
 pub use places::{is_directory, is_place};
 pub use volume::DiskVolume;

@@ -1,5 +1,5 @@
 ghost use Rattle.std.specs.Prelude.{◌≡◌, ◌<◌, ◌≤◌, length, List, [], ◌≢◌};
-ghost use Rattle.sw_disk.specs.Paths.{above};
+ghost use Rattle.sw_disk.specs.Paths.{above, last_name};
 
 /// The folder in which one stands, by their paths.
 pub(crate) fn above(dir: &[u8]) -> &[u8]
@@ -13,4 +13,18 @@ pub(crate) fn above(dir: &[u8]) -> &[u8]
         }
     }
     &dir[..0]
+}
+
+/// The last name of a path.
+pub(crate) fn last_name(dir: &[u8]) -> &[u8]
+    ensures { result.now ≡ last_name dir.now }
+{
+    let mut start = dir.len();
+    while start > 0 {
+        if dir[start - 1] == b'/' {
+            break;
+        }
+        start -= 1;
+    }
+    &dir[start..]
 }
