@@ -37,6 +37,9 @@ pub trait Disk {
     /// Its states at the moments before, the last of them first: one before each call that changed anything.
     ghost past: { Self → List DiskState };
 
+    /// Where it is, as the path of its own folder: no call changes it.
+    ghost place: { Self → List ℕ };
+
     /// How many calls have failed. The count never falls, and stands still at 2^64 - 1.
     ghost faults: { Self → ℕ };
 
@@ -47,6 +50,7 @@ pub trait Disk {
         ensures either { tells self.old ≡ true → MayCreate (now self.old) dir.now file.now (now self.new) }
         ensures time { tells self.old ≡ true → Elapses (now self.old) (past self.old) (now self.new) (past self.new) }
         ensures told { tells self.new ≡ tells self.old }
+        ensures placed { place self.new ≡ place self.old }
         ensures cause { outside.HasCause (faults self.old) (faults self.new) result };
 
     /// Syncs the bytes of a file.
@@ -55,6 +59,7 @@ pub trait Disk {
         ensures either { tells self.old ≡ true → MayBe (now self.old) (file_synced (now self.old) dir.now file.now) (now self.new) }
         ensures time { tells self.old ≡ true → Elapses (now self.old) (past self.old) (now self.new) (past self.new) }
         ensures told { tells self.new ≡ tells self.old }
+        ensures placed { place self.new ≡ place self.old }
         ensures cause { outside.HasCause (faults self.old) (faults self.new) result };
 
     /// Syncs a folder: the names of the files and folders that stand in it, and that others don't any more.
@@ -63,6 +68,7 @@ pub trait Disk {
         ensures either { tells self.old ≡ true → MayBe (now self.old) (folder_synced (now self.old) dir.now) (now self.new) }
         ensures time { tells self.old ≡ true → Elapses (now self.old) (past self.old) (now self.new) (past self.new) }
         ensures told { tells self.new ≡ tells self.old }
+        ensures placed { place self.new ≡ place self.old }
         ensures cause { outside.HasCause (faults self.old) (faults self.new) result };
 
     /// Moves a file to another name, over what stands there, in one step.
@@ -77,6 +83,7 @@ pub trait Disk {
         ensures either { tells self.old ≡ true → MayBe (now self.old) (moved (now self.old) from_dir.now from_file.now dir.now file.now) (now self.new) }
         ensures time { tells self.old ≡ true → Elapses (now self.old) (past self.old) (now self.new) (past self.new) }
         ensures told { tells self.new ≡ tells self.old }
+        ensures placed { place self.new ≡ place self.old }
         ensures cause { outside.HasCause (faults self.old) (faults self.new) result };
 
     /// Makes a folder, where it isn't there yet. Until the one above it is synced a crash may leave nothing of it.
@@ -85,6 +92,7 @@ pub trait Disk {
         ensures either { tells self.old ≡ true → MayBe (now self.old) (made (now self.old) dir.now) (now self.new) }
         ensures time { tells self.old ≡ true → Elapses (now self.old) (past self.old) (now self.new) (past self.new) }
         ensures told { tells self.new ≡ tells self.old }
+        ensures placed { place self.new ≡ place self.old }
         ensures cause { outside.HasCause (faults self.old) (faults self.new) result };
 
     /// Looks whether a folder is there, and whether anything stands in it.
@@ -93,6 +101,7 @@ pub trait Disk {
         ensures same { tells self.old ≡ true → now self.new ≡ now self.old }
         ensures time { tells self.old ≡ true → Elapses (now self.old) (past self.old) (now self.new) (past self.new) }
         ensures told { tells self.new ≡ tells self.old }
+        ensures placed { place self.new ≡ place self.old }
         ensures cause { outside.HasCause (faults self.old) (faults self.new) result };
 
     /// The files and the folders that stand in a folder: none of either where it isn't there.
@@ -102,6 +111,7 @@ pub trait Disk {
         ensures same { tells self.old ≡ true → now self.new ≡ now self.old }
         ensures time { tells self.old ≡ true → Elapses (now self.old) (past self.old) (now self.new) (past self.new) }
         ensures told { tells self.new ≡ tells self.old }
+        ensures placed { place self.new ≡ place self.old }
         ensures cause { HasCause (faults self.old) (faults self.new) result };
 
     /// The bytes of a file, or `None` where none stands there: that takes no memory.
@@ -111,6 +121,7 @@ pub trait Disk {
         ensures same { tells self.old ≡ true → now self.new ≡ now self.old }
         ensures time { tells self.old ≡ true → Elapses (now self.old) (past self.old) (now self.new) (past self.new) }
         ensures told { tells self.new ≡ tells self.old }
+        ensures placed { place self.new ≡ place self.old }
         ensures cause { HasCause (faults self.old) (faults self.new) result };
 
     /// Takes a file away, and tells whether one stood there. Until its folder is synced a crash may bring it back.
@@ -122,5 +133,6 @@ pub trait Disk {
         ensures either { tells self.old ≡ true → MayBe (now self.old) (removed (now self.old) dir.now file.now) (now self.new) }
         ensures time { tells self.old ≡ true → Elapses (now self.old) (past self.old) (now self.new) (past self.new) }
         ensures told { tells self.new ≡ tells self.old }
+        ensures placed { place self.new ≡ place self.old }
         ensures cause { outside.HasCause (faults self.old) (faults self.new) result };
 }

@@ -77,6 +77,8 @@ impl Disk for MemDisk {
 
     ghost past = { λ d. (run d.log.changes.items).past };
 
+    ghost place = { λ _. [] };
+
     ghost faults = { λ d. d.faults };
 
     fn create(&mut self, dir: &[u8], file: &[u8], bytes: &[u8]) -> Result<(), Failed> {

@@ -17,6 +17,7 @@ pub(crate) fn prepare<D: Disk>(alloc: Global, disk: &mut D) -> Result<(), Volume
     ensures empty { OnOk result (D.tells disk.old ≡ true → (file : List ℕ) → (D.now disk.new).files writing file ≡ None) }
     ensures time { D.tells disk.old ≡ true → Passes (Rests IsOrdered) (D.now disk.old) (D.past disk.old) (D.now disk.new) (D.past disk.new) }
     ensures told { D.tells disk.new ≡ D.tells disk.old }
+    ensures placed { D.place disk.new ≡ D.place disk.old }
     ensures cause { HasCause (D.faults disk.old) (D.faults disk.new) result }
 {
     make_writing(disk)?;
@@ -33,6 +34,7 @@ fn make_writing<D: Disk>(disk: &mut D) -> Result<(), Failed>
     ensures ready { OnOk result (D.tells disk.old ≡ true → IsInOrder (D.now disk.new)) }
     ensures time { D.tells disk.old ≡ true → Passes (Rests IsOrdered) (D.now disk.old) (D.past disk.old) (D.now disk.new) (D.past disk.new) }
     ensures told { D.tells disk.new ≡ D.tells disk.old }
+    ensures placed { D.place disk.new ≡ D.place disk.old }
     ensures cause { outside.HasCause (D.faults disk.old) (D.faults disk.new) result }
 {
     disk.make_folder(WRITING)?;

@@ -38,6 +38,7 @@ impl<D: Disk + Drop> DiskVolume<D> {
     pub fn open(alloc: Global, disk: D, owner: u32) -> Result<DiskVolume<D>, (VolumeError, D)>
         requires { D.tells disk ≡ true → IsOrdered (D.now disk) }
         ensures untouched { IfOk result (λ v. (v.calls ≡ 0) × (v.faults ≡ 0) × (v.lists ≡ 0)) }
+        ensures placed { IfOk result (λ v. D.place v.disk ≡ D.place disk) }
         ensures time { IfOk result (λ v. D.tells disk ≡ true → Passes (Rests IsOrdered) (D.now disk) (D.past disk) (D.now v.disk) (D.past v.disk)) }
         ensures time_err { IfErr result (λ e. D.tells disk ≡ true → Passes (Rests IsOrdered) (D.now disk) (D.past disk) (D.now e.1) (D.past e.1)) }
     {

@@ -22,6 +22,7 @@ pub(crate) fn make_way<D: Disk>(disk: &mut D, dir: &[u8]) -> Result<(), Failed>
     ensures files { D.tells disk.old ≡ true → (D.now disk.new).files ≡ (D.now disk.old).files }
     ensures time { D.tells disk.old ≡ true → Passes (Rests IsInOrder) (D.now disk.old) (D.past disk.old) (D.now disk.new) (D.past disk.new) }
     ensures told { D.tells disk.new ≡ D.tells disk.old }
+    ensures placed { D.place disk.new ≡ D.place disk.old }
     ensures cause { HasCause (D.faults disk.old) (D.faults disk.new) result }
 {
     if dir.is_empty() {
@@ -44,6 +45,7 @@ fn write_whole<D: Disk>(disk: &mut D, name: &[u8], bytes: &[u8]) -> Result<(), F
         (D.now disk.new).files writing name.now ≡ Some (record { bytes = bytes.now; synced = true })) }
     ensures time { D.tells disk.old ≡ true → Passes (Rests IsInOrder) (D.now disk.old) (D.past disk.old) (D.now disk.new) (D.past disk.new) }
     ensures told { D.tells disk.new ≡ D.tells disk.old }
+    ensures placed { D.place disk.new ≡ D.place disk.old }
     ensures cause { HasCause (D.faults disk.old) (D.faults disk.new) result }
 {
     disk.create(WRITING, name, bytes)?;
@@ -65,6 +67,7 @@ pub(crate) fn put_whole<D: Disk>(
     ensures time { D.tells disk.old ≡ true →
         Passes (Turns dir.now file.now (Some bytes.now)) (D.now disk.old) (D.past disk.old) (D.now disk.new) (D.past disk.new) }
     ensures told { D.tells disk.new ≡ D.tells disk.old }
+    ensures placed { D.place disk.new ≡ D.place disk.old }
     ensures cause { HasCause (D.faults disk.old) (D.faults disk.new) result }
 {
     write_whole(disk, name, bytes)?;
@@ -81,6 +84,7 @@ pub(crate) fn take_away<D: Disk>(disk: &mut D, dir: &[u8], file: &[u8]) -> Resul
         IsDurable (D.now disk.new) dir.now file.now None) }
     ensures time { D.tells disk.old ≡ true → Passes (Turns dir.now file.now None) (D.now disk.old) (D.past disk.old) (D.now disk.new) (D.past disk.new) }
     ensures told { D.tells disk.new ≡ D.tells disk.old }
+    ensures placed { D.place disk.new ≡ D.place disk.old }
     ensures cause { HasCause (D.faults disk.old) (D.faults disk.new) result }
 {
     if disk.unlink(dir, file)? {

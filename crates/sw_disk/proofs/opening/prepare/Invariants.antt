@@ -12,3 +12,4 @@ invariant-loop-name g l =
     × (g.D.Disk.tells l.fn.disk ≡ true → Passes (Rests IsOrdered) (g.D.Disk.now l.fn.disk) (g.D.Disk.past l.fn.disk) (g.D.Disk.now l.disk)
     (g.D.Disk.past l.disk))
     × (g.D.Disk.tells l.fn.disk ≡ true → (file : List ℕ) → IsSome ((g.D.Disk.now l.disk).files writing file) → Contains (drop l.name-index l.name-items) file)
+    × (g.D.Disk.place l.disk ≡ g.D.Disk.place l.fn.disk)
