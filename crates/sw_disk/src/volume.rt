@@ -20,8 +20,9 @@ use sw_volume::{Listing, Volume, VolumeError};
 /// A volume over a disk. It tells nothing of what it holds, since it lists folders that stay when their last file is gone; its own clauses tell, where the disk
 /// does.
 ///
-/// A file that was put stands there whole after each crash from then on, and one that was being put is there whole or not at all. A path is refused where it
-/// isn't one of a volume: the call fails, and nothing is asked of the disk.
+/// A file that was put stands there whole after each crash from then on, and one that was being put is there whole or not at all. That holds of a disk in
+/// order, as one is that was opened, and each call keeps it so. A path is refused where it isn't one of a volume: the call fails, and nothing is asked of the
+/// disk.
 #[derive(Drop)]
 pub struct DiskVolume<D: Disk + Drop> {
     pub disk: D,
@@ -29,7 +30,6 @@ pub struct DiskVolume<D: Disk + Drop> {
     pub calls: u64,
     pub faults: u64,
     pub lists: u64,
-    ghost in_order: { D.tells disk ≡ true → IsInOrder (D.now disk) },
 }
 
 impl<D: Disk + Drop> DiskVolume<D> {
@@ -38,6 +38,7 @@ impl<D: Disk + Drop> DiskVolume<D> {
     pub fn open(alloc: Global, disk: D, owner: u32) -> Result<DiskVolume<D>, (VolumeError, D)>
         requires { D.tells disk ≡ true → IsOrdered (D.now disk) }
         ensures untouched { IfOk result (λ v. (v.calls ≡ 0) × (v.faults ≡ 0) × (v.lists ≡ 0)) }
+        ensures ready { IfOk result (λ v. D.tells disk ≡ true → IsInOrder (D.now v.disk)) }
         ensures placed { IfOk result (λ v. D.place v.disk ≡ D.place disk) }
         ensures time { IfOk result (λ v. D.tells disk ≡ true → Passes (Rests IsOrdered) (D.now disk) (D.past disk) (D.now v.disk) (D.past v.disk)) }
         ensures time_err { IfErr result (λ e. D.tells disk ≡ true → Passes (Rests IsOrdered) (D.now disk) (D.past disk) (D.now e.1) (D.past e.1)) }
@@ -160,10 +161,11 @@ impl<D: Disk + Drop> Volume for DiskVolume<D> {
         ensures cause { HasCause self.old.faults self.new.faults result }
         ensures calls { self.new.calls ≡ raised self.old.calls }
         ensures lists { self.new.lists ≡ self.old.lists }
-        ensures set { OnOk result (D.tells self.old.disk ≡ true →
+        ensures set { OnOk result (D.tells self.old.disk ≡ true → IsInOrder (D.now self.old.disk) →
             Sets (kept (D.now self.old.disk)) (kept (D.now self.new.disk)) dir.now file.now (Some bytes.now)) }
-        ensures durable { OnOk result (D.tells self.old.disk ≡ true → IsDurable (D.now self.new.disk) dir.now file.now (Some bytes.now)) }
-        ensures time { D.tells self.old.disk ≡ true →
+        ensures durable { OnOk result (D.tells self.old.disk ≡ true → IsInOrder (D.now self.old.disk) →
+            IsDurable (D.now self.new.disk) dir.now file.now (Some bytes.now)) }
+        ensures time { D.tells self.old.disk ≡ true → IsInOrder (D.now self.old.disk) →
             Passes (Turns dir.now file.now (Some bytes.now)) (D.now self.old.disk) (D.past self.old.disk) (D.now self.new.disk) (D.past self.new.disk) }
         ensures disk_told { D.tells self.new.disk ≡ D.tells self.old.disk }
         ensures place { OnOk result (IsPlace dir.now file.now) }

@@ -17,10 +17,10 @@ pub(crate) const WRITING: &[u8] = b"tmp";
 
 /// Makes the folders that are missing on the way to one, and has each of them outlive a crash.
 pub(crate) fn make_way<D: Disk>(disk: &mut D, dir: &[u8]) -> Result<(), Failed>
-    requires { D.tells disk.old ≡ true → IsOrdered (D.now disk.old) }
-    ensures ok { OnOk result (D.tells disk.old ≡ true → IsOnDisk (D.now disk.new) dir.now) }
+    ensures ok { OnOk result (D.tells disk.old ≡ true → IsOrdered (D.now disk.old) → IsOnDisk (D.now disk.new) dir.now) }
     ensures files { D.tells disk.old ≡ true → (D.now disk.new).files ≡ (D.now disk.old).files }
-    ensures time { D.tells disk.old ≡ true → Passes (Rests IsInOrder) (D.now disk.old) (D.past disk.old) (D.now disk.new) (D.past disk.new) }
+    ensures time { D.tells disk.old ≡ true → IsOrdered (D.now disk.old) →
+        Passes (Rests IsInOrder) (D.now disk.old) (D.past disk.old) (D.now disk.new) (D.past disk.new) }
     ensures told { D.tells disk.new ≡ D.tells disk.old }
     ensures placed { D.place disk.new ≡ D.place disk.old }
     ensures cause { HasCause (D.faults disk.old) (D.faults disk.new) result }
@@ -60,11 +60,12 @@ pub(crate) fn put_whole<D: Disk>(
     file: &[u8],
     bytes: &[u8],
 ) -> Result<(), Failed>
-    requires order { D.tells disk.old ≡ true → IsInOrder (D.now disk.old) }
-    requires place { ¬ (dir.now ≡ writing) }
-    ensures set { OnOk result (D.tells disk.old ≡ true → Sets (kept (D.now disk.old)) (kept (D.now disk.new)) dir.now file.now (Some bytes.now)) }
-    ensures durable { OnOk result (D.tells disk.old ≡ true → IsDurable (D.now disk.new) dir.now file.now (Some bytes.now)) }
-    ensures time { D.tells disk.old ≡ true →
+    requires { ¬ (dir.now ≡ writing) }
+    ensures set { OnOk result (D.tells disk.old ≡ true → IsInOrder (D.now disk.old) →
+        Sets (kept (D.now disk.old)) (kept (D.now disk.new)) dir.now file.now (Some bytes.now)) }
+    ensures durable { OnOk result (D.tells disk.old ≡ true → IsInOrder (D.now disk.old) →
+        IsDurable (D.now disk.new) dir.now file.now (Some bytes.now)) }
+    ensures time { D.tells disk.old ≡ true → IsInOrder (D.now disk.old) →
         Passes (Turns dir.now file.now (Some bytes.now)) (D.now disk.old) (D.past disk.old) (D.now disk.new) (D.past disk.new) }
     ensures told { D.tells disk.new ≡ D.tells disk.old }
     ensures placed { D.place disk.new ≡ D.place disk.old }

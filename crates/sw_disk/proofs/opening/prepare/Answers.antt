@@ -26,8 +26,8 @@ loop-name-init g c = (
       let there = subst (λ (x : DiskState). IsSome (x.files writing file)) (c.list.ensures.same t1) stands in
       let listed = ((c.in_ok-left.ensures.files t1).exact file).1 (some_bytes (g.D.Disk.now c.make_writing.new.disk) file there) in
       subst (λ (l : List (List ℕ)). Contains l file) (sym c.as_slice-name-items.ensures) listed,
-    c.list.ensures.placed ∙ c.make_writing.ensures.placed,
-  )
+  c.list.ensures.placed ∙ c.make_writing.ensures.placed,
+)
 
 pub returns-in_err-unlink-clause-time : goal.returns-in_err-unlink-clause-time
 returns-in_err-unlink-clause-time g c = λ tells.
@@ -56,8 +56,8 @@ loop-name-preserved g c = (
       (c.in_ok-unlink.ensures.found t1).1 file stands in
       contains-next c.as_slice-name-items.result.now c.loop-name.name-index file c.name-item.result c.loop-name-test.true
       (λ same. other.1 (same ∙ sym c.name-item.is ∙ sym c.as_slice.ensures)) (c.loop-name.invariant.4 tells file other.0),
-    c.unlink.ensures.placed ∙ c.loop-name.invariant.5,
-  )
+  c.unlink.ensures.placed ∙ c.loop-name.invariant.5,
+)
 
 pub returns-clause-empty : goal.returns-clause-empty
 returns-clause-empty g c = λ tells file. no_file_is_none ((g.D.Disk.now c.loop-name.disk).files writing file)

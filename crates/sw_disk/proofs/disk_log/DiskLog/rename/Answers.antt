@@ -19,6 +19,7 @@ invariant_of-self-in-Ok c =
     record {
       told = tells-push c.unlink.new.self.folders c.args.self.now.changes.items
           (Moved c.args.from_dir.now c.args.from_file.now c.args.dir.now c.args.file.now) c.push.new.self.items is
-          (tells-moved s c.args.from_dir.now c.args.from_file.now c.args.dir.now c.args.file.now apart c.read.new.self.folders c.put.new.self.folders c.unlink.new.self.folders
+          (tells-moved s c.args.from_dir.now c.args.from_file.now c.args.dir.now c.args.file.now apart
+          c.read.new.self.folders c.put.new.self.folders c.unlink.new.self.folders
           c.as_slice.result.now tells there (c.in-Ok.ensures.ok refl) (sound_is_ok c.unlink.result _ c.unlink.ensures.cause c.unlink.ensures.ok refl));
     }
