@@ -1,0 +1,10 @@
+mod Above
+mod Segments
+mod States
+mod Moments
+mod Ways
+mod Turning
+mod Readying
+mod Kept
+mod Logs
+mod Makes

@@ -1,0 +1,10 @@
+pub mod Paths
+pub mod Disk
+pub mod Calls
+pub mod Crash
+pub mod Moments
+pub mod Keeping
+pub mod Standings
+pub mod Places
+pub mod Changes
+pub mod Folders
