@@ -8,7 +8,7 @@ use Rattle.sw_container_steps.proofs.Ruling.{are-rules as cont-rules}
 use Rattle.sw_container_steps.specs.Rules.{ContHistory, cont_rules}
 use Rattle.sw_container_steps.specs.declared.cont_entry.ContEntry.{ContEntry}
 use Rattle.sw_hashpath.specs.declared.place.Place.{Place}
-use Rattle.sw_object_steps.proofs.Flat.{are-rules as obj-rules}
+use Rattle.sw_object_steps.proofs.Ruling.{are-rules as obj-rules}
 use Rattle.sw_object_steps.specs.Journals.{Hash}
 use Rattle.sw_object_steps.specs.Rules.{ObjHistory, Writes, obj_rules}
 use Rattle.sw_object_steps.specs.declared.entry.ObjEntry.{ObjEntry}

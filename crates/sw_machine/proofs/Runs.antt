@@ -13,7 +13,7 @@ use Rattle.sw_hashpath.specs.HashParts.{partition_of}
 use Rattle.sw_hashpath.specs.declared.name.Name.{Name}
 use Rattle.sw_hashpath.specs.declared.place.Place.{Place}
 use Rattle.sw_keeper.specs.declared.tables.Tables.{Tables}
-use Rattle.sw_object_steps.proofs.Flat.{are-rules as obj-rules}
+use Rattle.sw_object_steps.proofs.Ruling.{are-rules as obj-rules}
 use Rattle.sw_object_steps.specs.Journals.{Hash}
 use Rattle.sw_object_steps.specs.Rules.{ObjChange, ObjHistory, Writes, obj_applied, obj_rules}
 use Rattle.sw_object_steps.specs.Values.{ObjValue}

@@ -19,7 +19,7 @@ use Rattle.sw_hashpath.specs.declared.name.Name.{Name}
 use Rattle.sw_metafile.specs.Texts.{file_text}
 use Rattle.sw_journal.specs.Settling.{SettlesFirst}
 use Rattle.sw_object_steps.proofs.Singles.{room-single}
-use Rattle.sw_object_steps.specs.Histories.{single_journal}
+use Rattle.sw_object_steps.specs.Singles.{single_journal}
 use Rattle.sw_object_steps.specs.Rules.{Writes as Changes, obj_ending, obj_rules}
 use Rattle.sw_object_steps.specs.Values.{bare}
 use Rattle.sw_objdir.proofs.Journaling.{seen-step}
@@ -30,8 +30,7 @@ use Rattle.sw_objdir.specs.Stepping.{IsSeenAs, IsStep, LooksAt}
 use Rattle.sw_outside.specs.Counts.{raised}
 use Rattle.sw_outside.specs.Faults.{HasRisen}
 use Rattle.sw_object_steps.proofs.Answering.{is_refusal}
-use Rattle.sw_object_steps.specs.Journals.{Hash, Journal, bodies, body_size, has_room, written}
-use Rattle.sw_object_steps.specs.Flat.{with_doubt, with_entry}
+use Rattle.sw_object_steps.specs.Journals.{Hash, Journal, bodies, body_size, has_room, with_doubt, with_entry, written}
 use Rattle.sw_object_steps.specs.Outlines.{has_object, outline_of, standing_expiry}
 use Rattle.sw_object_steps.specs.Steps.{asks_expiry, deletion_answer, is_entered, made_answer, refusal_by, write_of}
 use Rattle.sw_object_steps.specs.declared.answer.Answer.{Answer}

@@ -149,7 +149,7 @@ module _ {V : Type 0} (tells : V → Bool) (files : V → Folders) (faults : V �
       → (tells m.volume ≡ true → IsFound m.secrets hash file (contents (files m.volume) path (name_text file)) (option_map (λ x. x.write) found))
       → IfSome found (λ x. name_of x.write ≡ file) → IfSome found (λ x. (x.name.hash ≡ hash) × IsHashed m.secrets x.name)
       → IsPartStep tells files faults k (bytes_eq hash) true (λ told s got. IsFile (is_hashed k.secrets) hash file told s got) (Ok found)
-          (record m { volume = v })
+      (record m { volume = v })
   file-given found there named hashed =
       read-so (Ok found)
       (λ is. subst (λ (x : Secrets). IsFile (is_hashed x) hash file (is_told tells files faults m) (held tells files faults m) found)

@@ -8,16 +8,16 @@ use Rattle.std.proofs.lemmas.List.{map-append}
 use Rattle.sw_hashpath.specs.declared.name.Name.{Name}
 use Rattle.sw_history.proofs.Growing.{grows-refl}
 use Rattle.sw_journal.specs.Settling.{SettlesOne as DoubtSettles}
-use Rattle.sw_object_steps.proofs.Flat.{are-rules}
+use Rattle.sw_object_steps.proofs.Ruling.{are-rules}
 use Rattle.sw_object_steps.proofs.Singles.{doubted-stands, none-touched, stands-told}
-use Rattle.sw_object_steps.specs.Histories.{ChangesObject, single_history, single_journal}
+use Rattle.sw_object_steps.specs.Singles.{History, single_history, single_journal, stands}
+use Rattle.sw_object_steps.specs.Histories.{ChangesObject}
 use Rattle.sw_object_steps.specs.Rules.{ObjJournal, Writes, obj_applied, obj_ending, obj_rules}
 use Rattle.sw_object_steps.specs.Values.{ObjValue, bare}
 use Rattle.sw_objdir.specs.Directories.{IsKept}
 use Rattle.sw_outside.specs.Faults.{HasRisen}
 use Rattle.sw_object_steps.proofs.Answering.{outline-new}
 use Rattle.sw_object_steps.proofs.Hashes.{hash-apart, hash-same, hash-self, left-entered, written-append, written-own}
-use Rattle.sw_object_steps.specs.Flat.{History, stands}
 use Rattle.sw_object_steps.specs.Journals.{Hash, Journal, written}
 use Rattle.sw_object_steps.specs.Outlines.{is_new_to, outline_of}
 use Rattle.sw_object_steps.specs.declared.answer.Answer.{Answer}

@@ -12,7 +12,8 @@ use Rattle.sw_history.proofs.Growing.{grows-refl, grows-trans}
 use Rattle.sw_history.specs.Halves.{GrowsOf}
 use Rattle.sw_object_steps.proofs.Settlings.{settles-keeps, settles-more, settles-wider}
 use Rattle.sw_object_steps.proofs.Singles.{none-touched}
-use Rattle.sw_object_steps.specs.Histories.{IsGiven, got_look, part_look, single_journal}
+use Rattle.sw_object_steps.specs.Singles.{single_journal}
+use Rattle.sw_object_steps.specs.Histories.{IsGiven, got_look, part_look}
 use Rattle.sw_object_steps.specs.Rules.{obj_applied, obj_ending, obj_rules}
 use Rattle.sw_object_steps.specs.Values.{bare}
 use Rattle.sw_objdir.specs.Directories.{IsDir, Kept, held, is_told, steps_of, values_of}

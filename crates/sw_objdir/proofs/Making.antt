@@ -12,7 +12,8 @@ use Rattle.sw_hashdir.specs.Steps.{IsNewIn, IsOurs, Joins, Keeps}
 use Rattle.sw_hashpath.specs.declared.name.Name.{Name}
 use Rattle.sw_journal.specs.Entries.{with_last_entered, with_new_doubt, without_last_doubt}
 use Rattle.sw_object_steps.proofs.Singles.{room-single}
-use Rattle.sw_object_steps.specs.Histories.{ChangesObject, single_journal}
+use Rattle.sw_object_steps.specs.Singles.{single_journal}
+use Rattle.sw_object_steps.specs.Histories.{ChangesObject}
 use Rattle.sw_object_steps.specs.Rules.{obj_applied, obj_ending}
 use Rattle.sw_object_steps.specs.Values.{bare}
 use Rattle.sw_objdir.proofs.Journaling.{kept-after, seen-step}
@@ -22,8 +23,7 @@ use Rattle.sw_objdir.specs.Stepping.{IsSeenAs, IsStep}
 use Rattle.sw_outside.specs.Faults.{HasRisen}
 use Rattle.sw_object_steps.proofs.Answering.{allowed-new}
 use Rattle.sw_object_steps.proofs.Hashes.{hash-apart, hash-same, written-append, written-other, written-own}
-use Rattle.sw_object_steps.specs.Journals.{Hash, Journal, has_room, written}
-use Rattle.sw_object_steps.specs.Flat.{with_doubt, with_entry}
+use Rattle.sw_object_steps.specs.Journals.{Hash, Journal, has_room, with_doubt, with_entry, written}
 use Rattle.sw_object_steps.specs.Outlines.{has_object, outline_of}
 use Rattle.sw_object_steps.specs.Steps.{deletion_answer, made_answer, refusal_of, write_of}
 use Rattle.sw_object_steps.specs.declared.answer.Answer.{Answer}

@@ -2,11 +2,10 @@
 use Rattle.std.proofs.Common.{◌≡◌, ℕ, Bool, true, [], sym, ◌∙◌, ap, subst, inl, inr}
 use Rattle.std.specs.Str.{bytes_eq}
 use Rattle.sw_journal.specs.Settling.{SettlesFirst}
-use Rattle.sw_object_steps.specs.Histories.{single_journal}
+use Rattle.sw_object_steps.specs.Singles.{History, single_journal}
 use Rattle.sw_object_steps.specs.Rules.{obj_rules}
 use Rattle.sw_objdir.proofs.Journaling.{one-gone, one-kept, one-settles}
 use Rattle.sw_objdir.specs.Directories.{IsDir, IsKept, Kept, held, history_of, is_told, steps_of}
-use Rattle.sw_object_steps.specs.Flat.{History}
 use Rattle.sw_object_steps.specs.Journals.{Hash, Journal, written}
 use Rattle.sw_object_steps.specs.Outlines.{outline_of}
 use Rattle.sw_object_steps.specs.declared.outline.Outline.{Outline}

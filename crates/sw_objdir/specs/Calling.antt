@@ -19,8 +19,7 @@ use Rattle.sw_metafile.specs.Texts.{file_text}
 use Rattle.sw_objdir.specs.Directories.{Kept}
 use Rattle.sw_objdir.specs.Stepping.{SameFiles}
 use Rattle.sw_outside.specs.Counts.{raised}
-use Rattle.sw_object_steps.specs.Journals.{Journal, written}
-use Rattle.sw_object_steps.specs.Flat.{with_doubt, with_entry}
+use Rattle.sw_object_steps.specs.Journals.{Journal, with_doubt, with_entry, written}
 use Rattle.sw_object_steps.specs.Steps.{asks_expiry, made_answer, refusal_by, write_of}
 use Rattle.sw_object_steps.specs.declared.answer.Answer.{Answer}
 use Rattle.sw_object_steps.specs.declared.answer.Answer.TheVariants as answers

@@ -3,10 +3,9 @@ use Rattle.std.specs.Prelude.{◌≡◌, ℕ, ◌≤◌, Bool, true, ◌&&◌, [
 use Rattle.sw_hashdir.specs.Places.{AllInOrder, holds, in_order}
 use Rattle.sw_hashpath.specs.declared.secrets.Secrets.{Secrets}
 use Rattle.sw_journal.specs.Entries.{begun}
-use Rattle.sw_object_steps.specs.Histories.{single_history}
+use Rattle.sw_object_steps.specs.Singles.{History, single_history}
 use Rattle.sw_object_steps.specs.Rules.{ObjHistory, obj_rules}
 use Rattle.sw_object_steps.specs.Values.{ObjValue, bare}
-use Rattle.sw_object_steps.specs.Flat.{History}
 use Rattle.sw_object_steps.specs.Journals.{Hash, Journal, written}
 use Rattle.sw_state.specs.States.{state_of}
 use Rattle.sw_state.specs.declared.state.State.{State}

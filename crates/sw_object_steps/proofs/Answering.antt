@@ -1,8 +1,7 @@
 -- How a step is answered by what stands.
-use Rattle.std.proofs.Common.{◌≡◌, ℕ, Bool, true, false, ◌&&◌, length, Option, Some, None, ◌⊎◌, option_map, nat_lt, max, if◌then◌else◌, inl, inr, refl, sym, ap}
-use Rattle.std.proofs.Common.{◌∙◌, subst, arith}
+use Rattle.std.proofs.Common.{◌≡◌, ℕ, Bool, true, false, ◌&&◌, Option, Some, None, option_map, nat_lt, max, if◌then◌else◌, refl, sym, ap}
+use Rattle.std.proofs.Common.{◌∙◌, arith}
 use Rattle.std.proofs.lemmas.Bool.Decides.{nat_tests}
-use Rattle.sw_hashpath.specs.declared.name.Name.{Name}
 use Rattle.sw_state.proofs.StateTests.{new_changes}
 use Rattle.sw_state.specs.Bases.{is_new_base}
 use Rattle.sw_state.specs.Metas.{Meta, is_after_base, is_after_meta}
@@ -14,16 +13,13 @@ use Rattle.sw_state.specs.declared.state.State.{State}
 use Rattle.sw_state.specs.declared.write.Write.{Write}
 use Rattle.sw_timestamp.specs.declared.tag.Tag.{Tag}
 use Rattle.sw_timestamp.specs.declared.tag.Tag.TheVariants as tags
-use Rattle.sw_history.specs.Halves.{Leaves}
-use Rattle.sw_object_steps.specs.Journals.{Journal, Shows, has_room}
-use Rattle.sw_object_steps.specs.Flat.{Answers, Enters, with_entry}
 use Rattle.sw_object_steps.specs.declared.outline.Outline.{Outline}
 use Rattle.sw_object_steps.specs.declared.outline.Mark.{Mark}
 use Rattle.sw_object_steps.specs.declared.outline.Mark.TheVariants.{Object, Tombstone}
 use Rattle.sw_object_steps.specs.Outlines.{burial_time, is_object, time_with, standing_expiry, has_object, is_before, is_below, is_new_to, mark_of, mark_time}
 use Rattle.sw_object_steps.specs.Outlines.{outline_of, shown_time, standing_time, tombstone_time}
-use Rattle.sw_object_steps.specs.Steps.{asks_expiry, asks_expiry_after, burial_refusal, conflict, deletion_answer, deletion_refusal, expires_at}
-use Rattle.sw_object_steps.specs.Steps.{expiring_deletion_refusal, expiry_refusal, got_beside, got_of, latest_time, made_answer, refusal_by, refusal_of, write_of}
+use Rattle.sw_object_steps.specs.Steps.{asks_expiry, asks_expiry_after, burial_refusal, conflict, deletion_refusal, expires_at}
+use Rattle.sw_object_steps.specs.Steps.{expiring_deletion_refusal, expiry_refusal, latest_time, refusal_by, refusal_of, write_of}
 use Rattle.sw_object_steps.specs.declared.answer.Answer.{Answer}
 use Rattle.sw_object_steps.specs.declared.answer.Answer.TheVariants as answers
 use Rattle.sw_object_steps.specs.declared.change.Change.{Change}
@@ -128,64 +124,6 @@ refusals o expiry (Receive w) =
     either (is_new_to o w.time (tag_of w.kind)) None (Some (answers.Conflict (latest_time o (tag_of w.kind)))) none
     (one (answers.Conflict (latest_time o (tag_of w.kind))) refl)
 
--- what is answered where the state that was read refuses
-pub answers-refused : (told : Bool) (s read : State) (j : Journal) (name : Name) (change : Change) (answer : Answer)
-    → (told ≡ true → read ≡ s) → refusal_of read change ≡ Some answer → Answers told s j name change answer false j
-answers-refused told s read j name change answer same refused = by answer (refusals (outline_of read) (standing_expiry read) change answer refused) refused
-  where
-    leaves : Leaves j false j
-    leaves = record { not_made = refl; same = refl }
-
-    told_so : (a : Answer) → refusal_of read change ≡ Some a → told ≡ true → refusal_of s change ≡ Some a
-    told_so a is when = subst (λ (x : State). refusal_of x change ≡ Some a) (same when) is
-
-    by : (a : Answer) → is_refusal a ≡ true → refusal_of read change ≡ Some a → Answers told s j name change a false j
-    by (answers.Conflict at) is r = record { leaves = leaves; refused = told_so (answers.Conflict at) r }
-    by (answers.NotFound at) is r = record { leaves = leaves; refused = told_so (answers.NotFound at) r }
-    by (answers.Mismatch second) is r = record { leaves = leaves; refused = told_so (answers.Mismatch second) r }
-    by answers.Exists is r = record { leaves = leaves; refused = told_so answers.Exists r }
-    by (answers.Done front) is r = cc
-    by (answers.Buried front) is r = cc
-    by answers.JournalFull is r = cc
-    by (answers.Damaged bad) is r = cc
-    by answers.Failed is r = cc
-    by answers.NoMemory is r = cc
-
--- what is answered where it doesn't, there is room and the write was entered
-pub answers-entered : (told : Bool) (s read : State) (j : Journal) (name : Name) (change : Change) (front : ℕ)
-    → (told ≡ true → read ≡ s) → refusal_of read change ≡ None → has_room j (write_of change) ≡ true →
-    front ≡ length (with_entry j name (write_of change)).entries
-    → Answers told s j name change (made_answer (outline_of read) change front) true (with_entry j name (write_of change))
-answers-entered told s read j name change front same refused room is = by (made_answer (outline_of read) change front) (made_form change) refl
-  where
-    after : Journal
-    after = with_entry j name (write_of change)
-
-    made_form : (c : Change) → (made_answer (outline_of read) c front ≡ answers.Done front) ⊎ (made_answer (outline_of read) c front ≡ answers.Buried front)
-    made_form (Put time content none_match) = inl refl
-    made_form (Post time heads) = inl refl
-    made_form (Receive write) = inl refl
-    made_form (Delete time if_delete_at) = by_object (has_object (outline_of read))
-      where
-        by_object : (b : Bool) → (deletion_answer b front ≡ answers.Done front) ⊎ (deletion_answer b front ≡ answers.Buried front)
-        by_object true = inl refl
-        by_object false = inr refl
-
-    enters : (a : Answer) → made_answer (outline_of read) change front ≡ a → Enters told s j name change a front true after
-    enters a form = record {
-      is_made = refl;
-      entered = refl;
-      front_is = is;
-      room = room;
-      not_refused = λ when. subst (λ (x : State). refusal_of x change ≡ None) (same when) refused;
-      answer_is = λ when. sym form ∙ ap (λ (x : State). made_answer (outline_of x) change front) (same when);
-    }
-
-    by : (a : Answer) → (a ≡ answers.Done front) ⊎ (a ≡ answers.Buried front) → made_answer (outline_of read) change front ≡ a →
-        Answers told s j name change a true after
-    by a (inl form) whole = subst (λ (x : Answer). Answers told s j name change x true after) (sym form) (enters (answers.Done front) (whole ∙ form))
-    by a (inr form) whole = subst (λ (x : Answer). Answers told s j name change x true after) (sym form) (enters (answers.Buried front) (whole ∙ form))
-
 -- ---- a step that isn't refused brings something new
 
 passed : (b : Bool) (a : Answer) → (if b then None else Some a) ≡ None → b ≡ true
@@ -246,16 +184,3 @@ refused-held s w answer is = (new_changes s w).0 (sym (outline-new s w.time (tag
     by : (b : Bool) → (if b then None else Some (answers.Conflict (latest_time (outline_of s) (tag_of w.kind)))) ≡ Some answer → b ≡ false
     by true told = cc
     by false told = refl
-
--- ---- reads
-
-show-by : (told : Bool) (b : Option Base) (m : Option Meta) (s : State) (n : ℕ) → (told ≡ true → got_beside b m n ≡ got_of s n) →
-    Shows told s n (got_beside b m n)
-show-by told None m s n is = is
-show-by told (Some (bases.Del time)) m s n is = is
-show-by told (Some (bases.Put time content)) None s n is = (refl, is)
-show-by told (Some (bases.Put time content)) (Some meta) s n is = (refl, is)
-
--- what is shown of a state that was read
-pub shows-got : (told : Bool) (read s : State) (n : ℕ) → (told ≡ true → read ≡ s) → Shows told s n (got_of read n)
-shows-got told read s n same = show-by told read.base read.meta s n (λ when. ap (λ (x : State). got_of x n) (same when))

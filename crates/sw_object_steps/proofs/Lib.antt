@@ -1,9 +1,8 @@
 pub mod Answering
-pub mod Flat
 pub mod Hashes
-mod Lists
+pub mod Lists
 pub mod Parts
 mod Refusals
+pub mod Ruling
 pub mod Settlings
 pub mod Singles
-pub mod Words

@@ -1,10 +1,8 @@
--- One step at one object lock by its rules, and how its histories are told by those words in which a doubt is one entry and a value a state. (This
--- project's own.)
-use Rattle.std.specs.Prelude.{Bool, true, false, [], ◌∷◌, map, Result, Ok, Err}
+-- One step at one object lock by its rules. (This project's own.)
+use Rattle.std.specs.Prelude.{Bool, true, false, Result, Ok, Err}
 use Rattle.std.specs.Str.{bytes_eq}
 use Rattle.sw_hashpath.specs.declared.name.Name.{Name}
-use Rattle.sw_object_steps.specs.Flat.{History}
-use Rattle.sw_object_steps.specs.Journals.{Hash, Journal, Shows}
+use Rattle.sw_object_steps.specs.Journals.{Hash, Shows}
 use Rattle.sw_object_steps.specs.declared.answer.Answer.{Answer}
 use Rattle.sw_object_steps.specs.declared.change.Change.{Change}
 use Rattle.sw_object_steps.specs.declared.dir_fault.DirFault.{DirFault}
@@ -13,10 +11,8 @@ use Rattle.sw_object_steps.specs.declared.got.Got.{Got}
 use Rattle.sw_object_steps.specs.declared.got.Got.TheVariants as gots
 use Rattle.sw_state.specs.declared.state.State.{State}
 use Rattle.sw_step.specs.Steps.{IsDamaged, IsLost, IsWanting, Look, StepChanges, StepReads, Tells}
-use Rattle.sw_object_steps.specs.Rules.{ObjHistory, ObjJournal, Writes, flat_journal, obj_rules}
-use Rattle.sw_object_steps.specs.Values.{ObjValue, bare}
-
--- ---- steps
+use Rattle.sw_object_steps.specs.Rules.{ObjHistory, Writes, obj_rules}
+use Rattle.sw_object_steps.specs.Values.{ObjValue}
 
 -- a step that may change what stands under a name
 abbrev pub ChangesObject : Bool → ObjHistory → (Hash → ObjValue) → Name → Change → Answer → ObjHistory → ObjValue → Type 0
@@ -56,20 +52,3 @@ module _ {A : Type 0} where
   abbrev pub ReadsPart : Bool → ObjHistory → (Hash → Bool) → ((Hash → State) → A → Type 0) → Result A DirFault → ObjHistory → (Hash → ObjValue) → Type 0
   ReadsPart alone h at reading got g t =
       StepReads obj_rules alone h at (λ doubt. true) part_look (λ read front x. IsGiven reading read x) got g t
-
--- ---- the words in which a doubt is one entry, and a value a state
-
-abbrev pub flat_history : ObjHistory → History
-flat_history h = record { told = h.told; opening = λ hash. (h.opening hash).state; journal = flat_journal h.journal; faults = h.faults }
-
--- each doubt is a change of its own
-abbrev pub single_journal : Journal → ObjJournal
-single_journal j = record {
-  entries = j.entries;
-  doubts = map (λ entry. entry ∷ []) j.doubts;
-  max_entries = j.max_entries;
-  max_bytes = j.max_bytes;
-}
-
-abbrev pub single_history : History → ObjHistory
-single_history h = record { told = h.told; opening = λ hash. bare (h.opening hash); journal = single_journal h.journal; faults = h.faults }

@@ -1,7 +1,8 @@
 -- The journal of an object lock: the writes that were made since it began, and those that may have been; its limits; and what a read of an object
 -- shows. (This project's own; what is shown is that of OpenStack Swift's object server.)
-use Rattle.std.specs.Prelude.{◌≡◌, ⊤, ℕ, ◌+◌, Bool, true, false, ◌&&◌, nat_le, List, [], ◌∷◌, length, if◌then◌else◌}
+use Rattle.std.specs.Prelude.{◌≡◌, ⊤, ℕ, ◌+◌, Bool, true, false, ◌&&◌, nat_le, List, [], ◌∷◌, ◌++◌, length, if◌then◌else◌}
 use Rattle.std.specs.Str.{bytes_eq}
+use Rattle.sw_hashpath.specs.declared.name.Name.{Name}
 use Rattle.sw_state.specs.declared.state.State.{State}
 use Rattle.sw_state.specs.declared.write.Kind.{Kind}
 use Rattle.sw_state.specs.declared.write.Kind.TheVariants as kinds
@@ -41,6 +42,16 @@ abbrev pub has_room : Journal → Write → Bool
 has_room j w =
     nat_le (length j.entries + length j.doubts + 1) j.max_entries
     && nat_le (bodies j.entries + bodies j.doubts + body_size w.kind) j.max_bytes
+
+-- ---- one write more
+
+-- it was made
+abbrev pub with_entry : Journal → Name → Write → Journal
+with_entry j name w = record j { entries = j.entries ++ Wrote name w ∷ [] }
+
+-- it may have been made
+abbrev pub with_doubt : Journal → Name → Write → Journal
+with_doubt j name w = record j { doubts = j.doubts ++ Wrote name w ∷ [] }
 
 -- ---- a read of what stands for s, with this front
 abbrev pub Shows : Bool → State → ℕ → Got → Type 0

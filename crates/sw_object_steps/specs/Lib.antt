@@ -1,5 +1,4 @@
 pub mod Briefs
-pub mod Flat
 pub mod Halves
 pub mod Histories
 pub mod Journals
@@ -8,5 +7,6 @@ pub mod OutlineLaws
 pub mod Outlines
 pub mod Parts
 pub mod Rules
+pub mod Singles
 pub mod Steps
 pub mod Values

@@ -1,7 +1,6 @@
-//! Laws of outlines, refusals and steps at objects. Each function does nothing: its clause is the law.
+//! Laws of outlines, of refusals, and of the rules of objects. Each function does nothing: its clause is the law.
 
-ghost use Rattle.sw_object_steps.specs.Laws.{ChangesAreFlat, FileReadsAreFlat, HashReadsAreFlat, LineReadsAreFlat, ObjectsAreRules, ReadsAreFlat};
-ghost use Rattle.sw_object_steps.specs.Laws.{SinglesAreFlat};
+ghost use Rattle.sw_object_steps.specs.Laws.{ObjectsAreRules};
 ghost use Rattle.sw_object_steps.specs.OutlineLaws.{AllowedChanges, OutlineTells, TransferIsRefused};
 
 /// The names of a state's files tell whether a write changes it.
@@ -22,26 +21,4 @@ pub fn transfer_is_refused()
 /// The rules of objects are rules.
 pub fn objects_are_rules()
     ensures { ObjectsAreRules }
-{}
-
-/// A step by the rules is one over flat histories and states.
-pub fn changes_are_flat()
-    ensures { ChangesAreFlat }
-{}
-
-/// So is a read of a name.
-pub fn reads_are_flat()
-    ensures { ReadsAreFlat }
-{}
-
-/// So is each read of a partition: of what is compared of it, of the files of a suffix, and of one file.
-pub fn part_reads_are_flat()
-    ensures hashes { HashReadsAreFlat }
-    ensures lines { LineReadsAreFlat }
-    ensures files { FileReadsAreFlat }
-{}
-
-/// A history whose doubts are each a change of its own is told flat as it was.
-pub fn singles_are_flat()
-    ensures { SinglesAreFlat }
 {}

@@ -1,6 +1,6 @@
 ghost use Rattle.std.specs.Prelude.{◌≡◌, Some};
-ghost use Rattle.sw_object_steps.specs.Outlines.{file_mark, has_object, is_new_to, outline_of, picked_outline, shown_time, standing_expiry, standing_time, time_with};
-ghost use Rattle.sw_object_steps.specs.Outlines.{tombstone_time};
+ghost use Rattle.sw_object_steps.specs.Outlines.{file_mark, has_object, is_new_to, outline_of, picked_outline, shown_time, standing_expiry};
+ghost use Rattle.sw_object_steps.specs.Outlines.{standing_time, time_with, tombstone_time};
 ghost use Rattle.sw_object_steps.specs.declared.outline.Mark.TheVariants.{Object};
 
 use sw_diskfile::{FileName, Picked};

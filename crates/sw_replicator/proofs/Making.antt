@@ -3,8 +3,8 @@ use Rattle.std.proofs.Common.{◌≡◌, ℕ, Bool, true, false, List, [], ◌�
 use Rattle.std.specs.List.{fold}
 use Rattle.sw_hashpath.specs.declared.name.Name.{Name}
 use Rattle.sw_object_steps.proofs.Answering.{refused-held}
-use Rattle.sw_object_steps.proofs.Flat.{are-rules, one-list}
-use Rattle.sw_object_steps.proofs.Words.{none-of}
+use Rattle.sw_object_steps.proofs.Ruling.{are-rules, none-of}
+use Rattle.sw_object_steps.proofs.Lists.{one-list}
 use Rattle.sw_object_steps.specs.Histories.{ChangesObject}
 use Rattle.sw_object_steps.specs.Journals.{Hash}
 use Rattle.sw_object_steps.specs.Parts.{IsOfPart}

@@ -10,8 +10,8 @@ use Rattle.sw_hashpath.specs.HashParts.{suffix_of}
 use Rattle.sw_hashpath.specs.declared.name.Name.{Name}
 use Rattle.sw_history.specs.Halves.{GrowsOf}
 use Rattle.sw_object_steps.proofs.Hashes.{hash-self}
-use Rattle.sw_object_steps.proofs.Parts.{file-by, hashes-as, lines-as}
-use Rattle.sw_object_steps.proofs.Words.{none-of}
+use Rattle.sw_object_steps.proofs.Parts.{file-as, hashes-as, lines-as}
+use Rattle.sw_object_steps.proofs.Ruling.{none-of}
 use Rattle.sw_object_steps.specs.Histories.{ReadsPart}
 use Rattle.sw_object_steps.specs.Journals.{Hash}
 use Rattle.sw_object_steps.specs.Parts.{AreHashes, AreLines, IsFile, IsOfPart}
@@ -265,8 +265,8 @@ module _ (device part : ℕ) (hash : Hash) (file : FileName) where
     pub write-told : IsOfPart s.nodes.power part hash → IsFile s.nodes.fits hash file (known t device part).told (state_by (known t device part)) got
     write-told is =
         let r = read-tells Local device part (is_one hash) true AsStored as_write s got t p in
-        file-by s.nodes.power part s.nodes.fits hash file is (known t device part).told r.states (state_by (known t device part)) got
-        (λ told other among. r.by told other (subst (λ (x : Hash). is_one hash s.nodes x ≡ true) (sym among.1) (hash-self hash))) r.shown
+        file-as s.nodes.fits hash file (known t device part).told r.states (state_by (known t device part)) got
+        (λ told. r.by told hash (hash-self hash)) r.shown
 
     pub write-held : t.alone ≡ true → (known t device part).told ≡ true → state_by (known t device part) hash ≡ state_at t device hash
     write-held alone told = read-held Local device part (is_one hash) true AsStored as_write s got t p alone told hash (hash-self hash)

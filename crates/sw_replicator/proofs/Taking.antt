@@ -9,7 +9,7 @@ use Rattle.sw_diskfile.specs.declared.file_name.FileName.{FileName}
 use Rattle.sw_diskfile.specs.declared.picking.Picked.{Picked}
 use Rattle.sw_history.specs.Halves.{GrowsOf}
 use Rattle.sw_object_steps.proofs.Answering.{outline-new}
-use Rattle.sw_object_steps.proofs.Flat.{are-rules}
+use Rattle.sw_object_steps.proofs.Ruling.{are-rules}
 use Rattle.sw_object_steps.specs.Journals.{Hash}
 use Rattle.sw_object_steps.specs.Outlines.{file_mark, is_new_to, mark_of, outline_of, picked_outline}
 use Rattle.sw_object_steps.specs.Rules.{ObjHistory, obj_applied, obj_rules}

@@ -1,4 +1,4 @@
-use Rattle.sw_object_steps.proofs.Flat.{are-rules}
+use Rattle.sw_object_steps.proofs.Ruling.{are-rules}
 use Rattle.sw_object_steps.proofs.laws.objects_are_rules.Goals as goal
 
 pub returns : goal.returns

@@ -15,8 +15,7 @@ use Rattle.sw_objdir.specs.Calling.{WritesFile}
 use Rattle.sw_objdir.specs.Directories.{Kept, is_told}
 use Rattle.sw_objdir.specs.Stepping.{IsSeenAs}
 use Rattle.sw_step.specs.Rules.{Wants}
-use Rattle.sw_object_steps.specs.Journals.{Journal, has_room, written}
-use Rattle.sw_object_steps.specs.Flat.{with_doubt, with_entry}
+use Rattle.sw_object_steps.specs.Journals.{Journal, has_room, with_doubt, with_entry, written}
 use Rattle.sw_object_steps.specs.Steps.{made_answer, write_of}
 use Rattle.sw_object_steps.specs.declared.answer.Answer.TheVariants as answers
 use Rattle.sw_object_steps.specs.declared.entry.ObjEntry.{ObjEntry}
