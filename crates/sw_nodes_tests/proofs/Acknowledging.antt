@@ -1,186 +1,212 @@
 -- What an acknowledgement tells, however often the message came.
 use Rattle.std.proofs.Common.{◌≡◌, ℕ, Bool, true, false, List, [], ◌∷◌, ◌++◌, refl, sym, ◌∙◌, ap, subst, ◌⊎◌, inl, inr, Result, Ok, Err}
+use Rattle.std.proofs.lemmas.List.{append-nil}
+use Rattle.std.specs.List.{fold}
 use Rattle.sw_hashpath.specs.declared.name.Name.{Name}
+use Rattle.sw_nodes_tests.specs.Sent.{Acknowledged, HeldBy, acknowledges, is_acknowledgement, state_by}
 use Rattle.sw_object_steps.proofs.Answering.{refused-held}
-use Rattle.sw_peer.proofs.Calls.{calls-moves, comes-moves, made-step}
-use Rattle.sw_object_steps.proofs.Hashes.{left, left-entered}
-use Rattle.sw_object_steps.specs.Flat.{History, StepChanges, stands}
-use Rattle.sw_object_steps.specs.Journals.{Journal}
-use Rattle.sw_object_steps.specs.Flat.{Answers, has_settled, left_by, with_entry}
-use Rattle.sw_peer.specs.Sights.{Calls, Comes, IsAt, IsMade, Moves, Sight}
-use Rattle.sw_object_steps.specs.Steps.{is_held}
+use Rattle.sw_object_steps.proofs.Flat.{are-rules, one-list}
+use Rattle.sw_object_steps.proofs.Words.{none-of}
+use Rattle.sw_object_steps.specs.Histories.{ChangesObject}
+use Rattle.sw_object_steps.specs.Journals.{Hash}
+use Rattle.sw_object_steps.specs.Rules.{ObjChange, ObjHistory, ObjJournal, Writes, obj_applied, obj_ending, obj_rules}
+use Rattle.sw_object_steps.specs.Values.{ObjValue}
 use Rattle.sw_object_steps.specs.declared.answer.Answer.{Answer}
 use Rattle.sw_object_steps.specs.declared.answer.Answer.TheVariants as answers
 use Rattle.sw_object_steps.specs.declared.change.Change.TheVariants.{Receive}
+use Rattle.sw_object_steps.specs.declared.entry.ObjEntry.{ObjEntry}
+use Rattle.sw_object_steps.specs.declared.entry.ObjEntry.TheVariants.{Wrote}
+use Rattle.sw_peer.proofs.Calls.{calls-moves, comes-moves, made-step}
+use Rattle.sw_peer.specs.Sights.{Calls, Comes, IsAt, IsMade, Moves, Sight}
 use Rattle.sw_peer.specs.declared.link.Link.TheVariants.{Sent}
 use Rattle.sw_peer.specs.declared.link.Lost.{Lost}
 use Rattle.sw_state.proofs.JoinLaws.{comes_again}
 use Rattle.sw_state.specs.States.{joined}
 use Rattle.sw_state.specs.declared.state.State.{State}
 use Rattle.sw_state.specs.declared.write.Write.{Write}
-use Rattle.sw_nodes_tests.specs.Sent.{Acknowledged, HeldBy, acknowledges, is_acknowledgement}
+use Rattle.sw_step.proofs.Keeping.{about-own, stand-more}
+use Rattle.sw_step.proofs.Settled.{tell}
+use Rattle.sw_step.specs.Journals.{flat}
+use Rattle.sw_step.specs.Rules.{Damages, Ending, Fails, Makes, Overflows, Refuses, Wants, about, doubts_about, stands}
+use Rattle.sw_step.specs.Steps.{Answers, EndsSeen, EndsUnseen, IsDone, IsRefused, Stops}
 
--- an acknowledgement is an entry, or a refusal by what has the write
-held-way : (told : Bool) (s : State) (j : Journal) (name : Name) (w : Write) (a : Answer) (made : Bool) (after : Journal)
-    → is_held (Receive w) a ≡ true → Answers told s j name (Receive w) a made after
-    → ((made ≡ true) × (after ≡ with_entry j name w)) ⊎ ((made ≡ false) × (after ≡ j) × (told ≡ true → joined s w ≡ s))
-held-way told s j name w (answers.Done front) made after held p = inl (p.is_made, p.entered)
-held-way told s j name w (answers.Buried front) made after held p = inl (p.is_made, p.entered)
-held-way told s j name w (answers.Conflict time) made after held p = inr
-    (p.leaves.not_made, p.leaves.same, (λ when. refused-held s w (answers.Conflict time) (p.refused when)))
-held-way told s j name w (answers.NotFound time) made after held p = cc
-held-way told s j name w (answers.Mismatch second) made after held p = cc
-held-way told s j name w answers.Exists made after held p = cc
-held-way told s j name w answers.JournalFull made after held p = cc
-held-way told s j name w (answers.Damaged bad) made after held p = cc
-held-way told s j name w answers.Failed made after held p = cc
-held-way told s j name w answers.NoMemory made after held p = cc
+module _ (name : Name) (w : Write) where
+  abbrev own : ObjChange
+  own = Writes name (Receive w)
 
--- what is known after it has the write
-step-has : (alone : Bool) (h g : History) (s t : State) (name : Name) (w : Write) (a : Answer) → StepChanges alone h s name (Receive w) a g t
-    → is_held (Receive w) a ≡ true → g.told ≡ true
-    → joined (stands g name.hash) w ≡ stands g name.hash
-step-has alone h g s t name w a step held told =
-    by (held-way step.before.told (stands step.before name.hash) step.before.journal name w a step.made g.journal held step.answered)
-  where
-    same_with : (j : Journal) → g.journal ≡ j → stands g name.hash ≡ left (step.before.opening name.hash) name.hash j.entries
-    same_with j is = ap (λ (x : Journal). left (g.opening name.hash) name.hash x.entries) is ∙ ap (λ (o : State). left o name.hash j.entries)
-        (step.after.opening name.hash)
+  -- a value with the write, and one that may have it
+  abbrev with_write : ObjValue → ObjValue
+  with_write v = obj_applied v (Wrote name w)
 
-    by : ((step.made ≡ true) × (g.journal ≡ with_entry step.before.journal name w))
-        ⊎ ((step.made ≡ false) × (g.journal ≡ step.before.journal) × (step.before.told ≡ true →
-        joined (stands step.before name.hash) w ≡ stands step.before name.hash))
-        → joined (stands g name.hash) w ≡ stands g name.hash
-    by (inl made) =
-        let is : stands g name.hash ≡ joined (stands step.before name.hash) w =
-        same_with (with_entry step.before.journal name w) made.1 ∙ left-entered (step.before.opening name.hash) name step.before.journal.entries w in
-        subst (λ (x : State). joined x w ≡ x) (sym is) (comes_again (stands step.before name.hash) w)
-    by (inr same) =
-        let is : stands g name.hash ≡ stands step.before name.hash = same_with step.before.journal same.1 in
-        subst (λ (x : State). joined x w ≡ x) (sym is) (same.2 (sym step.after.told ∙ told))
+  abbrev MayHave : ObjValue → ObjValue → Type 0
+  MayHave was now = (now ≡ was) ⊎ (now ≡ with_write was)
 
--- and the device holds it, where nobody else changes it
-step-holds : (h g : History) (s t : State) (name : Name) (w : Write) (a : Answer) → StepChanges true h s name (Receive w) a g t
-    → is_held (Receive w) a ≡ true → g.told ≡ true
-    → t ≡ joined s w
-step-holds h g s t name w a step held told =
-    by (held-way step.before.told (stands step.before name.hash) step.before.journal name w a step.made g.journal held step.answered)
-  where
-    told_before : step.before.told ≡ true
-    told_before = sym step.after.told ∙ told
+  -- a value whose state has the write is not changed by it
+  kept-by : (v : ObjValue) → joined v.state w ≡ v.state → with_write v ≡ v
+  kept-by v is = ap (λ (s : State). record v { state = s }) is
 
-    settled : (a : Answer) (made : Bool) → is_held (Receive w) a ≡ true → has_settled a made ≡ true
-    settled (answers.Done front) made is = refl
-    settled (answers.Buried front) made is = refl
-    settled (answers.Conflict time) made is = refl
-    settled (answers.NotFound time) made is = cc
-    settled (answers.Mismatch second) made is = cc
-    settled answers.Exists made is = cc
-    settled answers.JournalFull made is = cc
-    settled (answers.Damaged bad) made is = cc
-    settled answers.Failed made is = cc
-    settled answers.NoMemory made is = cc
+  -- ---- one step
 
-    by : ((step.made ≡ true) × (g.journal ≡ with_entry step.before.journal name w))
-        ⊎ ((step.made ≡ false) × (g.journal ≡ step.before.journal) × (step.before.told ≡ true →
-        joined (stands step.before name.hash) w ≡ stands step.before name.hash))
-        → t ≡ joined s w
-    by (inl made) = step.leaves refl told_before ∙ ap (λ (b : Bool). left_by s (Receive w) b) made.0
-    by (inr same) =
-        let stood : stands step.before name.hash ≡ s = step.held refl told_before (settled a step.made held) in
-        let has : joined s w ≡ s = subst (λ (x : State). joined x w ≡ x) stood (same.2 told_before) in
-        step.leaves refl told_before ∙ (ap (λ (b : Bool). left_by s (Receive w) b) same.0 ∙ sym has)
+  module _ (alone : Bool) (h : ObjHistory) (s : Hash → ObjValue) (answer : Answer) (g : ObjHistory) (t : ObjValue)
+      (p : ChangesObject alone h s name (Receive w) answer g t) (told : g.told ≡ true) where
+    told_before : p.before.told ≡ true
+    told_before = sym p.after.told ∙ told
 
--- of a copy that nobody heard: the write, or nothing
-step-either : (h g : History) (s t : State) (name : Name) (w : Write) (a : Answer) → StepChanges true h s name (Receive w) a g t → g.told ≡ true
-    → (t ≡ s) ⊎ (t ≡ joined s w)
-step-either h g s t name w a step told = by step.made refl
-  where
-    by : (b : Bool) → step.made ≡ b → (t ≡ s) ⊎ (t ≡ joined s w)
-    by true is = inr (step.leaves refl (sym step.after.told ∙ told) ∙ ap (λ (b : Bool). left_by s (Receive w) b) is)
-    by false is = inl (step.leaves refl (sym step.after.told ∙ told) ∙ ap (λ (b : Bool). left_by s (Receive w) b) is)
+    abbrev IsTaken : Answer → Type 0
+    IsTaken a = IsDone obj_rules p.read p.before.journal name.hash own a p.made g.journal
+        ⊎ IsRefused obj_rules p.read p.before.journal name.hash own a p.made g.journal
 
-module _ (device : ℕ) (name : Name) (w : Write) (l : ℕ) where
-  at-lock : (s t : Sight) (a : Answer) → s.nodes.lock device name.hash ≡ l → IsMade Sent device name (Receive w) s a t
-      → StepChanges t.alone (s.objects.seen l) (s.objects.holds device name.hash) name (Receive w) a (t.objects.seen l) (t.objects.holds device name.hash)
-  at-lock s t a e p = subst (λ (k : ℕ). StepChanges t.alone (s.objects.seen k) (s.objects.holds device name.hash) name (Receive w) a (t.objects.seen k)
-      (t.objects.holds device name.hash)) e p.step
+    -- an acknowledgement is an entry, or a refusal by what has the write
+    taken : is_acknowledgement answer ≡ true → (p.looked ≡ true) × IsTaken answer
+    taken is = by answer p.looked refl is p.answered
+      where
+        by : (a : Answer) (b : Bool) → p.looked ≡ b → is_acknowledgement a ≡ true
+            → Answers obj_rules b p.read p.before.journal name.hash own a p.made g.journal → (p.looked ≡ true) × IsTaken a
+        by (answers.Done front) true looked is q = (looked, inl q)
+        by (answers.Conflict time) true looked is q = (looked, inr q)
+        by (answers.Done front) false looked is q = absurd q
+        by (answers.Conflict time) false looked is q = absurd q
+        by a b looked is q = cc
 
-  kept : (s t : Sight) (a : Answer) → s.nodes.lock device name.hash ≡ l → IsMade Sent device name (Receive w) s a t
-      → t.nodes.lock device name.hash ≡ l
-  kept s t a e p = ap (λ n. n.lock device name.hash) p.moves.nodes ∙ e
+    -- the write is made whole, or not at all
+    made_whole : (p.made ≡ []) ⊎ (p.made ≡ Wrote name w ∷ [])
+    made_whole = by p.looked p.answered
+      where
+        stopped : (failed : Bool) → Stops obj_rules failed p.read p.before.journal name.hash own p.made g.journal
+            → (p.made ≡ []) ⊎ (p.made ≡ Wrote name w ∷ [])
+        stopped failed st = cut (one-list (Wrote name w ∷ []) st.first st.here st.behind st.cut) st.is_made
+          where
+            cut : (st.first ≡ []) × (st.here ≡ Wrote name w ∷ []) × (st.behind ≡ [])
+                → (p.made ≡ flat st.first) ⊎ ((st.doubted ≡ true) × (p.made ≡ flat st.first ++ st.here)) → (p.made ≡ []) ⊎ (p.made ≡ Wrote name w ∷ [])
+            cut one (inl none) = inl (none ∙ ap flat one.0)
+            cut one (inr both) = inr (both.1 ∙ (ap (λ (xs : List (List ObjEntry)). flat xs ++ st.here) one.0 ∙ one.1))
 
-  pub heard-has : (s : Sight) (xs : List Answer) (a : Answer) (t : Sight) → s.nodes.lock device name.hash ≡ l
-      → Comes (IsMade Sent device name (Receive w)) s (xs ++ a ∷ []) t → is_held (Receive w) a ≡ true
-      → (t.objects.seen l).told ≡ true → joined (stands (t.objects.seen l) name.hash) w ≡ stands (t.objects.seen l) name.hash
-  heard-has s [] a t e p held =
-      subst (λ (x : Sight). (x.objects.seen l).told ≡ true → joined (stands (x.objects.seen l) name.hash) w ≡ stands (x.objects.seen l) name.hash)
-      (sym p.2.same)
-      (step-has p.0.alone (s.objects.seen l) ((p.0).objects.seen l) (s.objects.holds device name.hash) ((p.0).objects.holds device name.hash) name w a
-      (at-lock s p.0 a e p.1) held)
-  heard-has s (x ∷ xs) a t e p held = heard-has p.0 xs a t (kept s p.0 x e p.1) p.2 held
+        seen : (e : Ending) → EndsSeen obj_rules e p.read p.before.journal name.hash own answer p.made g.journal
+            → (p.made ≡ []) ⊎ (p.made ≡ Wrote name w ∷ [])
+        seen Makes q = inr q.is_made
+        seen Refuses q = inl q.leaves.not_made
+        seen Overflows q = inl q.leaves.not_made
+        seen Fails q = stopped true q
+        seen Wants q = stopped false q
+        seen Damages q = absurd q
 
-  pub heard-holds : (s : Sight) (xs : List Answer) (a : Answer) (t : Sight) → s.nodes.lock device name.hash ≡ l
-      → Comes (IsMade Sent device name (Receive w)) s (xs ++ a ∷ []) t → is_held (Receive w) a ≡ true
-      → t.alone ≡ true → (t.objects.seen l).told ≡ true → t.objects.holds device name.hash ≡ joined (s.objects.holds device name.hash) w
-  heard-holds s [] a t e p held =
-      subst (λ (x : Sight). x.alone ≡ true → (x.objects.seen l).told ≡ true → x.objects.holds device name.hash ≡ joined (s.objects.holds device name.hash) w)
-      (sym p.2.same)
-      (λ alone told. step-holds (s.objects.seen l) ((p.0).objects.seen l) (s.objects.holds device name.hash) ((p.0).objects.holds device name.hash) name w a
-      (subst (λ (b : Bool). StepChanges b (s.objects.seen l) (s.objects.holds device name.hash) name (Receive w) a ((p.0).objects.seen l)
-      ((p.0).objects.holds device name.hash)) alone (at-lock s p.0 a e p.1)) held told)
-  heard-holds s (x ∷ xs) a t e p held = λ alone told.
-      let rest = comes-moves (Moves (IsAt device name.hash)) (IsMade Sent device name (Receive w)) (made-step Sent device name (Receive w)) p.0 (xs ++ a ∷ []) t
-      p.2 in
-      let again = heard-holds p.0 xs a t (kept s p.0 x e p.1) p.2 held alone told in
-      let first = step-either (s.objects.seen l) ((p.0).objects.seen l) (s.objects.holds device name.hash) ((p.0).objects.holds device name.hash) name w x
-      (subst (λ (b : Bool). StepChanges b (s.objects.seen l) (s.objects.holds device name.hash) name (Receive w) x ((p.0).objects.seen l)
-      ((p.0).objects.holds device name.hash)) (rest.alone alone) (at-lock s p.0 x e p.1))
-      (sym (rest.objects.grows l).told ∙ told) in
-      one (s.objects.holds device name.hash) ((p.0).objects.holds device name.hash) (t.objects.holds device name.hash) first again
-    where
-      one : (was mid now : State) → (mid ≡ was) ⊎ (mid ≡ joined was w) → now ≡ joined mid w → now ≡ joined was w
-      one was mid now (inl same) is = is ∙ ap (λ (x : State). joined x w) same
-      one was mid now (inr made) is = is ∙ (ap (λ (x : State). joined x w) made ∙ comes_again was w)
+        unseen : (e : Ending) → EndsUnseen obj_rules e p.before.journal p.made g.journal → p.made ≡ []
+        unseen Fails q = q.not_made
+        unseen Wants q = q.not_made
+        unseen Damages q = q.not_made
+        unseen e q = absurd q
 
--- an acknowledgement over any door
-pub acknowledged-has : (device : ℕ) (name : Name) (w : Write) (s t : Sight) (a : Answer)
-    → Calls (IsMade Sent device name (Receive w)) s Sent (Ok a) t → is_held (Receive w) a ≡ true → Acknowledged t device name.hash w
-acknowledged-has device name w s t a p held =
-    let frame = comes-moves (Moves (IsAt device name.hash)) (IsMade Sent device name (Receive w)) (made-step Sent device name (Receive w)) s (p.0 ++ a ∷ []) t
-    p.2 in
-    heard-has device name w (t.nodes.lock device name.hash) s p.0 a t (sym (ap (λ n. n.lock device name.hash) frame.nodes)) p.2 held
+        by : (b : Bool) → Answers obj_rules b p.read p.before.journal name.hash own answer p.made g.journal → (p.made ≡ []) ⊎ (p.made ≡ Wrote name w ∷ [])
+        by true q = seen (obj_ending answer) q
+        by false q = inl (unseen (obj_ending answer) q)
 
-pub acknowledged-holds : (device : ℕ) (name : Name) (w : Write) (s t : Sight) (a : Answer)
-    → Calls (IsMade Sent device name (Receive w)) s Sent (Ok a) t → is_held (Receive w) a ≡ true → HeldBy s t device name.hash w
-acknowledged-holds device name w s t a p held =
-    let frame = comes-moves (Moves (IsAt device name.hash)) (IsMade Sent device name (Receive w)) (made-step Sent device name (Receive w)) s (p.0 ++ a ∷ []) t
-    p.2 in
-    heard-holds device name w (t.nodes.lock device name.hash) s p.0 a t (sym (ap (λ n. n.lock device name.hash) frame.nodes)) p.2 held
+    -- what is known after it has the write
+    step-has : is_acknowledgement answer ≡ true → joined (state_by g name.hash) w ≡ state_by g name.hash
+    step-has is = by (taken is).1
+      where
+        stood : p.read ≡ stands obj_rules p.before name.hash
+        stood = tell obj_rules p.before name.hash p.read (p.known told_before (taken is).0)
+            (none-of (doubts_about obj_rules name.hash p.before.journal.doubts) (p.settled (taken is).0))
 
-acknowledged-held : (w : Write) (a : Answer) → is_acknowledgement a ≡ true → is_held (Receive w) a ≡ true
-acknowledged-held w (answers.Done front) is = refl
-acknowledged-held w (answers.Conflict time) is = refl
-acknowledged-held w (answers.Buried front) is = cc
-acknowledged-held w (answers.NotFound time) is = cc
-acknowledged-held w (answers.Mismatch second) is = cc
-acknowledged-held w answers.Exists is = cc
-acknowledged-held w answers.JournalFull is = cc
-acknowledged-held w (answers.Damaged bad) is = cc
-acknowledged-held w answers.Failed is = cc
-acknowledged-held w answers.NoMemory is = cc
+        more : (es : List ObjEntry) → g.journal.entries ≡ p.before.journal.entries ++ es
+            → stands obj_rules g name.hash ≡ fold obj_applied (stands obj_rules p.before name.hash) (about obj_rules name.hash es)
+        more es entries = stand-more obj_rules are-rules p.before g name.hash es p.after.opening entries
 
-pub sent-has : (device : ℕ) (name : Name) (w : Write) (s t : Sight) (r : Result Answer Lost)
-    → Calls (IsMade Sent device name (Receive w)) s Sent r t → acknowledges r ≡ true → Acknowledged t device name.hash w
-sent-has device name w s t (Ok a) p is = acknowledged-has device name w s t a p (acknowledged-held w a is)
-sent-has device name w s t (Err lost) p is = cc
+        by : IsTaken answer → joined (state_by g name.hash) w ≡ state_by g name.hash
+        by (inl done) =
+            let now : stands obj_rules g name.hash ≡ with_write (stands obj_rules p.before name.hash) =
+            more (Wrote name w ∷ []) (ap (λ (j : ObjJournal). j.entries) done.entered)
+            ∙ ap (fold obj_applied (stands obj_rules p.before name.hash)) (about-own obj_rules are-rules name.hash (Wrote name w ∷ []) (refl, tt)) in
+            subst (λ (v : ObjValue). joined v.state w ≡ v.state) (sym now) (comes_again (state_by p.before name.hash) w)
+        by (inr refused) =
+            let same : g.journal.entries ≡ p.before.journal.entries ++ [] =
+            ap (λ (j : ObjJournal). j.entries) refused.leaves.same ∙ sym (append-nil p.before.journal.entries) in
+            subst (λ (v : ObjValue). joined v.state w ≡ v.state) (stood ∙ sym (more [] same))
+            (refused-held p.read.state w answer refused.refused)
 
-pub sent-holds : (device : ℕ) (name : Name) (w : Write) (s t : Sight) (r : Result Answer Lost)
-    → Calls (IsMade Sent device name (Receive w)) s Sent r t → acknowledges r ≡ true → HeldBy s t device name.hash w
-sent-holds device name w s t (Ok a) p is = acknowledged-holds device name w s t a p (acknowledged-held w a is)
-sent-holds device name w s t (Err lost) p is = cc
+    module _ (is_alone : alone ≡ true) where
+      left : (es : List ObjEntry) → p.made ≡ es → t ≡ fold obj_applied (s name.hash) es
+      left es made = p.leaves is_alone told_before ∙ ap (fold obj_applied (s name.hash)) made
 
-pub sent-moves : (device : ℕ) (name : Name) (w : Write) (s t : Sight) (r : Result Answer Lost)
-    → Calls (IsMade Sent device name (Receive w)) s Sent r t → Moves (IsAt device name.hash) s t
-sent-moves device name w s t r p = calls-moves (Moves (IsAt device name.hash)) (IsMade Sent device name (Receive w)) (made-step Sent device name (Receive w)) s
-    Sent r t p
+      -- and the device holds it
+      step-holds : is_acknowledgement answer ≡ true → t ≡ with_write (s name.hash)
+      step-holds is = by (taken is).1
+        where
+          by : IsTaken answer → t ≡ with_write (s name.hash)
+          by (inl done) = left (Wrote name w ∷ []) done.is_made
+          by (inr refused) = left [] refused.leaves.not_made ∙ sym (kept-by (s name.hash)
+              (subst (λ (v : ObjValue). joined v.state w ≡ v.state) (p.held is_alone told_before (taken is).0)
+              (refused-held p.read.state w answer refused.refused)))
+
+      -- of a copy that nobody heard: the write, or nothing
+      step-either : MayHave (s name.hash) t
+      step-either = by made_whole
+        where
+          by : (p.made ≡ []) ⊎ (p.made ≡ Wrote name w ∷ []) → MayHave (s name.hash) t
+          by (inl none) = inl (left [] none)
+          by (inr all) = inr (left (Wrote name w ∷ []) all)
+
+  -- ---- a call, at a device and one of its locks
+
+  module _ (device l : ℕ) where
+    abbrev Transfers : Sight → Answer → Sight → Type 0
+    Transfers = IsMade Sent device name (Receive w)
+
+    abbrev held : Sight → ObjValue
+    held s = s.objects.holds device name.hash
+
+    at-lock : (s : Sight) (a : Answer) (t : Sight) → s.nodes.lock device name.hash ≡ l → Transfers s a t
+        → ChangesObject t.alone (s.objects.seen l) (s.objects.holds device) name (Receive w) a (t.objects.seen l) (held t)
+    at-lock s a t is p =
+        subst (λ (k : ℕ). ChangesObject t.alone (s.objects.seen k) (s.objects.holds device) name (Receive w) a (t.objects.seen k) (held t)) is p.step
+
+    lock-kept : (s : Sight) (a : Answer) (t : Sight) → s.nodes.lock device name.hash ≡ l → Transfers s a t → t.nodes.lock device name.hash ≡ l
+    lock-kept s a t is p = ap (λ n. n.lock device name.hash) p.moves.nodes ∙ is
+
+    heard-has : (s : Sight) (xs : List Answer) (a : Answer) (t : Sight) → s.nodes.lock device name.hash ≡ l → Comes Transfers s (xs ++ a ∷ []) t
+        → is_acknowledgement a ≡ true → (t.objects.seen l).told ≡ true → joined (state_by (t.objects.seen l) name.hash) w ≡ state_by (t.objects.seen l) name.hash
+    heard-has s [] a t is p has =
+        let mid : Sight = p.0 in
+        subst (λ (x : Sight). (x.objects.seen l).told ≡ true → joined (state_by (x.objects.seen l) name.hash) w ≡ state_by (x.objects.seen l) name.hash)
+        (sym p.2.same)
+        (λ told. step-has mid.alone (s.objects.seen l) (s.objects.holds device) a (mid.objects.seen l) (held mid) (at-lock s a mid is p.1) told has)
+    heard-has s (x ∷ xs) a t is p has = heard-has p.0 xs a t (lock-kept s x p.0 is p.1) p.2 has
+
+    one : (was mid now : ObjValue) → MayHave was mid → now ≡ with_write mid → now ≡ with_write was
+    one was mid now (inl same) is = is ∙ ap with_write same
+    one was mid now (inr made) is = is ∙ (ap with_write made ∙ kept-by (with_write was) (comes_again was.state w))
+
+    heard-holds : (s : Sight) (xs : List Answer) (a : Answer) (t : Sight) → s.nodes.lock device name.hash ≡ l → Comes Transfers s (xs ++ a ∷ []) t
+        → is_acknowledgement a ≡ true → t.alone ≡ true → (t.objects.seen l).told ≡ true → held t ≡ with_write (held s)
+    heard-holds s [] a t is p has =
+        let mid : Sight = p.0 in
+        subst (λ (x : Sight). x.alone ≡ true → (x.objects.seen l).told ≡ true → held x ≡ with_write (held s)) (sym p.2.same)
+        (λ alone told. step-holds mid.alone (s.objects.seen l) (s.objects.holds device) a (mid.objects.seen l) (held mid) (at-lock s a mid is p.1) told alone has)
+    heard-holds s (x ∷ xs) a t is p has = λ alone told.
+        let mid : Sight = p.0 in
+        let rest : Moves (IsAt device name.hash) mid t =
+        comes-moves (Moves (IsAt device name.hash)) Transfers (made-step Sent device name (Receive w)) mid (xs ++ a ∷ []) t p.2 in
+        one (held s) (held mid) (held t)
+        (step-either mid.alone (s.objects.seen l) (s.objects.holds device) x (mid.objects.seen l) (held mid) (at-lock s x mid is p.1)
+        (sym (rest.objects.grows l).told ∙ told) (rest.alone alone))
+        (heard-holds mid xs a t (lock-kept s x mid is p.1) p.2 has alone told)
+
+-- ---- over any door
+
+module _ (device : ℕ) (name : Name) (w : Write) (s t : Sight) where
+  abbrev Sends : Result Answer Lost → Type 0
+  Sends r = Calls (IsMade Sent device name (Receive w)) s Sent r t
+
+  pub sent-moves : (r : Result Answer Lost) → Sends r → Moves (IsAt device name.hash) s t
+  sent-moves r p = calls-moves (Moves (IsAt device name.hash)) (IsMade Sent device name (Receive w)) (made-step Sent device name (Receive w)) s Sent r t p
+
+  same-lock : (r : Result Answer Lost) → Sends r → s.nodes.lock device name.hash ≡ t.nodes.lock device name.hash
+  same-lock r p = sym (ap (λ n. n.lock device name.hash) (sent-moves r p).nodes)
+
+  pub sent-has : (r : Result Answer Lost) → Sends r → acknowledges r ≡ true → Acknowledged t device name.hash w
+  sent-has (Ok a) p is = heard-has name w device (t.nodes.lock device name.hash) s p.0 a t (same-lock (Ok a) p) p.2 is
+  sent-has (Err lost) p is = cc
+
+  pub sent-holds : (r : Result Answer Lost) → Sends r → acknowledges r ≡ true → HeldBy s t device name.hash w
+  sent-holds (Ok a) p is = heard-holds name w device (t.nodes.lock device name.hash) s p.0 a t (same-lock (Ok a) p) p.2 is
+  sent-holds (Err lost) p is = cc

@@ -1,24 +1,20 @@
 -- A door over nodes of which nothing is known. (This project's own.)
 use Rattle.std.specs.Prelude.{Bool, true, false, [], None, refl}
-use Rattle.sw_peer.specs.Carriage.{faithful}
 use Rattle.sw_history.specs.Halves.{HistoryOf}
-use Rattle.sw_peer.specs.Sights.{Nodes, Sight}
+use Rattle.sw_object_steps.specs.Values.{bare}
 use Rattle.sw_object_steps.specs.declared.answer.Answer.{Answer}
 use Rattle.sw_object_steps.specs.declared.answer.Answer.TheVariants as answers
+use Rattle.sw_object_steps.specs.declared.change.Change.{Change}
+use Rattle.sw_object_steps.specs.declared.change.Change.TheVariants.{Receive}
+use Rattle.sw_peer.specs.Carriage.{faithful}
+use Rattle.sw_peer.specs.Sights.{Nodes, Sight}
 use Rattle.sw_state.specs.States.{state_of}
 
--- whether the answer says that the step changed nothing
-abbrev pub is_refusal : Answer → Bool
-is_refusal (answers.Done front) = false
-is_refusal (answers.Buried front) = false
-is_refusal (answers.Conflict time) = true
-is_refusal (answers.NotFound time) = true
-is_refusal (answers.Mismatch second) = true
-is_refusal answers.Exists = true
-is_refusal answers.JournalFull = true
-is_refusal (answers.Damaged bad) = true
-is_refusal answers.Failed = false
-is_refusal answers.NoMemory = true
+-- A write that is sent is refused: the device has it, or has no room for it. Every other change wants memory
+abbrev pub answer_to : Bool → Change → Answer
+answer_to true (Receive write) = answers.Conflict write.time
+answer_to false (Receive write) = answers.JournalFull
+answer_to has_writes change = answers.NoMemory
 
 -- a journal that has no room for an entry, over contents that aren't told
 abbrev pub untold : {K V E D : Type 0} → V → HistoryOf K V E D
@@ -39,13 +35,13 @@ silent_nodes = record {
   fits_place = λ place. true;
   lock = λ device hash. 0;
   part_lock = λ device part. 0;
-  one_lock = λ device hash digest. refl;
+  one_lock = λ device hash. refl;
 }
 
 abbrev pub silent : Sight
 silent = record {
   nodes = silent_nodes;
-  objects = record { seen = λ lock. untold (state_of []); holds = λ device hash. state_of [] };
+  objects = record { seen = λ lock. untold (bare (state_of [])); holds = λ device hash. bare (state_of []) };
   containers = record { seen = λ lock. untold None; holds = λ device place. None };
   alone = false;
   faults = 0;

@@ -4,8 +4,8 @@ ghost use Rattle.sw_hashdir.specs.Steps.{IsHashed};
 use std::alloc::Global;
 use std::test::Fail;
 use sw_hashpath::{Name, Secrets};
-use sw_outside::{Bytes, FailingCall, NoMemory, is_utf8};
 use sw_object_steps::{Answer, Change, Got};
+use sw_outside::{Bytes, FailingCall, NoMemory, is_utf8};
 use sw_state::{Content, Head, HeadList, Heads, Kind, Write};
 use sw_timestamp::Timestamp;
 

@@ -1,8 +1,5 @@
 //! What of its messages a door loses and repeats, told by how many steps come to the door inside.
 
-ghost use Rattle.std.specs.Prelude.{◌≡◌, true};
-ghost use Rattle.sw_nodes_tests.specs.Silent.{is_refusal};
-
 use crate::between::{Heard, send_between};
 use crate::refusing::Refusing;
 use crate::sending::send;
@@ -12,8 +9,8 @@ use sw_container_steps::ContChange;
 use sw_hashpath::{Name, Place, Secrets};
 use sw_listing::Query;
 use sw_lossy::{Acts, Lossy};
+use sw_object_steps::Change;
 use sw_outside::Bytes;
-use sw_object_steps::{Answer, Change};
 use sw_peer::{ContainerDoor, Link, ObjectDoor};
 use sw_state::{Kind, Write};
 use sw_timestamp::Timestamp;
@@ -70,17 +67,6 @@ impl Asked {
                 json: false,
             },
         })
-    }
-}
-
-/// A refusal: as what stands has the write already, or for another reason.
-fn refusal(has_write: bool, time: Timestamp) -> Answer
-    ensures { is_refusal result ≡ true }
-{
-    if has_write {
-        Answer::Conflict(time)
-    } else {
-        Answer::Exists
     }
 }
 
@@ -209,7 +195,7 @@ fn the_named_messages_are_lost_and_repeated(rt: HostRuntime) -> Result<(), Fail>
     let asked = Asked::new(alloc)?;
     for (acts, expected) in ROWS {
         for steps in RUNS {
-            let mut door = Lossy::new(Refusing::new(refusal(true, asked.time)), acts);
+            let mut door = Lossy::new(Refusing::new(true), acts);
             assert!(rt; shows(alloc, &mut door, &asked, &steps, &expected));
         }
     }
@@ -248,7 +234,7 @@ fn what_is_heard_acknowledges_a_write(rt: HostRuntime) -> Result<(), Fail> {
         (twice, false, false),
     ];
     for (acts, has_write, acknowledged) in table {
-        let mut door = Lossy::new(Refusing::new(refusal(has_write, asked.time)), acts);
+        let mut door = Lossy::new(Refusing::new(has_write), acts);
         let write = write_at(asked.time);
         assert_eq!(rt; send(alloc, &mut door, 1, &asked.name, write), acknowledged);
     }
@@ -285,7 +271,7 @@ fn a_write_is_the_second_of_three_messages(rt: HostRuntime) -> Result<(), Fail> 
         (twice, true, true, 4),
     ];
     for (acts, has_write, acknowledged, steps) in table {
-        let mut door = Lossy::new(Refusing::new(refusal(has_write, asked.time)), acts);
+        let mut door = Lossy::new(Refusing::new(has_write), acts);
         let write = write_at(asked.time);
         let heard = send_between(
             alloc,

@@ -14,8 +14,8 @@ use std::alloc::Global;
 use std::test::Fail;
 use sw_hashpath::{Name, Secrets};
 use sw_objdir::ObjDir;
-use sw_outside::{Bytes, NoMemory};
 use sw_object_steps::{Answer, Change};
+use sw_outside::{Bytes, NoMemory};
 use sw_volume::MemVolume;
 
 /// How many bits of the hash tell the partition.

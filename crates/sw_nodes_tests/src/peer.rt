@@ -2,8 +2,8 @@ use crate::asked::{content, heads, name_under, secrets};
 use std::alloc::Global;
 use std::test::Fail;
 use sw_hashpath::BadFile;
-use sw_outside::NoMemory;
 use sw_object_steps::{Got, ObjEntry};
+use sw_outside::NoMemory;
 use sw_state::{Kind, Write};
 use sw_timestamp::Timestamp;
 

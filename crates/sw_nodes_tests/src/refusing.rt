@@ -1,5 +1,5 @@
-ghost use Rattle.std.specs.Prelude.{◌≡◌, true};
-ghost use Rattle.sw_nodes_tests.specs.Silent.{is_refusal, silent};
+ghost use Rattle.std.specs.Prelude.{◌≡◌};
+ghost use Rattle.sw_nodes_tests.specs.Silent.{answer_to, silent};
 
 use std::alloc::Global;
 use sw_container_steps::{ContAnswer, ContChange, Info};
@@ -9,26 +9,38 @@ use sw_object_steps::{Answer, Change, Got};
 use sw_peer::{ContainerDoor, Door, FaithfulDoor, Link, Lost, ObjectDoor};
 use sw_timestamp::Timestamp;
 
-/// A door that answers each change of an object in the same way, which changes nothing, and finds no object. At a container each step wants memory.
+/// A door over nodes of which nothing is known, and which changes nothing. A write that is sent is refused: as the device has it already, or as the
+/// journal has no room for it. Every other change of an object wants memory, as each step at a container does, and no object is found.
 /// It counts the steps that come, of both kinds together.
 #[derive(Drop)]
 pub struct Refusing {
-    answer: Answer,
+    has_writes: bool,
     steps: u64,
-    ghost refuses: { is_refusal answer ≡ true },
 }
 
 impl Refusing {
-    /// The answer says that nothing was changed: it isn't Done, Buried or Failed.
-    pub fn new(answer: Answer) -> Refusing
-        requires { is_refusal answer ≡ true }
-    {
-        Refusing { answer, steps: 0 }
+    /// With `has_writes` its devices have the writes that are sent.
+    pub fn new(has_writes: bool) -> Refusing {
+        Refusing {
+            has_writes,
+            steps: 0,
+        }
     }
 
     /// How many steps came.
     pub fn steps(&self) -> u64 {
         self.steps
+    }
+}
+
+/// What such a door answers a change.
+fn answer(has_writes: bool, change: &Change) -> Answer
+    ensures { result ≡ answer_to has_writes change.now }
+{
+    match change {
+        Change::Receive { write } if has_writes => Answer::Conflict(write.time),
+        Change::Receive { .. } => Answer::JournalFull,
+        Change::Put { .. } | Change::Post { .. } | Change::Delete { .. } => Answer::NoMemory,
     }
 }
 
@@ -43,16 +55,18 @@ impl FaithfulDoor for Refusing {
 }
 
 impl ObjectDoor for Refusing {
+    fn may_stand(&self, _device: u8, _hash: &[u8; 16]) {}
+
     fn change(
         &mut self,
         _alloc: Global,
         _link: Link,
         _device: u8,
         _name: &Name,
-        _change: Change,
+        change: Change,
     ) -> Result<Answer, Lost> {
         self.steps = self.steps.saturating_add(1);
-        Ok(self.answer)
+        Ok(answer(self.has_writes, &change))
     }
 
     fn get(&mut self, _alloc: Global, _link: Link, _device: u8, _name: &Name) -> Result<Got, Lost> {

@@ -21,6 +21,9 @@ const RING: &[u8] =
     br#"{"devices":["sda","sdb"],"part_power":2,"lock_bits":1,"replicas":2,"hash_prefix":"","hash_suffix":"endcap","object":[[0,1],[1,0],[0,1],[1,0]],
         "container":[[0,1],[1,0],[0,1],[1,0]]}"#;
 
+/// How many bytes the bodies in the journal of a lock have together at most.
+const JOURNAL_BYTES: u64 = 33_554_432;
+
 /// Each message comes once.
 const FAITHFUL: Acts = Acts {
     lose: None,
@@ -102,7 +105,7 @@ fn ran(alloc: Global, ring: &Ring, steps: &[Step], wanted: &[Came]) -> Result<bo
     if ring.devices.as_slice().len() != 2 || ring.lock_bits != 1 {
         return Ok(false);
     }
-    let Ok(world) = World::open(alloc, ring, four_volumes(alloc)?) else {
+    let Ok(world) = World::open(alloc, ring, JOURNAL_BYTES, four_volumes(alloc)?) else {
         return Ok(false);
     };
     let mut door = Lossy::new(world, FAITHFUL);
