@@ -5,8 +5,8 @@ use Rattle.std.specs.List.{fold}
 use Rattle.sw_hashpath.specs.declared.name.Name.{Name}
 use Rattle.sw_nodes_tests.specs.Sent.{Acknowledged, HeldBy, acknowledges, is_acknowledgement, state_by}
 use Rattle.sw_object_steps.proofs.Answering.{refused-held}
-use Rattle.sw_object_steps.proofs.Flat.{are-rules, one-list}
-use Rattle.sw_object_steps.proofs.Words.{none-of}
+use Rattle.sw_object_steps.proofs.Lists.{one-list}
+use Rattle.sw_object_steps.proofs.Ruling.{are-rules, none-of}
 use Rattle.sw_object_steps.specs.Histories.{ChangesObject}
 use Rattle.sw_object_steps.specs.Journals.{Hash}
 use Rattle.sw_object_steps.specs.Rules.{ObjChange, ObjHistory, ObjJournal, Writes, obj_applied, obj_ending, obj_rules}
@@ -164,7 +164,8 @@ module _ (name : Name) (w : Write) where
     lock-kept s a t is p = ap (λ n. n.lock device name.hash) p.moves.nodes ∙ is
 
     heard-has : (s : Sight) (xs : List Answer) (a : Answer) (t : Sight) → s.nodes.lock device name.hash ≡ l → Comes Transfers s (xs ++ a ∷ []) t
-        → is_acknowledgement a ≡ true → (t.objects.seen l).told ≡ true → joined (state_by (t.objects.seen l) name.hash) w ≡ state_by (t.objects.seen l) name.hash
+        → is_acknowledgement a ≡ true → (t.objects.seen l).told ≡ true
+        → joined (state_by (t.objects.seen l) name.hash) w ≡ state_by (t.objects.seen l) name.hash
     heard-has s [] a t is p has =
         let mid : Sight = p.0 in
         subst (λ (x : Sight). (x.objects.seen l).told ≡ true → joined (state_by (x.objects.seen l) name.hash) w ≡ state_by (x.objects.seen l) name.hash)
@@ -181,7 +182,8 @@ module _ (name : Name) (w : Write) where
     heard-holds s [] a t is p has =
         let mid : Sight = p.0 in
         subst (λ (x : Sight). x.alone ≡ true → (x.objects.seen l).told ≡ true → held x ≡ with_write (held s)) (sym p.2.same)
-        (λ alone told. step-holds mid.alone (s.objects.seen l) (s.objects.holds device) a (mid.objects.seen l) (held mid) (at-lock s a mid is p.1) told alone has)
+        (λ alone told. step-holds mid.alone (s.objects.seen l) (s.objects.holds device) a (mid.objects.seen l) (held mid)
+            (at-lock s a mid is p.1) told alone has)
     heard-holds s (x ∷ xs) a t is p has = λ alone told.
         let mid : Sight = p.0 in
         let rest : Moves (IsAt device name.hash) mid t =
