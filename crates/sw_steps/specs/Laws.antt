@@ -1,6 +1,9 @@
 -- What is promised of steps and passes. (This project's own.)
 use Rattle.std.specs.Prelude.{◌≡◌, ◌≢◌, ℕ, true, List, Result}
 use Rattle.sw_machine.specs.Doors.{RunsOn}
+use Rattle.sw_machine.specs.Laws.{LocksAreApart}
+use Rattle.sw_core.specs.Worlds.{nodes_of}
+use Rattle.sw_hashpath.specs.declared.secrets.Secrets.{Secrets}
 use Rattle.sw_lossy.specs.declared.acts.Acts.{Acts}
 use Rattle.sw_outside.specs.declared.errors.NoMemory.{NoMemory}
 use Rattle.sw_pass.specs.declared.outcome.Outcome.{Outcome}
@@ -20,3 +23,7 @@ PushingRuns = (from to part : ℕ) (acts : Acts) (s : Sight) (result : Result Ou
 -- held, of each hash that the steps between them left
 abbrev pub StepsMeet : Type 0
 StepsMeet = (all : List Step) (s t : Sight) → AreMade all s t → t.alone ≡ true → AreMet all s t
+
+-- a lock of a world is one of one device
+abbrev pub WorldsAreApart : Type 0
+WorldsAreApart = (devices lock_bits power : ℕ) (secrets : Secrets) → LocksAreApart (nodes_of devices lock_bits power secrets)

@@ -1,6 +1,6 @@
 //! Laws of steps and passes. Each function does nothing: its clause is the law.
 
-ghost use Rattle.sw_steps.specs.Laws.{PushingRuns, StepsMeet};
+ghost use Rattle.sw_steps.specs.Laws.{PushingRuns, StepsMeet, WorldsAreApart};
 
 /// A push at nodes that nobody else changes is a run of the machine, whatever comes of it.
 pub fn pushing_runs()
@@ -10,4 +10,9 @@ pub fn pushing_runs()
 /// A push that is done and a later one back, in a list of steps, leave both devices with the join of what both held.
 pub fn steps_meet()
     ensures { StepsMeet }
+{}
+
+/// A lock of a world is one of one device, as the machine's laws on journals want it.
+pub fn worlds_are_apart()
+    ensures { WorldsAreApart }
 {}
