@@ -36,12 +36,6 @@ impl<R: Files, N: Notes> Host<'_, R, N> {
         }
     }
 
-    /// Makes a folder that isn't there.
-    pub fn make_folder(&self, path: &str) -> io::Result<()> {
-        let made = fs::create_dir(self.rt, path);
-        self.noted(HostCall::MakeFolder, path, made)
-    }
-
     /// Makes a folder where it isn't there yet.
     pub fn make_missing(&self, path: &str) -> io::Result<()> {
         match fs::create_dir(self.rt, path) {
@@ -79,6 +73,12 @@ impl<R: Files, N: Notes> Host<'_, R, N> {
         let written = file.write_all(bytes);
         self.noted(HostCall::Write, path, written)?;
         let synced = file.sync_all();
+        self.noted(HostCall::SyncFile, path, synced)
+    }
+
+    /// Syncs a file that is there.
+    pub fn sync_file(&self, path: &str) -> io::Result<()> {
+        let synced = sync(self.rt, path);
         self.noted(HostCall::SyncFile, path, synced)
     }
 

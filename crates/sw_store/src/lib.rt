@@ -10,16 +10,17 @@
 
 mod claim;
 mod host;
+mod host_disk;
 mod host_stores;
 mod host_volume;
 mod layout;
+mod listing;
 mod notes;
 mod pace;
 mod paths;
 mod tcp_doors;
 mod tcp_sink;
 mod tcp_source;
-mod writing;
 
 pub use host_stores::HostStores;
 pub use host_volume::HostVolume;
