@@ -82,6 +82,12 @@ impl<R: Files, N: Notes> Host<'_, R, N> {
         self.noted(HostCall::SyncFile, path, synced)
     }
 
+    /// Syncs a file that is there.
+    pub fn sync_file(&self, path: &str) -> io::Result<()> {
+        let synced = sync(self.rt, path);
+        self.noted(HostCall::SyncFile, path, synced)
+    }
+
     /// Moves a file over what stands at the other path, in one step.
     pub fn rename(&self, from: &str, to: &str) -> io::Result<()> {
         let moved = fs::rename(self.rt, from, to);

@@ -69,8 +69,8 @@ impl<'a, R: Files<File = File> + AllocGlobal, N: Notes> HostStores<'a, R, N> {
         device: u8,
         stripe: u8,
     ) -> Result<HostVolume<'a, R, N>, StoreError>
-        ensures untouched { IfOk result (λ v. (v.calls ≡ 0) × (v.faults ≡ 0) × (v.lists ≡ 0)) }
-        ensures root { IfOk result (λ v. string_bytes v.root ≡ lock_folder self.old.base.now device stripe) }
+        ensures untouched { IfOk result (λ v. (v.volume.calls ≡ 0) × (v.volume.faults ≡ 0) × (v.volume.lists ≡ 0)) }
+        ensures root { IfOk result (λ v. string_bytes v.volume.disk.root ≡ lock_folder self.old.base.now device stripe) }
         ensures faults { self.new.faults ≡ faults_after self.old.faults result }
         ensures calls { self.new.calls ≡ self.old.calls }
         ensures volumes { self.new.volumes ≡ self.old.volumes }
@@ -88,8 +88,8 @@ impl<'a, R: Files<File = File> + AllocGlobal, N: Notes> HostStores<'a, R, N> {
         device: u8,
         stripe: u8,
     ) -> Result<HostVolume<'a, R, N>, StoreError>
-        ensures untouched { IfOk result (λ v. (v.calls ≡ 0) × (v.faults ≡ 0) × (v.lists ≡ 0)) }
-        ensures root { IfOk result (λ v. string_bytes v.root ≡ lock_folder self.old.base.now device stripe) }
+        ensures untouched { IfOk result (λ v. (v.volume.calls ≡ 0) × (v.volume.faults ≡ 0) × (v.volume.lists ≡ 0)) }
+        ensures root { IfOk result (λ v. string_bytes v.volume.disk.root ≡ lock_folder self.old.base.now device stripe) }
         ensures faults { self.new.faults ≡ self.old.faults }
         ensures calls { self.new.calls ≡ self.old.calls }
         ensures volumes { self.new.volumes ≡ self.old.volumes }
@@ -130,7 +130,7 @@ impl<'a, R: Files<File = File> + AllocGlobal, N: Notes> Stores for HostStores<'a
     ghost out = { λ s. is_out s.volumes };
 
     // A volume that was just opened may hold anything; it is known that no call was made on it.
-    ghost first = { λ v. (v.calls ≡ 0) × (v.faults ≡ 0) × (v.lists ≡ 0) };
+    ghost first = { λ v. (v.volume.calls ≡ 0) × (v.volume.faults ≡ 0) × (v.volume.lists ≡ 0) };
 
     fn ring(&mut self, alloc: Global, name: &str) -> Result<Bytes, StoreError> {
         self.calls = self.calls.saturating_add(1);
@@ -159,7 +159,8 @@ impl<'a, R: Files<File = File> + AllocGlobal, N: Notes> Stores for HostStores<'a
         stripe: u8,
     ) -> Result<HostVolume<'a, R, N>, StoreError>
         requires { is_out self.old.volumes device stripe ≡ false }
-        ensures volume { IfOk result (StartsFrom (λ v. (v.calls ≡ 0) × (v.faults ≡ 0) × (v.lists ≡ 0)) (rests_in self.old.volumes device stripe)) }
+        ensures volume { IfOk result
+            (StartsFrom (λ v. (v.volume.calls ≡ 0) × (v.volume.faults ≡ 0) × (v.volume.lists ≡ 0)) (rests_in self.old.volumes device stripe)) }
         ensures out { OnOk result (GoOut (is_pair device stripe) (is_out self.old.volumes) (is_out self.new.volumes)) }
         ensures others { OnOk result (IsSameBut (is_pair device stripe) (rests_in self.old.volumes) (rests_in self.new.volumes)) }
         ensures not_out { OnErr result (IsAsItWas (is_out self.old.volumes) (is_out self.new.volumes)) }
@@ -167,7 +168,8 @@ impl<'a, R: Files<File = File> + AllocGlobal, N: Notes> Stores for HostStores<'a
         ensures kept { (other : List ℕ) → untold ≡ untold }
         ensures cause { self.new.faults ≡ faults_after self.old.faults result }
         ensures calls { self.new.calls ≡ raised self.old.calls }
-        ensures root { rests_in self.old.volumes device stripe ≡ None → IfOk result (λ v. string_bytes v.root ≡ lock_folder self.old.base.now device stripe) }
+        ensures root { rests_in self.old.volumes device stripe ≡ None →
+            IfOk result (λ v. string_bytes v.volume.disk.root ≡ lock_folder self.old.base.now device stripe) }
     {
         self.calls = self.calls.saturating_add(1);
         if self.volumes.rests(device, stripe) {

@@ -9,9 +9,11 @@
 #![tactic(auto)]
 
 mod claim;
+mod host_disk;
 mod host_stores;
 mod host_volume;
 mod layout;
+mod listing;
 mod pace;
 mod paths;
 mod tcp_doors;
