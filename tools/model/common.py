@@ -6,6 +6,7 @@ from datetime import datetime, timedelta, timezone
 
 BODY_LIMIT, HEAD_LIMIT, FIELD_LIMIT, SKIP_LIMIT, REQUEST_LIMIT = 5_242_880, 65_536, 128, 65_536, 1_073_741_824
 ENTRY_LIMIT, WEIGHT_LIMIT = 262_144, 33_554_432
+SERVE_WEIGHT_LIMIT = ENTRY_LIMIT * BODY_LIMIT
 GREATEST_TIME, GREATEST_U64 = 999_999_999_999_999, 2**64 - 1
 EMPTY_MD5 = hashlib.md5(b"").hexdigest()
 TEXT_TYPE, JSON_TYPE = b"text/plain; charset=utf-8", b"application/json; charset=utf-8"

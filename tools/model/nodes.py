@@ -86,8 +86,9 @@ class Container:
 class Nodes:
     """All devices of a ring, and the trail of what was entered at them."""
 
-    def __init__(self, ring):
+    def __init__(self, ring, weight_limit=WEIGHT_LIMIT):
         self.ring, self.objects, self.containers, self.trail = ring, {}, {}, []
+        self.weight_limit = weight_limit
         self.journals = {}
 
     def state(self, device, digest):
@@ -98,7 +99,7 @@ class Nodes:
 
     def has_room(self, device, half, digest, entries, weight=0):
         old = self.journals.get((device, half, self.ring.stripe(digest)), (0, 0))
-        return old[0] + entries <= ENTRY_LIMIT and old[1] + weight <= WEIGHT_LIMIT
+        return old[0] + entries <= ENTRY_LIMIT and old[1] + weight <= self.weight_limit
 
     def journal(self, device, half, digest, entries, weight=0):
         if not self.has_room(device, half, digest, entries, weight):
