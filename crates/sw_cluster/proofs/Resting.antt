@@ -149,7 +149,7 @@ module _ {V : Type 0} (w : AllNodes V) (is : IsWorld w) (rests : ℕ → ℕ →
   -- no directory is open in the gap
   none-in-gap : (lifted : Option ℕ) (l : ℕ) (k : Kept V) → slice_get w.slots l ≡ Some (slots.Open k)
       → IsSlot w.secrets w.power w.max_bytes (is_out w.lock_bits lifted l) (slice_get w.slots l) → gap_first w.lock_bits lifted ≤ l
-          → l < gap_past w.lock_bits lifted → ⊥
+      → l < gap_past w.lock_bits lifted → ⊥
   none-in-gap None l k at slot from below = absurd (omega (arith, below))
   none-in-gap (Some device) l k at slot from below =
       let out : is_out w.lock_bits (Some device) l ≡ true =

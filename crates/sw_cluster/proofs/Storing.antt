@@ -87,7 +87,7 @@ module _ {V : Type 0} (tells : V → Bool) (files : V → Folders) (faults : V �
         let one = goes.hash device hash told in (
           one.told,
           one.stands ∙ ap (λ (known : List (ℕ × KnownWrite)).
-          state_of (writes_of ((see began).objects.holds device hash).state ++ writes_among known device hash)) (sym goes.known),
+              state_of (writes_of ((see began).objects.holds device hash).state ++ writes_among known device hash)) (sym goes.known),
         )
 
     pub stored : (device : ℕ) (hash : Hash) → device < length ring.devices → IsStored tells files faults ring began machine rests device hash

@@ -20,7 +20,7 @@ module _ {D : Type 0} where
       Runs (asked_of item).command (asked_of item).values mid new → RunsAll Runs (map asked_of (take (i + 1) items)) old new
   runs-next {X} Runs asked_of items i item old mid new next ran run =
       subst (λ (list : List Asked). RunsAll Runs list old new)
-          (sym (ap (λ (list : List X). map asked_of list) next ∙ map-append asked_of (take i items) (item ∷ [])))
+      (sym (ap (λ (list : List X). map asked_of list) next ∙ map-append asked_of (take i items) (item ∷ [])))
       (runs-more Runs (map asked_of (take i items)) (asked_of item) old mid new ran run)
 
   -- all of them, between a first and a last one

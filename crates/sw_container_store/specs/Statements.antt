@@ -10,7 +10,7 @@ unfoldable pub command_text : Command → List ℕ
 command_text Begin = codes "BEGIN"
 command_text Commit = codes "COMMIT"
 command_text PutInfo =
-  codes "INSERT OR REPLACE INTO container_info (id, account, container, hash, put_timestamp, delete_timestamp) VALUES (1, ?1, ?2, ?3, ?4, ?5)"
+    codes "INSERT OR REPLACE INTO container_info (id, account, container, hash, put_timestamp, delete_timestamp) VALUES (1, ?1, ?2, ?3, ?4, ?5)"
 command_text PutRow = codes "INSERT INTO object (ROWID, name, created_at, size, content_type, etag, deleted) VALUES (?1, ?2, ?3, ?4, ?5, ?6, ?7)"
 command_text CutRow = codes "DELETE FROM object WHERE ROWID = ?1"
 

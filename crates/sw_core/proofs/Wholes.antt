@@ -116,9 +116,11 @@ module _ {V : Type 0} (w : AllNodes V) (is : IsWorld w) where
     pub open-is : (l : ℕ) (k : Kept V) → slice_get w.slots l ≡ Some (slots.Open k) → (k.secrets ≡ w.secrets) × (k.power ≡ w.power) × HasLimits w.max_bytes k
     open-is l k at =
         let there = open-at l (slice_get_within w.slots l (slots.Open k) at) in
-        let same : k ≡ there.0 = opened-same k there.0 (some-same (slots.Open k) (slots.Open there.0) (sym at ∙ there.1)) in
-        (ap (λ (x : Kept V). x.secrets) same ∙ there.2, ap (λ (x : Kept V). x.power) same ∙ there.3,
-            subst (λ (x : Kept V). HasLimits w.max_bytes x) (sym same) there.4)
+        let same : k ≡ there.0 = opened-same k there.0 (some-same (slots.Open k) (slots.Open there.0) (sym at ∙ there.1)) in (
+          ap (λ (x : Kept V). x.secrets) same ∙ there.2,
+          ap (λ (x : Kept V). x.power) same ∙ there.3,
+          subst (λ (x : Kept V). HasLimits w.max_bytes x) (sym same) there.4,
+        )
       where
         opened-same : (a b : Kept V) → slots.Open a ≡ slots.Open b → a ≡ b
         opened-same a b same = cc
@@ -146,7 +148,7 @@ module _ {V : Type 0} (w : AllNodes V) (is : IsWorld w) where
             ap (slice_get (slice_set w.slots l (slots.Open n))) equal
             ∙ slice_get-set_same w.slots l (slots.Open n) (subst (λ (i : ℕ). i < length w.slots) equal h) in
             subst (λ (o : Option ℕ). IsSlot w.secrets w.power w.max_bytes (is_out w.lock_bits o m) (slice_get (slice_set w.slots l (slots.Open n)) m))
-                (sym whole)
+            (sym whole)
             (n, now, secrets ∙ (open-is l k at).0, power ∙ (open-is l k at).1, (entries ∙ (open-is l k at).2.0, bytes ∙ (open-is l k at).2.1))
         slot m h false apart =
             let away : m ≢ l = λ equal. absurd (omega (arith, nat_tests, eqb-false m l apart, equal)) in

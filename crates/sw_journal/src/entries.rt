@@ -3,8 +3,8 @@ ghost use Rattle.std.specs.Str.{bytes_eq};
 ghost use Rattle.sw_journal.specs.Entries.{IsFirstOf, entry_hash, entry_size, is_new_entry};
 ghost use Rattle.sw_object_steps.specs.Journals.{body_size, written};
 
-use sw_object_steps::{ObjEntry, Outline};
 use sw_history::Seen;
+use sw_object_steps::{ObjEntry, Outline};
 use sw_state::{Kind, Write};
 
 /// Where the first entry of a hash stands.

@@ -11,9 +11,9 @@ ghost use Rattle.sw_state.specs.declared.write.Write.{Write};
 use crate::entries::{first_of, is_new, is_of, seen_in, size_in, size_of};
 use std::alloc::Global;
 use std::marker::Model;
-use sw_outside::NoMemory;
-use sw_object_steps::{Added, ObjEntry, Outline};
 use sw_history::Seen;
+use sw_object_steps::{Added, ObjEntry, Outline};
+use sw_outside::NoMemory;
 use sw_state::Write;
 
 /// What was done since a lock began: an entry for each write that was made, and a doubt for each that may have been.

@@ -183,7 +183,7 @@ module _ (name : Name) (w : Write) where
         let mid : Sight = p.0 in
         subst (λ (x : Sight). x.alone ≡ true → (x.objects.seen l).told ≡ true → held x ≡ with_write (held s)) (sym p.2.same)
         (λ alone told. step-holds mid.alone (s.objects.seen l) (s.objects.holds device) a (mid.objects.seen l) (held mid)
-            (at-lock s a mid is p.1) told alone has)
+        (at-lock s a mid is p.1) told alone has)
     heard-holds s (x ∷ xs) a t is p has = λ alone told.
         let mid : Sight = p.0 in
         let rest : Moves (IsAt device name.hash) mid t =

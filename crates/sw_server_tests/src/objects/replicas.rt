@@ -7,8 +7,8 @@ use std::test::Fail;
 use sw_diskfile::{Picked, read_name};
 use sw_hashpath::BadFile;
 use sw_message::{Response, write_response};
-use sw_outside::MemSink;
 use sw_object_steps::DirFault;
+use sw_outside::MemSink;
 use sw_replica_server::{
     ReplicaAsked, files_reply, hashes_reply, is_replication, read_replication,
 };

@@ -7,8 +7,8 @@ use std::test::Fail;
 use sw_hashpath::BadFile;
 use sw_message::{Response, write_response};
 use sw_object_server::{made_reply, reply_to, shown};
-use sw_outside::{Bytes, MemSink};
 use sw_object_steps::{Answer, Change, Got};
+use sw_outside::{Bytes, MemSink};
 use sw_state::{Content, Head, HeadList, Heads};
 use sw_timestamp::Timestamp;
 

@@ -73,4 +73,4 @@ returns-clause-run g c =
     c.status_of.ensures (c.take_trail.ensures.lines ∙ ap (λ (w : AllNodes _). w.lines) c.into_door-world.ensures)
     (c.take_trail.ensures.after ∙ ap without_lines c.into_door-world.ensures) c.from.ensures c.serve-ended.ensures.ticks c.give_back.ensures.world
     c.give_back.ensures.rests c.give_back.ensures.others c.give_back.ensures.told c.give_back.ensures.faults c.give_back.ensures.calls _ _
-        c.serve-ended.ensures.puts))
+    c.serve-ended.ensures.puts))

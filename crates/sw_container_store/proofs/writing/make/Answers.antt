@@ -28,7 +28,7 @@ loop-change-preserved g c =
 pub returns-clause-runs : goal.returns-clause-runs
 returns-clause-runs g c =
     runs-all g.D.Database.runs begin (map (asked_of c.args.place.now) c.args.batch.now) commit c.args.database.now c.run.new.self
-        c.loop-change.database c.run-2.new.self
+    c.loop-change.database c.run-2.new.self
     c.in_ok-run.ensures.runs
     (subst (λ (xs : List Change). RunsAll g.D.Database.runs (map (asked_of c.args.place.now) xs) c.run.new.self c.loop-change.database)
     (take_all c.loop-change.change-index c.args.batch.now

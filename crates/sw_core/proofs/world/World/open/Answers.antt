@@ -39,7 +39,7 @@ pub returns-clause-opens : goal.returns-clause-opens
 returns-clause-opens g c =
     let ring = c.args.ring.now in
     let slots = opened-slots c.in-Ok.secrets ring.power c.args.max_bytes c.args.parts.volumes.items c.in-Ok-lifted_slots.slots.items
-        c.open_slots.new.places.items
+    c.open_slots.new.places.items
     (same-count g c) (all-out g c) c.open_slots.ensures in
     let containers = empty-is c.len-count.result c.args.parts.volumes.items c.in-Ok-empty_locks.containers
     (omega (arith, c.len-count.ensures, c.args.parts.volumes.ok.0)) c.in-Ok-empty_locks.ensures in

@@ -62,8 +62,11 @@ pub returns-in-Ok-Refused-clause-served : goal.returns-in-Ok-Refused-clause-serv
 returns-in-Ok-Refused-clause-served g c =
     done_nothing g.S.V.Volume.tells g.S.V.Volume.holds g.S.V.Volume.faults g.S.Stores.faults g.S.Stores.calls g.S.Stores.out c.args.self.now.ring.now
     c.args.self.now.network.door c.args.self.now.stores c.args.request.now c.args._now c.bare.result c.requires.control c.requires.ready
-    (inl (controls.Refused, subst (IsControl c.args.self.now.ring.now c.args.request.now) c.in-Ok-Refused.field-0-is c.in-Ok-Refused.ensures.exact,
-    (refl, c.bare.ensures)))
+    (inl (
+      controls.Refused,
+      subst (IsControl c.args.self.now.ring.now c.args.request.now) c.in-Ok-Refused.field-0-is c.in-Ok-Refused.ensures.exact,
+      (refl, c.bare.ensures),
+    ))
 
 pub returns-in-Err-clause-served : goal.returns-in-Err-clause-served
 returns-in-Err-clause-served g c =
