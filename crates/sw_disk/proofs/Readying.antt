@@ -5,7 +5,7 @@ use Rattle.std.proofs.lemmas.List.{drop_more, drop_all}
 use Rattle.std.specs.List.{Contains}
 use Rattle.std.specs.Option.{option_map}
 use Rattle.sw_disk.proofs.States.{opens-folder_synced, opens-made}
-use Rattle.sw_disk.proofs.Turning.{is_path-self, rests-with_file}
+use Rattle.sw_disk.proofs.Turning.{is_path-self, rests-with_file, stood-set}
 use Rattle.sw_disk.proofs.Ways.{on_disk-made, on_disk-own}
 use Rattle.sw_disk.specs.Calls.{folder_synced, made, removed}
 use Rattle.sw_disk.specs.Disk.{DiskFile, DiskState, IsFilled}
@@ -37,7 +37,10 @@ module _ (s : DiskState) (name : List ℕ) where
 
   pub opens-removed : Rests IsOrdered s (removed s writing name)
   opens-removed = record {
-    order = λ ordered d filled. ordered d (filled-removed d filled);
+    order = λ ordered. record {
+      filled = λ d filled. ordered.filled d (filled-removed d filled);
+      stood = λ d has. stood-set s (is_path writing name d has.0) d has.0 ordered has.1;
+    };
     now = (rests-with_file s name None).now;
     left = (rests-with_file s name None).left;
   }

@@ -6,7 +6,7 @@ use Rattle.std.proofs.lemmas.Slice.Eq.{bytes_eq-Decides}
 use Rattle.std.specs.Str.{bytes_eq}
 use Rattle.sw_disk.specs.Calls.{folder_synced, made, is_made, synced_name, MayBe}
 use Rattle.sw_disk.specs.Crash.{IsLeft, IsLeftOfOne, IsOnDisk, MayLeave}
-use Rattle.sw_disk.specs.Disk.{DiskFile, DiskState, IsFilled}
+use Rattle.sw_disk.specs.Disk.{DiskFile, DiskState, HasSome, HasStood, IsFilled}
 use Rattle.sw_disk.specs.Keeping.{kept, IsInOrder, IsOrdered, Rests, writing}
 use Rattle.sw_disk.specs.Paths.{above, steps_above}
 
@@ -25,6 +25,7 @@ pub record Narrows (s t : DiskState) : Type 0 where
   pub stay : StaySynced s t
   pub files : t.files ≡ s.files
   pub earlier : (d f : List ℕ) (w : Option (List ℕ)) → IsLeftOfOne (t.earlier d f) w → IsLeftOfOne (s.earlier d f) w
+  pub stood : (d f : List ℕ) → HasSome (t.earlier d f) → HasSome (s.earlier d f)
 
 module _ (s t : DiskState) (narrows : Narrows s t) where
   left-narrows : (d f : List ℕ) (w : Option (List ℕ)) → IsLeftOfOne (t.files d f ∷ t.earlier d f) w → IsLeftOfOne (s.files d f ∷ s.earlier d f) w
@@ -34,6 +35,9 @@ module _ (s t : DiskState) (narrows : Narrows s t) where
   pub may_leave-narrows : (d f : List ℕ) (w : Option (List ℕ)) → MayLeave t d f w → MayLeave s d f w
   may_leave-narrows d f w (inl left) = inl (left-narrows d f w left)
   may_leave-narrows d f w (inr lost) = inr (lost.0, λ kept. lost.1 (on_disk s t narrows.stay d kept))
+
+  pub stood-narrows : IsOrdered s → (d : List ℕ) → HasStood t d → IsOnDisk t d
+  stood-narrows ordered d has = on_disk s t narrows.stay d (ordered.stood d (has.0, narrows.stood d has.0 has.1))
 
   pub in_order-narrows : (IsOrdered s → IsOrdered t) → IsInOrder s → IsInOrder t
   in_order-narrows ordered o = record { ordered = ordered o.ordered; writing = on_disk s t narrows.stay writing o.writing }
@@ -72,6 +76,10 @@ module _ (s : DiskState) (dir : List ℕ) where
   earlier-synced true es w left = absurd left
   earlier-synced false es w left = left
 
+  stood-synced : (b : Bool) (es : List (Option DiskFile)) → HasSome (cond b [] es) → HasSome es
+  stood-synced true es has = absurd has
+  stood-synced false es has = has
+
   there-synced : (b : Bool) (o : Option Bool) → IsSome (cond b (synced_name o) o) → IsSome o
   there-synced true None h = h
   there-synced true (Some k) h = refl
@@ -82,6 +90,7 @@ module _ (s : DiskState) (dir : List ℕ) where
     stay = λ d e. synced-synced_name (bytes_eq dir (above d)) (s.folders d) e;
     files = refl;
     earlier = λ d f w. earlier-synced (bytes_eq dir d) (s.earlier d f) w;
+    stood = λ d f. stood-synced (bytes_eq dir d) (s.earlier d f);
   }
 
   filled-synced : (d : List ℕ) → IsFilled (folder_synced s dir) d → IsFilled s d
@@ -89,7 +98,10 @@ module _ (s : DiskState) (dir : List ℕ) where
   filled-synced d (inr below) = inr (below.0, below.1, below.2, there-synced (bytes_eq dir (above below.0)) (s.folders below.0) below.3)
 
   ordered-synced : IsOrdered s → IsOrdered (folder_synced s dir)
-  ordered-synced ordered d filled = on_disk s (folder_synced s dir) narrows-synced.stay d (ordered d (filled-synced d filled))
+  ordered-synced ordered = record {
+    filled = λ d filled. on_disk s (folder_synced s dir) narrows-synced.stay d (ordered.filled d (filled-synced d filled));
+    stood = stood-narrows s (folder_synced s dir) narrows-synced ordered;
+  }
 
   pub rests-folder_synced : Rests IsInOrder s (folder_synced s dir)
   rests-folder_synced = rests-narrows s (folder_synced s dir) narrows-synced IsInOrder (in_order-narrows s (folder_synced s dir) narrows-synced ordered-synced)
@@ -106,21 +118,29 @@ module _ (s : DiskState) (dir : List ℕ) where
   synced-made false o e = e
 
   narrows-made : Narrows s (made s dir)
-  narrows-made = record { stay = λ d e. synced-made (bytes_eq dir d) (s.folders d) e; files = refl; earlier = λ d f w left. left }
+  narrows-made = record {
+    stay = λ d e. synced-made (bytes_eq dir d) (s.folders d) e;
+    files = refl;
+    earlier = λ d f w left. left;
+    stood = λ d f has. has;
+  }
 
   there-made : (b : Bool) (o : Option Bool) → b ≡ false → IsSome (cond b (is_made o) o) → IsSome o
   there-made true o e h = cc
   there-made false o e h = h
 
   filled-made : IsOnDisk s (above dir) → IsOrdered s → (d : List ℕ) → IsFilled (made s dir) d → IsOnDisk s d
-  filled-made kept ordered d (inl file) = ordered d (inl file)
+  filled-made kept ordered d (inl file) = ordered.filled d (inl file)
   filled-made kept ordered d (inr below) = ⊎_elim
       (λ same. subst (λ (x : List ℕ). IsOnDisk s x) (ap above ((bytes_eq-Decides dir below.0).0 same) ∙ below.2) kept)
-      (λ other. ordered d (inr (below.0, below.1, below.2, there-made (bytes_eq dir below.0) (s.folders below.0) other below.3)))
+      (λ other. ordered.filled d (inr (below.0, below.1, below.2, there-made (bytes_eq dir below.0) (s.folders below.0) other below.3)))
       (cases_Bool (bytes_eq dir below.0))
 
   ordered-made : IsOnDisk s (above dir) → IsOrdered s → IsOrdered (made s dir)
-  ordered-made kept ordered d filled = on_disk s (made s dir) narrows-made.stay d (filled-made kept ordered d filled)
+  ordered-made kept ordered = record {
+    filled = λ d filled. on_disk s (made s dir) narrows-made.stay d (filled-made kept ordered d filled);
+    stood = stood-narrows s (made s dir) narrows-made ordered;
+  }
 
   pub rests-made : IsOnDisk s (above dir) → Rests IsInOrder s (made s dir)
   rests-made kept = rests-narrows s (made s dir) narrows-made IsInOrder (in_order-narrows s (made s dir) narrows-made (ordered-made kept))

@@ -8,7 +8,7 @@ use Rattle.std.specs.Str.{bytes_eq}
 use Rattle.sw_disk.proofs.States.{on_disk, rests-none, stay-folder_synced}
 use Rattle.sw_disk.specs.Calls.{created, file_synced, synced_file, folder_synced, moved, removed, with_file, MayBe, MayCreate}
 use Rattle.sw_disk.specs.Crash.{IsLeft, IsLeftOfOne, IsOnDisk, MayLeave}
-use Rattle.sw_disk.specs.Disk.{DiskFile, DiskState, IsFilled}
+use Rattle.sw_disk.specs.Disk.{DiskFile, DiskState, HasSome, HasStood, IsFilled}
 use Rattle.sw_disk.specs.Keeping.{kept, IsDurable, IsInOrder, IsOrdered, Rests, Turns, writing}
 use Rattle.sw_disk.specs.Paths.{is_path, steps_above}
 use Rattle.sw_disk.specs.Standings.{bytes_at}
@@ -47,9 +47,15 @@ module _ (s t : DiskState) (folders : t.folders ≡ s.folders) (files : (d f : L
   filled-written : IsInOrder s → (d : List ℕ) → IsFilled t d → IsOnDisk s d
   filled-written o d (inl file) = ⊎_elim
       (λ same. subst (λ (x : List ℕ). IsOnDisk s x) ((bytes_eq-Decides writing d).0 same) o.writing)
-      (λ other. o.ordered d (inl (file.0, subst (λ (x : Option DiskFile). IsSome x) (files d file.0 (λ e. cc (equals writing d (sym e)))) file.1)))
+      (λ other. o.ordered.filled d (inl (file.0, subst (λ (x : Option DiskFile). IsSome x) (files d file.0 (λ e. cc (equals writing d (sym e)))) file.1)))
       (cases_Bool (bytes_eq writing d))
-  filled-written o d (inr below) = o.ordered d (inr (below.0, below.1, below.2, subst (λ (fs : List ℕ → Option Bool). IsSome (fs below.0)) folders below.3))
+  filled-written o d (inr below) = o.ordered.filled d (inr (below.0, below.1, below.2, subst (λ (fs : List ℕ → Option Bool). IsSome (fs below.0)) folders below.3))
+
+  stood-written : IsInOrder s → (d : List ℕ) → HasStood t d → IsOnDisk s d
+  stood-written o d has = ⊎_elim
+      (λ same. subst (λ (x : List ℕ). IsOnDisk s x) ((bytes_eq-Decides writing d).0 same) o.writing)
+      (λ other. o.ordered.stood d (has.0, subst HasSome (earlier d has.0 (λ e. cc (equals writing d (sym e)))) has.1))
+      (cases_Bool (bytes_eq writing d))
 
   kept-written : (b : Bool) (d f : List ℕ) → (b ≡ false → ¬ (d ≡ writing)) →
       cond b None (option_map (λ (x : DiskFile). x.bytes) (t.files d f)) ≡ cond b None (option_map (λ (x : DiskFile). x.bytes) (s.files d f))
@@ -63,7 +69,13 @@ module _ (s t : DiskState) (folders : t.folders ≡ s.folders) (files : (d f : L
 
   pub rests-written : Rests IsInOrder s t
   rests-written = record {
-    order = λ o. record { ordered = λ d filled. on_disk-same d (filled-written o d filled); writing = on_disk-same writing o.writing };
+    order = λ o. record {
+      ordered = record {
+        filled = λ d filled. on_disk-same d (filled-written o d filled);
+        stood = λ d has. on_disk-same d (stood-written o d has);
+      };
+      writing = on_disk-same writing o.writing;
+    };
     now = λ d f. kept-written (bytes_eq writing d) d f (λ off e. cc (off, equals writing d (sym e)));
     left = left-written;
   }
@@ -94,17 +106,29 @@ whole-written s t u name bytes is_made is_synced =
     ∙ cond-true (is_path writing name writing name) (option_map synced_file (t.files writing name)) (t.files writing name) (is_path-self writing name)
     ∙ ap (λ (o : Option DiskFile). option_map synced_file o) there
 
+-- what stood at a path before it was set
+pub stood-set : (s : DiskState) (b : Bool) (d f : List ℕ) → IsOrdered s → HasSome (cond b (s.files d f ∷ s.earlier d f) (s.earlier d f)) → IsOnDisk s d
+stood-set s true d f ordered (inl stands) = ordered.filled d (inl (f, stands))
+stood-set s true d f ordered (inr has) = ordered.stood d (f, has)
+stood-set s false d f ordered has = ordered.stood d (f, has)
+
 -- one path was set to what a crash leaves as w alone
 module _ (s : DiskState) (dir file : List ℕ) (e : Option DiskFile) (w : Option (List ℕ)) (place : ¬ (dir ≡ writing))
     (left : (x : Option (List ℕ)) → IsLeft e x → x ≡ w) (bytes : option_map (λ (f : DiskFile). f.bytes) e ≡ w) (filled : IsSome e → IsOnDisk s dir) where
   filled-set : (b : Bool) (d f : List ℕ) → (b ≡ true → d ≡ dir) → IsOrdered s → IsSome (cond b e (s.files d f)) → IsOnDisk s d
   filled-set true d f here ordered there = subst (λ (x : List ℕ). IsOnDisk s x) (sym (here refl)) (filled there)
-  filled-set false d f here ordered there = ordered d (inl (f, there))
+  filled-set false d f here ordered there = ordered.filled d (inl (f, there))
+
+  filled-after : IsOrdered s → (d : List ℕ) → IsFilled (with_file s dir file e) d → IsOnDisk s d
+  filled-after ordered d (inl there) = filled-set (is_path dir file d there.0) d there.0
+      (λ on. sym ((bytes_eq-Decides dir d).0 (and_on (bytes_eq dir d) (bytes_eq file there.0) on).0)) ordered there.1
+  filled-after ordered d (inr below) = ordered.filled d (inr below)
 
   pub ordered-set : IsOrdered s → IsOrdered (with_file s dir file e)
-  ordered-set ordered d (inl there) = filled-set (is_path dir file d there.0) d there.0
-      (λ on. sym ((bytes_eq-Decides dir d).0 (and_on (bytes_eq dir d) (bytes_eq file there.0) on).0)) ordered there.1
-  ordered-set ordered d (inr below) = ordered d (inr below)
+  ordered-set ordered = record {
+    filled = filled-after ordered;
+    stood = λ d has. stood-set s (is_path dir file d has.0) d has.0 ordered has.1;
+  }
 
   set-there : (b c : Bool) (old : Option DiskFile) → b ≡ false → c ≡ true → cond b None (option_map (λ (f : DiskFile). f.bytes) (cond c e old)) ≡ w
   set-there true c old off on = cc
@@ -243,6 +267,37 @@ durable-removed s t u dir file is_removed is_synced =
     subst (λ (x : DiskState). IsDurable x dir file None) (sym is_synced)
     (durable-synced t dir file None (λ x left. subst (λ (o : Option DiskFile). IsLeft o x) there left) (λ lost. refl)
     (on_disk t (folder_synced t dir) (stay-folder_synced t dir)))
+
+-- what is left of one of these is none, or there is a file among them
+none_or_some : (es : List (Option DiskFile)) (x : Option (List ℕ)) → IsLeftOfOne es x → (x ≡ None) ⊎ HasSome es
+none_or_some [] x one = absurd one
+none_or_some (None ∷ es) x (inl now) = inl now
+none_or_some (None ∷ es) x (inr was) = ⊎_elim (λ e. inl e) (λ has. inr (inr has)) (none_or_some es x was)
+none_or_some (Some f ∷ es) x one = inr (inl refl)
+
+-- no file stands where no bytes are, nor in a folder that isn't there
+stands_nowhere : {P : Type 0} (o : Option DiskFile) → option_map (λ (f : DiskFile). f.bytes) o ≡ None → IsSome o → P
+stands_nowhere None e h = cc
+stands_nowhere (Some f) e h = cc
+
+module _ (s : DiskState) (dir file : List ℕ) (ordered : IsOrdered s) (below : ¬ (dir ≡ [])) (missing : s.folders dir ≡ None)
+    (none : bytes_at s dir file ≡ None) where
+  nothing_stood : {P : Type 0} → HasSome (s.files dir file ∷ s.earlier dir file) → P
+  nothing_stood (inl stands) = stands_nowhere (s.files dir file) none stands
+  nothing_stood (inr has) = let there : s.folders dir ≡ Some true = ordered.stood dir (file, has) 0 below in cc
+
+  pub durable-missing : IsDurable s dir file None
+  durable-missing x (inl one) = ⊎_elim (λ e. e) (λ has. nothing_stood has) (none_or_some (s.files dir file ∷ s.earlier dir file) x one)
+  durable-missing x (inr gone) = gone.0
+
+-- where no file stands, and the folder is synced
+pub durable-none : (s t : DiskState) (dir file : List ℕ) → bytes_at s dir file ≡ None → t ≡ folder_synced s dir → IsDurable t dir file None
+durable-none s t dir file none is_synced = subst (λ (x : DiskState). IsDurable x dir file None) (sym is_synced)
+    (durable-synced s dir file None (no_left (s.files dir file) none) (λ lost. refl) (on_disk s (folder_synced s dir) (stay-folder_synced s dir)))
+  where
+    no_left : (o : Option DiskFile) → option_map (λ (f : DiskFile). f.bytes) o ≡ None → (x : Option (List ℕ)) → IsLeft o x → x ≡ None
+    no_left None e x left = left
+    no_left (Some f) e x left = cc
 
 -- no file is kept where none stands
 module _ (s : DiskState) (dir file : List ℕ) (none : bytes_at s dir file ≡ None) where

@@ -23,7 +23,7 @@ on_disk-own s dir e = λ n ne. absurd (ne (ap (steps_above n) e ∙ steps_above-
 -- an empty folder that was found, synced into the one above it
 pub on_disk-empty : (s t : DiskState) (dir : List ℕ) → ¬ (dir ≡ []) → IsOrdered s → IsSome (s.folders dir) → t ≡ folder_synced s (above dir) → IsOnDisk t dir
 on_disk-empty s t dir ne ordered there e = subst (λ (x : DiskState). IsOnDisk x dir) (sym e)
-    (on_disk-synced s dir (ordered (above dir) (inr (dir, ne, refl, there))) there)
+    (on_disk-synced s dir (ordered.filled (above dir) (inr (dir, ne, refl, there))) there)
 
 -- one that was made, and then synced into the one above it
 pub on_disk-made : (s t u : DiskState) (dir : List ℕ) → IsOnDisk s (above dir) → t ≡ made s dir → u ≡ folder_synced t (above dir) → IsOnDisk u dir

@@ -1,5 +1,5 @@
 -- What a disk is at one moment. (This project's own.)
-use Rattle.std.specs.Prelude.{◌≡◌, ℕ, Bool, List, [], Option, IsSome}
+use Rattle.std.specs.Prelude.{◌≡◌, ℕ, Bool, List, [], ◌∷◌, Option, IsSome}
 use Rattle.std.proofs.Common.{◌⊎◌}
 use Rattle.sw_disk.specs.Paths.{above}
 
@@ -21,6 +21,15 @@ HasFile s dir = (file : List ℕ) × IsSome (s.files dir file)
 -- a folder stands in another
 abbrev pub HasFolder : DiskState → List ℕ → Type 0
 HasFolder s dir = (d : List ℕ) × ¬ (d ≡ []) × (above d ≡ dir) × IsSome (s.folders d)
+
+-- a file is among what stood at a name
+abbrev pub HasSome : List (Option DiskFile) → Type 0
+HasSome [] = ⊥
+HasSome (e ∷ es) = IsSome e ⊎ HasSome es
+
+-- a file stood in a folder since that was synced
+abbrev pub HasStood : DiskState → List ℕ → Type 0
+HasStood s dir = (file : List ℕ) × HasSome (s.earlier dir file)
 
 -- something stands in a folder
 abbrev pub IsFilled : DiskState → List ℕ → Type 0

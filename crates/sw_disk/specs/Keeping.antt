@@ -4,7 +4,7 @@ use Rattle.std.proofs.Common.{◌⊎◌}
 use Rattle.std.specs.Option.{option_map}
 use Rattle.std.specs.Str.{bytes_eq}
 use Rattle.sw_disk.specs.Crash.{IsOnDisk, MayLeave}
-use Rattle.sw_disk.specs.Disk.{DiskState, IsFilled}
+use Rattle.sw_disk.specs.Disk.{DiskState, HasStood, IsFilled}
 use Rattle.sw_volume.specs.Volume.{Contents, IsSame, MaySet}
 
 -- the folder in which files are written before they are moved to their places: none of these is kept
@@ -15,9 +15,10 @@ writing = codes "tmp"
 abbrev pub kept : DiskState → Contents
 kept s dir file = cond (bytes_eq writing dir) None (option_map (λ f. f.bytes) (s.files dir file))
 
--- a folder in which anything stands outlives each crash
-abbrev pub IsOrdered : DiskState → Type 0
-IsOrdered s = (dir : List ℕ) → IsFilled s dir → IsOnDisk s dir
+-- a folder in which anything stands outlives each crash, and so does one in which a crash may bring a file back
+pub record IsOrdered (s : DiskState) : Type 0 where
+  pub filled : (dir : List ℕ) → IsFilled s dir → IsOnDisk s dir
+  pub stood : (dir : List ℕ) → HasStood s dir → IsOnDisk s dir
 
 -- a volume's disk: it is ordered, and has the folder for writing
 pub record IsInOrder (s : DiskState) : Type 0 where

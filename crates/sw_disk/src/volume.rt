@@ -1,4 +1,4 @@
-ghost use Rattle.std.specs.Prelude.{◌≡◌, ◌≤◌, ◌⊎◌, [], true, false, Some, None, IsSome, IfOk, IfErr, OnOk, OnErr};
+ghost use Rattle.std.specs.Prelude.{◌≡◌, ◌≤◌, ◌⊎◌, ⊤, ℕ, List, [], true, false, Some, None, Err, IsSome, IfOk, IfErr, OnOk, OnErr};
 ghost use Rattle.sw_outside.specs.Faults as outside;
 ghost use Rattle.sw_outside.specs.Counts.{raised};
 ghost use Rattle.sw_disk.specs.Keeping.{kept, IsDurable, IsInOrder, IsOrdered, Rests, Turns, writing};
@@ -20,9 +20,9 @@ use sw_volume::{Listing, Volume, VolumeError};
 /// A volume over a disk. It tells nothing of what it holds, since it lists folders that stay when their last file is gone; its own clauses tell, where the disk
 /// does.
 ///
-/// A file that was put stands there whole after each crash from then on, and one that was being put is there whole or not at all. That holds of a disk in
-/// order, as one is that was opened, and each call keeps it so. A path is refused where it isn't one of a volume: the call fails, and nothing is asked of the
-/// disk.
+/// A file that was put stands there whole after each crash from then on, and one that was being put is there whole or not at all; one that was taken away is
+/// gone after each, and one that was being taken away is there whole or gone. That holds of a disk in order, as one is that was opened, and each call keeps it
+/// so. A path is refused where it isn't one of a volume: the call fails, and nothing is asked of the disk.
 #[derive(Drop)]
 pub struct DiskVolume<D: Disk + Drop> {
     pub disk: D,
@@ -34,13 +34,17 @@ pub struct DiskVolume<D: Disk + Drop> {
 
 impl<D: Disk + Drop> DiskVolume<D> {
     /// The volume over a disk as an earlier one left it, maybe cut off by a crash, for the process of this number. What was being written then is taken away.
-    /// With an error the disk is given back.
+    /// With an error the disk is given back. It fails where a call on the disk did, and nowhere else.
     pub fn open(alloc: Global, disk: D, owner: u32) -> Result<DiskVolume<D>, (VolumeError, D)>
         requires { D.tells disk ≡ true → IsOrdered (D.now disk) }
         ensures untouched { IfOk result (λ v. (v.calls ≡ 0) × (v.faults ≡ 0) × (v.lists ≡ 0)) }
         ensures ready { IfOk result (λ v. D.tells disk ≡ true → IsInOrder (D.now v.disk)) }
+        ensures empty { IfOk result (λ v. D.tells disk ≡ true → (file : List ℕ) → (D.now v.disk).files writing file ≡ None) }
         ensures placed { IfOk result (λ v. D.place v.disk ≡ D.place disk) }
         ensures time { IfOk result (λ v. D.tells disk ≡ true → Passes (Rests IsOrdered) (D.now disk) (D.past disk) (D.now v.disk) (D.past v.disk)) }
+        ensures sound { IfOk result (λ v. D.faults v.disk ≡ D.faults disk) }
+        ensures failed { IfErr result (λ e. HasCause {T = ⊤} (D.faults disk) (D.faults e.1) (Err e.0)) }
+        ensures told { IfOk result (λ v. D.tells v.disk ≡ D.tells disk) }
         ensures time_err { IfErr result (λ e. D.tells disk ≡ true → Passes (Rests IsOrdered) (D.now disk) (D.past disk) (D.now e.1) (D.past e.1)) }
     {
         let mut disk = disk;
@@ -196,7 +200,7 @@ impl<D: Disk + Drop> Volume for DiskVolume<D> {
         ensures calls { self.new.calls ≡ raised self.old.calls }
         ensures lists { self.new.lists ≡ self.old.lists }
         ensures set { OnOk result (D.tells self.old.disk ≡ true → Sets (kept (D.now self.old.disk)) (kept (D.now self.new.disk)) dir.now file.now None) }
-        ensures durable { OnOk result (D.tells self.old.disk ≡ true → IsSome (kept (D.now self.old.disk) dir.now file.now) →
+        ensures durable { OnOk result (D.tells self.old.disk ≡ true → IsInOrder (D.now self.old.disk) →
             IsDurable (D.now self.new.disk) dir.now file.now None) }
         ensures time { D.tells self.old.disk ≡ true →
             Passes (Turns dir.now file.now None) (D.now self.old.disk) (D.past self.old.disk) (D.now self.new.disk) (D.past self.new.disk) }
