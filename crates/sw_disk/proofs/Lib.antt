@@ -8,3 +8,5 @@ mod Readying
 mod Kept
 mod Logs
 mod Makes
+mod Crashes
+mod Lives

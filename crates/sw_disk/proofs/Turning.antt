@@ -269,7 +269,7 @@ durable-removed s t u dir file is_removed is_synced =
     (on_disk t (folder_synced t dir) (stay-folder_synced t dir)))
 
 -- what is left of one of these is none, or there is a file among them
-none_or_some : (es : List (Option DiskFile)) (x : Option (List ℕ)) → IsLeftOfOne es x → (x ≡ None) ⊎ HasSome es
+pub none_or_some : (es : List (Option DiskFile)) (x : Option (List ℕ)) → IsLeftOfOne es x → (x ≡ None) ⊎ HasSome es
 none_or_some [] x one = absurd one
 none_or_some (None ∷ es) x (inl now) = inl now
 none_or_some (None ∷ es) x (inr was) = ⊎_elim (λ e. inl e) (λ has. inr (inr has)) (none_or_some es x was)

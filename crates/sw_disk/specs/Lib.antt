@@ -8,3 +8,6 @@ pub mod Standings
 pub mod Places
 pub mod Changes
 pub mod Folders
+pub mod Leaving
+pub mod Lives
+pub mod Laws

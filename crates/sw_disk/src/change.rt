@@ -5,9 +5,9 @@ ghost use Rattle.sw_disk.specs.Folders.{makes, makes_in, name_in};
 use crate::paths::{above, last_name};
 use sw_outside::Bytes;
 
-/// A call that changed a disk in memory.
+/// A call that changed a disk in memory, which began with nothing on it.
 #[derive(Debug, Drop)]
-pub(crate) enum Change {
+pub enum Change {
     Created {
         dir: Bytes,
         file: Bytes,
@@ -37,7 +37,7 @@ pub(crate) enum Change {
 
 impl Change {
     /// Whether it made this folder.
-    pub fn makes(&self, folder: &[u8]) -> bool
+    pub(crate) fn makes(&self, folder: &[u8]) -> bool
         ensures { result ≡ makes folder.now self.now }
     {
         match self {
@@ -47,7 +47,7 @@ impl Change {
     }
 
     /// Whether it made a folder in this one.
-    pub fn makes_in(&self, folder: &[u8]) -> bool
+    pub(crate) fn makes_in(&self, folder: &[u8]) -> bool
         ensures { result ≡ makes_in folder.now self.now }
     {
         match self {
@@ -59,7 +59,7 @@ impl Change {
     }
 
     /// The last name of the folder that it made in this one, where it made one there.
-    pub fn name_in(&self, folder: &[u8]) -> Option<&[u8]>
+    pub(crate) fn name_in(&self, folder: &[u8]) -> Option<&[u8]>
         ensures { option_map (λ name. name.now) result ≡ name_in folder.now self.now }
     {
         match self {

@@ -3,11 +3,15 @@
 //! A [`Disk`] has folders, and files at names of these. Contracts see what stands there at each moment, and what a crash may leave of it: a file, and a name
 //! of a folder, is left for sure once it was synced. A [`DiskVolume`] is a volume over a disk. What it acknowledged is there after each crash, and what it was
 //! at is there whole or not at all.
+//!
+//! What this comes to over any number of starts, calls, kills and crashes, one after the other, is said in [`laws`]: a crash leaves a disk on which a start may
+//! follow, and what was acknowledged on it.
 #![tactic(auto)]
 
 mod change;
 mod disk;
 mod disk_log;
+pub mod laws;
 mod mem_disk;
 mod names;
 mod opening;
@@ -16,6 +20,7 @@ mod places;
 mod volume;
 mod writing;
 
+pub use change::Change;
 pub use disk::{Disk, Standing};
 pub use mem_disk::MemDisk;
 pub use places::{is_directory, is_place};

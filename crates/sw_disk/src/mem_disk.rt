@@ -4,6 +4,7 @@ ghost use Rattle.sw_outside.specs.Failing.{failure_at};
 ghost use Rattle.sw_outside.specs.Faults.{HasCause, HasRisen};
 ghost use Rattle.sw_disk.specs.Changes.{blank, run};
 
+use crate::change::Change;
 use crate::disk::{Disk, Standing};
 use crate::disk_log::DiskLog;
 use std::alloc::Global;
@@ -33,6 +34,14 @@ impl MemDisk {
             calls: 0,
             faults: 0,
         }
+    }
+
+    /// The changes that were made of it, each in its turn. Its states are what they make of a disk with nothing on it: so tests can tell what a crash leaves.
+    pub fn changes(&self) -> &[Change]
+        ensures now { (run result.now).now ≡ ⟦<MemDisk as Disk>⟧.now self.now }
+        ensures past { (run result.now).past ≡ ⟦<MemDisk as Disk>⟧.past self.now }
+    {
+        &self.log.changes
     }
 
     /// Counts a call, and answers whether its failure leaves its change made, where it is to fail.
