@@ -1,5 +1,5 @@
 -- The databases that are open, the one that was used longest ago first. (This project's own.)
-use Rattle.std.specs.Prelude.{ℕ, Bool, ◌&&◌, List, Option, None, Some, drop, nat_le, length, if◌then◌else◌, position, slice_get}
+use Rattle.std.specs.Prelude.{ℕ, Bool, ◌&&◌, List, Option, None, Some, drop, nat_le, length, if◌then◌else◌, is_some, position, slice_get}
 use Rattle.std.specs.List.{remove}
 use Rattle.std.specs.Str.{bytes_eq}
 use Rattle.sw_hashpath.specs.declared.place.Place.{Place}
@@ -34,3 +34,7 @@ module _ {D : Type 0} where
   -- those that stay where one more is to be opened: of 16 the first is closed
   abbrev pub after_room : List (OpenDatabase D) → List (OpenDatabase D)
   after_room list = if nat_le 16 (length list) then drop 1 list else list
+
+  -- those that are open beside the database of a place: where it is to be opened there is room for it
+  abbrev pub beside : List (OpenDatabase D) → Place → List (OpenDatabase D)
+  beside list place = if is_some (found_at list place) then without list place else after_room list

@@ -8,6 +8,7 @@ use Rattle.sw_keeper.specs.declared.batch.Change.{Change}
 use Rattle.sw_keeper.specs.declared.batch.Change.TheVariants.{Times, PutRow, CutRow}
 use Rattle.sw_rows.specs.declared.numbered.Numbered.{Numbered}
 use Rattle.sw_rows.specs.declared.row.Row.{Row}
+use Rattle.sw_container_store.specs.declared.reading.Info.{Info}
 use Rattle.sw_container_store.specs.declared.statements.Command.{Command}
 use Rattle.sw_container_store.specs.declared.statements.Command.TheVariants as command
 use Rattle.sw_timestamp.specs.TimeText.{text_of}
@@ -20,6 +21,11 @@ time_value (Some time) = Text (text_of time)
 -- which container a database is, and its times
 abbrev pub info_values : Place → ℕ → Option ℕ → SqlRow
 info_values place put_time delete_time = Text place.account ∷ Text place.container ∷ Blob place.hash ∷ Text (text_of put_time) ∷ time_value delete_time ∷ []
+
+-- the rows of information of a database: none where nothing was kept in it yet
+abbrev pub info_rows : Option Info → List SqlRow
+info_rows None = []
+info_rows (Some info) = info_values info.place info.put_time info.delete_time ∷ []
 
 -- a row under its number
 abbrev pub row_values : ℕ → Row → SqlRow

@@ -1,5 +1,7 @@
-ghost use Rattle.std.specs.Prelude.{◌≡◌, ◌<◌, [], length, true, false, None, Ok, IfOk, OnOk};
-ghost use Rattle.sw_container_store.specs.Making.{IsMade, IsReached};
+ghost use Rattle.std.specs.Prelude.{◌≡◌, ◌<◌, [], length, is_some, true, false, None, Ok, IfNone, IfOk, IsErr, OnErr, OnOk, OnSome};
+ghost use Rattle.sw_container_store.specs.Making.{IsMade};
+ghost use Rattle.sw_container_store.specs.OpenList.{after_room, beside, found_at, without};
+ghost use Rattle.sw_container_store.specs.Opening.{IsOpened, IsReached, IsTaken};
 ghost use Rattle.sw_keeper.specs.Changes.{IsBatch};
 ghost use Rattle.sw_keeper.specs.Keeping.{Changes, HasCause, IsSame, MayChange, OnFailed, OnNoMemory};
 ghost use Rattle.sw_outside.specs.Counts.{raised};
@@ -17,8 +19,9 @@ use sw_outside::{NoMemory, StoreError};
 /// A keeper over databases, one for each container, which tells nothing of what it holds. A batch is one transaction; a place at which no times were ever put
 /// holds nothing.
 ///
-/// At most 16 databases are open, and the one that was used longest ago is closed for another. One whose call has failed is open no more, so that the next call
-/// opens it anew. The time of `names` grows with the number of containers and with what is in them, since an open looks at the whole of a database.
+/// At most 16 databases are open, and the one that was used longest ago is closed for another. One that is open is used only while its file is there: a call
+/// fails where it is gone. One whose call has failed is open no more, so that the next call opens it anew. The time of `names` grows with the number of
+/// containers and with what is in them, since an open looks at the whole of a database.
 #[derive(Drop)]
 pub struct ContainerStore<H: Databases> {
     databases: H,
@@ -44,8 +47,10 @@ impl<H: Databases> ContainerStore<H> {
     fn told<T>(&mut self, answer: Result<T, StoreError>) -> Result<T, KeeperError>
         ensures ok { IfOk result (λ value. answer ≡ Ok value) }
         ensures cause { HasCause self.old.faults self.new.faults result }
+        ensures err { OnErr result (IsErr answer) }
         ensures calls { self.new.calls ≡ self.old.calls }
         ensures opened { self.new.opened ≡ self.old.opened }
+        ensures databases { self.new.databases ≡ self.old.databases }
     {
         match answer {
             Ok(value) => Ok(value),
@@ -58,17 +63,36 @@ impl<H: Databases> ContainerStore<H> {
         }
     }
 
-    /// The database of a place, taken out of those that are open, or opened.
-    fn reach(&mut self, alloc: Global, place: &Place) -> Result<OpenDatabase<H::Open>, StoreError>
-        ensures reached { IfOk result (λ entry. IsReached self.old.opened place.now entry.database) }
-        ensures room { OnOk result (length self.new.opened < 16) }
+    /// The database of a place, taken out of those that are open. Where its file is gone it isn't used, since nobody would find what is put into it.
+    fn take(&mut self, place: &Place) -> Result<Option<OpenDatabase<H::Open>>, StoreError>
+        ensures found { IfOk result (λ entry. entry ≡ found_at self.old.opened place.now) }
+        ensures taken { IfOk result (λ entry. IsTaken H.finds self.old.databases self.new.databases place.now entry) }
+        ensures rest { self.new.opened ≡ without self.old.opened place.now }
+        ensures same { IfOk result (λ entry. IfNone entry (self.new.opened ≡ self.old.opened)) }
+        ensures failed { OnErr result (is_some (found_at self.old.opened place.now) ≡ true) }
+        ensures room { IfOk result (λ entry. OnSome entry (length self.new.opened < 16)) }
         ensures counts { (self.new.calls ≡ self.old.calls) × (self.new.faults ≡ self.old.faults) }
     {
-        if let Some(entry) = self.opened.take(place) {
-            return Ok(entry);
+        let Some(entry) = self.opened.take(place) else {
+            return Ok(None);
+        };
+        let is_there = self.databases.is_there(&place.hash)?;
+        if is_there {
+            Ok(Some(entry))
+        } else {
+            Err(entry.database.refuse(Damage::Gone))
         }
-        let copy = place.copy(alloc)?;
+    }
+
+    /// The database of a place, opened. Where 16 are open the one that was used longest ago is closed.
+    fn open(&mut self, alloc: Global, place: &Place) -> Result<OpenDatabase<H::Open>, StoreError>
+        ensures opened { IfOk result (λ entry. IsOpened H.opens H.Open.shows self.old.databases self.new.databases place.now entry) }
+        ensures rest { self.new.opened ≡ after_room self.old.opened }
+        ensures room { length self.new.opened < 16 }
+        ensures counts { (self.new.calls ≡ self.old.calls) × (self.new.faults ≡ self.old.faults) }
+    {
         self.opened.make_room();
+        let copy = place.copy(alloc)?;
         let mut database = self.databases.open(alloc, &place.hash)?;
         check(alloc, &mut database, place)?;
         Ok(OpenDatabase {
@@ -77,14 +101,28 @@ impl<H: Databases> ContainerStore<H> {
         })
     }
 
+    /// The database of a place, taken out of those that are open, or opened.
+    fn reach(&mut self, alloc: Global, place: &Place) -> Result<OpenDatabase<H::Open>, StoreError>
+        ensures reached { IfOk result (λ entry. IsReached H.finds H.opens H.Open.shows self.old.databases self.new.databases self.old.opened place.now entry) }
+        ensures rest { self.new.opened ≡ beside self.old.opened place.now }
+        ensures room { OnOk result (length self.new.opened < 16) }
+        ensures counts { (self.new.calls ≡ self.old.calls) × (self.new.faults ≡ self.old.faults) }
+    {
+        match self.take(place)? {
+            Some(entry) => Ok(entry),
+            None => self.open(alloc, place),
+        }
+    }
+
     /// The tables that are in the database of a place, where there is one.
     fn read(&mut self, alloc: Global, place: &Place) -> Result<Option<Tables>, StoreError>
         ensures counts { (self.new.calls ≡ self.old.calls) × (self.new.faults ≡ self.old.faults) }
     {
-        if !self.opened.has(place) && !self.databases.is_there(&place.hash)? {
-            return Ok(None);
-        }
-        let mut entry = self.reach(alloc, place)?;
+        let mut entry = match self.take(place)? {
+            Some(entry) => entry,
+            None if !self.databases.is_there(&place.hash)? => return Ok(None),
+            None => self.open(alloc, place)?,
+        };
         let tables = tables_in(alloc, &mut entry.database, place)?;
         self.opened.put(entry);
         Ok(tables)
@@ -92,7 +130,9 @@ impl<H: Databases> ContainerStore<H> {
 
     /// Makes a batch in the database of a place.
     fn write(&mut self, alloc: Global, place: &Place, batch: &Batch) -> Result<(), StoreError>
-        ensures made { OnOk result (IsMade H.Open.runs self.old.opened self.new.opened place.now batch.now) }
+        ensures made { OnOk result (IsMade H.finds H.opens H.Open.shows H.Open.runs self.old.databases self.new.databases self.old.opened self.new.opened
+            place.now batch.now) }
+        ensures failed { OnErr result (self.new.opened ≡ beside self.old.opened place.now) }
         ensures counts { (self.new.calls ≡ self.old.calls) × (self.new.faults ≡ self.old.faults) }
     {
         let mut entry = self.reach(alloc, place)?;
@@ -121,6 +161,9 @@ impl<H: Databases> ContainerStore<H> {
         ensures counts { (self.new.calls ≡ self.old.calls) × (self.new.faults ≡ self.old.faults) }
     {
         if let Some(mut entry) = self.opened.take_by_hash(hash) {
+            if !self.databases.is_there(hash)? {
+                return Err(entry.database.refuse(Damage::Gone));
+            }
             let info = info_in(alloc, &mut entry.database)?;
             self.opened.put(entry);
             return Ok(info.map(|info| info.place));
@@ -179,7 +222,9 @@ impl<H: Databases> Keeper for ContainerStore<H> {
         ensures told { false ≡ false }
         ensures cause { HasCause self.old.faults self.new.faults result }
         ensures calls { self.new.calls ≡ raised self.old.calls }
-        ensures made { OnOk result (IsMade H.Open.runs self.old.opened self.new.opened place.now batch.now) }
+        ensures made { OnOk result (IsMade H.finds H.opens H.Open.shows H.Open.runs self.old.databases self.new.databases self.old.opened self.new.opened
+            place.now batch.now) }
+        ensures gone { OnErr result (self.new.opened ≡ beside self.old.opened place.now) }
     {
         self.calls = self.calls.saturating_add(1);
         let made = self.write(alloc, place, batch);

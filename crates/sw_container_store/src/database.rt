@@ -1,4 +1,4 @@
-ghost use Rattle.std.specs.Prelude.{◌≡◌, IfOk, OnOk, List, ℕ, string_bytes};
+ghost use Rattle.std.specs.Prelude.{◌≡◌, IfOk, OnOk, Bool, List, ℕ};
 ghost use Rattle.sqlite.specs.Values.{bound};
 ghost use Rattle.sqlite_value.specs.Order.{Row as SqlRow};
 ghost use Rattle.sw_container_store.specs.declared.statements.Command.{Command as Commanded};
@@ -23,6 +23,8 @@ pub enum Damage {
     Change,
     /// It can't take so great a number.
     Number,
+    /// Its file was removed, or moved away, while it was open.
+    Gone,
 }
 
 impl Damage {
@@ -34,6 +36,7 @@ impl Damage {
             Damage::Row => "a row in it is damaged",
             Damage::Change => "a change has not changed one row",
             Damage::Number => "it can't take so great a number",
+            Damage::Gone => "its file is gone",
         }
     }
 }
@@ -68,19 +71,28 @@ pub trait Database: Drop {
     fn close(self);
 }
 
-/// The databases of the containers of a lock, by the hashes of their places.
+/// The databases of the containers of a lock, by the hashes of their places. What they may tell of whether there is one, and which database an open may give,
+/// are relations of which contracts above know nothing more: so they say exactly what was asked.
 pub trait Databases: Drop {
     type Open: Database;
 
     /// Which database a container's is.
     ghost key: { Self → List ℕ → List ℕ };
 
+    /// They may tell this of whether there is one of this hash, and go from the one to the other.
+    ghost finds: { Self → List ℕ → Bool → Self → Type 0 };
+
+    /// They may give this database where that of this hash is opened, and go from the one to the other.
+    ghost opens: { Self → List ℕ → Self → Self.Open → Type 0 };
+
     /// Whether there is one.
-    fn is_there(&self, hash: &[u8; 16]) -> Result<bool, StoreError>;
+    fn is_there(&mut self, hash: &[u8; 16]) -> Result<bool, StoreError>
+        ensures finds { IfOk result (λ is_there. finds self.old hash.now is_there self.new) };
 
     /// Opens it, and makes it where there is none.
-    fn open(&self, alloc: Global, hash: &[u8; 16]) -> Result<Self::Open, StoreError>
-        ensures { IfOk result (λ database. Self.Open.key database ≡ key self.now hash.now) };
+    fn open(&mut self, alloc: Global, hash: &[u8; 16]) -> Result<Self::Open, StoreError>
+        ensures opens { IfOk result (λ database. opens self.old hash.now self.new database) }
+        ensures key { IfOk result (λ database. Self.Open.key database ≡ key self.old hash.now) };
 
     /// The hashes of all containers that have one, each once.
     fn hashes(&self, alloc: Global) -> Result<Vec<[u8; 16]>, StoreError>;

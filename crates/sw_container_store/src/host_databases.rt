@@ -84,7 +84,11 @@ impl<'a, N: Notes> Databases for HostDatabases<'a, N> {
 
     ghost key = { λ h hash. database_path (string_bytes h.root) h.power hash };
 
-    fn is_there(&self, hash: &[u8; 16]) -> Result<bool, StoreError> {
+    ghost finds = { λ old _ _ new. (new.root ≡ old.root) × (new.power ≡ old.power) };
+
+    ghost opens = { λ old _ new _. (new.root ≡ old.root) × (new.power ≡ old.power) };
+
+    fn is_there(&mut self, hash: &[u8; 16]) -> Result<bool, StoreError> {
         let path = self.path(self.host.rt.alloc(), hash)?;
         match self.is_file(path.as_str()) {
             Ok(is_there) => Ok(is_there),
@@ -92,7 +96,7 @@ impl<'a, N: Notes> Databases for HostDatabases<'a, N> {
         }
     }
 
-    fn open(&self, alloc: Global, hash: &[u8; 16]) -> Result<SqlDatabase<'a, N>, StoreError> {
+    fn open(&mut self, alloc: Global, hash: &[u8; 16]) -> Result<SqlDatabase<'a, N>, StoreError> {
         let path = self.path(alloc, hash)?;
         if let Err(error) = make_way(&self.host, self.root.as_str(), above(path.as_str())) {
             return Err(store_error(error));

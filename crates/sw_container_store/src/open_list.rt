@@ -1,4 +1,4 @@
-ghost use Rattle.std.specs.Prelude.{◌≡◌, ◌<◌, ◌++◌, ◌∷◌, [], length, position, is_some, IfOk, OnSome};
+ghost use Rattle.std.specs.Prelude.{◌≡◌, ◌<◌, ◌++◌, ◌∷◌, [], length, position, IfNone, IfOk, OnSome};
 ghost use Rattle.sw_container_store.specs.OpenList.{after_room, found_at, is_of, is_same, without};
 
 use crate::database::Database;
@@ -48,6 +48,7 @@ impl<D: Database> OpenList<D> {
     pub(crate) fn take(&mut self, place: &Place) -> Option<OpenDatabase<D>>
         ensures found { result ≡ found_at self.old place.now }
         ensures rest { self.new ≡ without self.old place.now }
+        ensures same { IfNone result (self.new ≡ self.old) }
         ensures room { OnSome result (length self.new < 16) }
     {
         let at = find(&self.databases, place)?;
@@ -63,13 +64,6 @@ impl<D: Database> OpenList<D> {
             .iter()
             .position(|entry| entry.place.hash == *hash)?;
         Some(self.databases.remove(at))
-    }
-
-    /// Whether the database of a place is open.
-    pub(crate) fn has(&self, place: &Place) -> bool
-        ensures { result ≡ is_some (position (is_of place.now) self.now) }
-    {
-        find(&self.databases, place).is_some()
     }
 
     /// Makes room for one more: where 16 are open the one that was used longest ago is closed.

@@ -1,7 +1,8 @@
-ghost use Rattle.std.specs.Prelude.{◌≡◌, ◌++◌, ◌∷◌, [], pos, map, true, if◌then◌else◌, IsTrue, IfOk, IfSome};
+ghost use Rattle.std.specs.Prelude.{◌≡◌, ◌++◌, ◌∷◌, [], pos, map, true, if◌then◌else◌, IsTrue, IfOk, IfSome, OnOk};
 ghost use Rattle.std.specs.Str.{is_utf8 as is_utf8_text};
 ghost use Rattle.sqlite_value.specs.declared.value.Value.TheVariants as value;
 ghost use Rattle.sqlite_value.specs.Order.{column};
+ghost use Rattle.sw_container_store.specs.Telling.{IsChecked, TellsFormat, TellsInfo};
 ghost use Rattle.sw_container_store.specs.Values.{info_values, numbered_values, time_value};
 ghost use Rattle.sw_timestamp.specs.TimeText.{text_of};
 
@@ -48,6 +49,7 @@ pub(crate) fn check<D: Database>(
     database: &mut D,
     place: &Place,
 ) -> Result<(), StoreError>
+    ensures checked { OnOk result (IsChecked D.shows place.now database.old database.new) }
     ensures key { D.key database.new ≡ D.key database.old }
 {
     check_format(database)?;
@@ -59,6 +61,7 @@ pub(crate) fn check<D: Database>(
 
 /// Whether the database has the format of this project, which has the number 1.
 pub(crate) fn check_format<D: Database>(database: &mut D) -> Result<(), StoreError>
+    ensures told { OnOk result (TellsFormat D.shows database.old database.new) }
     ensures key { D.key database.new ≡ D.key database.old }
 {
     let rows = database.ask(Query::Format, &[])?;
@@ -81,6 +84,7 @@ pub(crate) fn info_in<D: Database>(
     alloc: Global,
     database: &mut D,
 ) -> Result<Option<Info>, StoreError>
+    ensures told { IfOk result (λ info. TellsInfo D.shows database.old database.new info) }
     ensures key { D.key database.new ≡ D.key database.old }
 {
     let rows = database.ask(Query::Info, &[])?;

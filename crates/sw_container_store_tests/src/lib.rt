@@ -1,9 +1,11 @@
 //! Tests of containers' databases, over real ones below the host's own folder for such: where a container's stands, that what was put is found by a keeper
-//! that is opened later, that a number isn't given out again, and how many databases are open.
+//! that is opened later, that a number isn't given out again, how many databases are open, and that nothing is put into one that is gone.
 #![tactic(auto)]
 
 #[cfg(test)]
 mod folders;
+#[cfg(test)]
+mod gone;
 #[cfg(test)]
 mod host;
 #[cfg(test)]
