@@ -6,3 +6,4 @@ pub mod Paths
 pub mod Telling
 pub mod Opening
 pub mod Making
+pub mod Loading

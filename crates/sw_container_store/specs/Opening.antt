@@ -1,5 +1,5 @@
 -- How the database of a place is reached. (This project's own.)
-use Rattle.std.specs.Prelude.{◌≡◌, ℕ, Bool, true, List, Option, MatchOption}
+use Rattle.std.specs.Prelude.{◌≡◌, ℕ, Bool, true, false, List, Option, None, MatchOption}
 use Rattle.sqlite_value.specs.Order.{Row as SqlRow}
 use Rattle.sw_hashpath.specs.declared.place.Place.{Place}
 use Rattle.sw_container_store.specs.declared.open_list.OpenDatabase.{OpenDatabase}
@@ -25,3 +25,15 @@ module _ {H D : Type 0} where
       → List (OpenDatabase D) → Place → OpenDatabase D → Type 0
   IsReached Finds Opens Shows old new list place entry =
       MatchOption (found_at list place) (IsOpened Opens Shows old new place entry) (λ e. (entry ≡ e) × Finds old place.hash true new)
+
+  -- the database of a place isn't open, and it was looked for, once: it isn't there
+  pub record IsAbsent (Finds : H → List ℕ → Bool → H → Type 0) (old new : H) (list : List (OpenDatabase D)) (place : Place) : Type 0 where
+    pub closed : found_at list place ≡ None
+    pub absent : Finds old place.hash false new
+
+  -- a database that is found: that of the place is reached, and where it isn't open it was looked for before, once, and is there
+  pub record IsFound (Finds : H → List ℕ → Bool → H → Type 0) (Opens : H → List ℕ → H → D → Type 0)
+      (Shows : Query → SqlRow → D → D → List SqlRow → Type 0) (old new : H) (list : List (OpenDatabase D)) (place : Place) (entry : OpenDatabase D) : Type 0 where
+    pub mid : H
+    pub found : MatchOption (found_at list place) (Finds old place.hash true mid) (λ _. mid ≡ old)
+    pub reached : IsReached Finds Opens Shows mid new list place entry

@@ -1,13 +1,28 @@
 -- What a database tells of itself, over any database. (This project's own.)
-use Rattle.std.specs.Prelude.{◌≡◌, true, pos, List, [], ◌∷◌, Option, IfSome}
+use Rattle.std.specs.Prelude.{◌≡◌, ◌-◌, ◌<◌, ◌≤◌, ℕ, ℤ, true, pos, length, map, List, [], ◌∷◌, ◌++◌, Option, None, Some, IfSome, slice_get}
+use Rattle.std.specs.List.{flat_map}
 use Rattle.sqlite_value.specs.Order.{Row as SqlRow, column}
 use Rattle.sqlite_value.specs.declared.value.Value.TheVariants.{Int}
 use Rattle.sw_hashpath.specs.declared.place.Place.{Place}
+use Rattle.sw_keeper.specs.declared.tables.Tables.{Tables}
+use Rattle.sw_rows.specs.Rows.{Listed}
+use Rattle.sw_rows.specs.declared.numbered.Numbered.{Numbered}
 use Rattle.sw_container_store.specs.declared.reading.Info.{Info}
 use Rattle.sw_container_store.specs.declared.statements.Query.{Query}
-use Rattle.sw_container_store.specs.declared.statements.Query.TheVariants.{Format, Info as InfoQuery}
+use Rattle.sw_container_store.specs.declared.statements.Query.TheVariants.{Format, Info as InfoQuery, Top, Rows}
 use Rattle.sw_container_store.specs.OpenList.{is_same}
-use Rattle.sw_container_store.specs.Values.{info_rows}
+use Rattle.sw_container_store.specs.Values.{info_rows, numbered_values}
+
+-- the greatest number that was given out, as rows have it
+abbrev pub IsTop : List SqlRow → ℕ → Type 0
+IsTop [] top = top ≡ 0
+IsTop (row ∷ rows) top = (rows ≡ []) × (column row 0 ≡ Int (pos top))
+
+-- the number of the last row of a page
+pub record EndsAt (page : List SqlRow) (end : ℤ) : Type 0 where
+  pub row : SqlRow
+  pub last : slice_get page (length page - 1) ≡ Some row
+  pub number : column row 0 ≡ Int end
 
 module _ {D : Type 0} where
   -- asked once, it told that its format is that of this project, which has the number 1
@@ -27,3 +42,45 @@ module _ {D : Type 0} where
     pub info : Option Info
     pub told : TellsInfo Shows mid new info
     pub same : IfSome info (λ i. is_same i.place place ≡ true)
+
+  -- asked once, it told that this is the greatest number that was given out: where it told of none, 0
+  pub record TellsTop (Shows : Query → SqlRow → D → D → List SqlRow → Type 0) (old new : D) (top : ℕ) : Type 0 where
+    pub rows : List SqlRow
+    pub shown : Shows Top [] old new rows
+    pub number : IsTop rows top
+
+  -- full pages of rows, each of which was asked once, behind the last number of the page before it: the first behind this number, and the last ends at that one
+  unfoldable pub ShowsPages : (Query → SqlRow → D → D → List SqlRow → Type 0) → List (List SqlRow) → ℤ → ℤ → D → D → Type 0
+  ShowsPages Shows [] start end old new = (end ≡ start) × (new ≡ old)
+  ShowsPages Shows (page ∷ pages) start end old new =
+      (next : ℤ) × (mid : D) × Shows Rows (Int start ∷ []) old mid page × (1000 ≤ length page) × EndsAt page next × ShowsPages Shows pages next end mid new
+
+  -- these are the rows that it told, each under its number: pages of them from the first number on, one after the other, to the first that isn't full
+  pub record TellsList (Shows : Query → SqlRow → D → D → List SqlRow → Type 0) (old new : D) (list : List Numbered) : Type 0 where
+    pub pages : List (List SqlRow)
+    pub end : ℤ
+    pub mid : D
+    pub full : ShowsPages Shows pages (pos 0) end old mid
+    pub last : List SqlRow
+    pub shown : Shows Rows (Int end ∷ []) mid new last
+    pub short : length last < 1000
+    pub all : map numbered_values list ≡ flat_map (λ page. page) pages ++ last
+
+  -- it was asked the greatest number, and then all rows
+  pub record TellsRows (Shows : Query → SqlRow → D → D → List SqlRow → Type 0) (old new : D) (rows : Listed) : Type 0 where
+    pub mid : D
+    pub top : TellsTop Shows old mid rows.top
+    pub list : TellsList Shows mid new rows.list
+
+  -- it was asked of itself, and then its rows: it is the database of the place, and these are its times and rows
+  pub record TellsHeld (Shows : Query → SqlRow → D → D → List SqlRow → Type 0) (place : Place) (old new : D) (tables : Tables) : Type 0 where
+    pub mid : D
+    pub its : Place
+    pub same : is_same its place ≡ true
+    pub info : TellsInfo Shows old mid (Some record { place = its; put_time = tables.put_time; delete_time = tables.delete_time })
+    pub rows : TellsRows Shows mid new tables.rows
+
+  -- these tables are in it: where none are it was asked of itself, and nothing else
+  abbrev pub TellsTables : (Query → SqlRow → D → D → List SqlRow → Type 0) → Place → D → D → Option Tables → Type 0
+  TellsTables Shows place old new None = TellsInfo Shows old new None
+  TellsTables Shows place old new (Some tables) = TellsHeld Shows place old new tables

@@ -1,7 +1,8 @@
-ghost use Rattle.std.specs.Prelude.{◌≡◌, ◌<◌, [], length, is_some, true, false, None, Ok, IfNone, IfOk, IsErr, OnErr, OnOk, OnSome};
+ghost use Rattle.std.specs.Prelude.{◌≡◌, ◌<◌, [], if◌then◌else◌, length, is_some, true, false, None, Ok, IfNone, IfOk, IsErr, MatchOption, OnErr, OnOk, OnSome};
+ghost use Rattle.sw_container_store.specs.Loading.{IsLeft, IsLoaded};
 ghost use Rattle.sw_container_store.specs.Making.{IsMade};
 ghost use Rattle.sw_container_store.specs.OpenList.{after_room, beside, found_at, without};
-ghost use Rattle.sw_container_store.specs.Opening.{IsOpened, IsReached, IsTaken};
+ghost use Rattle.sw_container_store.specs.Opening.{IsAbsent, IsFound, IsOpened, IsReached, IsTaken};
 ghost use Rattle.sw_keeper.specs.Changes.{IsBatch};
 ghost use Rattle.sw_keeper.specs.Keeping.{Changes, HasCause, IsSame, MayChange, OnFailed, OnNoMemory};
 ghost use Rattle.sw_outside.specs.Counts.{raised};
@@ -114,14 +115,39 @@ impl<H: Databases> ContainerStore<H> {
         }
     }
 
-    /// The tables that are in the database of a place, where there is one.
-    fn read(&mut self, alloc: Global, place: &Place) -> Result<Option<Tables>, StoreError>
+    /// The database of a place, taken out of those that are open, or opened; none where there is none.
+    fn find(
+        &mut self,
+        alloc: Global,
+        place: &Place,
+    ) -> Result<Option<OpenDatabase<H::Open>>, StoreError>
+        ensures found { IfOk result (λ entry. MatchOption entry
+            (IsAbsent H.finds self.old.databases self.new.databases self.old.opened place.now)
+            (IsFound H.finds H.opens H.Open.shows self.old.databases self.new.databases self.old.opened place.now)) }
+        ensures rest { IfOk result (λ entry. self.new.opened ≡ (if is_some entry then beside self.old.opened place.now else self.old.opened)) }
+        ensures failed { OnErr result (IsLeft self.old.opened self.new.opened place.now) }
+        ensures room { IfOk result (λ entry. OnSome entry (length self.new.opened < 16)) }
         ensures counts { (self.new.calls ≡ self.old.calls) × (self.new.faults ≡ self.old.faults) }
     {
-        let mut entry = match self.take(place)? {
-            Some(entry) => entry,
-            None if !self.databases.is_there(&place.hash)? => return Ok(None),
-            None => self.open(alloc, place)?,
+        if let Some(entry) = self.take(place)? {
+            return Ok(Some(entry));
+        }
+        if !self.databases.is_there(&place.hash)? {
+            return Ok(None);
+        }
+        let entry = self.open(alloc, place)?;
+        Ok(Some(entry))
+    }
+
+    /// The tables that are in the database of a place, where there is one.
+    fn read(&mut self, alloc: Global, place: &Place) -> Result<Option<Tables>, StoreError>
+        ensures loaded { IfOk result (λ tables. IsLoaded H.finds H.opens H.Open.shows self.old.databases self.new.databases self.old.opened self.new.opened
+            place.now tables) }
+        ensures failed { OnErr result (IsLeft self.old.opened self.new.opened place.now) }
+        ensures counts { (self.new.calls ≡ self.old.calls) × (self.new.faults ≡ self.old.faults) }
+    {
+        let Some(mut entry) = self.find(alloc, place)? else {
+            return Ok(None);
         };
         let tables = tables_in(alloc, &mut entry.database, place)?;
         self.opened.put(entry);
@@ -208,7 +234,16 @@ impl<H: Databases> Keeper for ContainerStore<H> {
         self.told(names)
     }
 
-    fn load(&mut self, alloc: Global, place: &Place) -> Result<Option<Tables>, KeeperError> {
+    fn load(&mut self, alloc: Global, place: &Place) -> Result<Option<Tables>, KeeperError>
+        ensures tables { IfOk result (λ tables. false ≡ true → tables ≡ None) }
+        ensures same { false ≡ true → IsSame (λ _. None) (λ _. None) }
+        ensures told { false ≡ false }
+        ensures cause { HasCause self.old.faults self.new.faults result }
+        ensures calls { self.new.calls ≡ raised self.old.calls }
+        ensures loaded { IfOk result (λ tables. IsLoaded H.finds H.opens H.Open.shows self.old.databases self.new.databases self.old.opened self.new.opened
+            place.now tables) }
+        ensures left { OnErr result (IsLeft self.old.opened self.new.opened place.now) }
+    {
         self.calls = self.calls.saturating_add(1);
         let loaded = self.read(alloc, place);
         self.told(loaded)

@@ -2,7 +2,7 @@ ghost use Rattle.std.specs.Prelude.{◌≡◌, ◌++◌, ◌∷◌, [], pos, map
 ghost use Rattle.std.specs.Str.{is_utf8 as is_utf8_text};
 ghost use Rattle.sqlite_value.specs.declared.value.Value.TheVariants as value;
 ghost use Rattle.sqlite_value.specs.Order.{column};
-ghost use Rattle.sw_container_store.specs.Telling.{IsChecked, TellsFormat, TellsInfo};
+ghost use Rattle.sw_container_store.specs.Telling.{EndsAt, IsChecked, TellsFormat, TellsInfo, TellsRows, TellsTables, TellsTop};
 ghost use Rattle.sw_container_store.specs.Values.{info_values, numbered_values, time_value};
 ghost use Rattle.sw_timestamp.specs.TimeText.{text_of};
 
@@ -27,6 +27,7 @@ pub(crate) fn tables_in<D: Database>(
     database: &mut D,
     place: &Place,
 ) -> Result<Option<Tables>, StoreError>
+    ensures told { IfOk result (λ tables. TellsTables D.shows place.now database.old database.new tables) }
     ensures key { D.key database.new ≡ D.key database.old }
 {
     let Some(info) = info_in(alloc, database)? else {
@@ -100,6 +101,7 @@ pub(crate) fn info_in<D: Database>(
 
 /// All rows in a database, under their numbers.
 fn rows_in<D: Database>(alloc: Global, database: &mut D) -> Result<Rows, StoreError>
+    ensures told { IfOk result (λ rows. TellsRows D.shows database.old database.new rows) }
     ensures key { D.key database.new ≡ D.key database.old }
 {
     let top = top_in(database)?;
@@ -110,9 +112,12 @@ fn rows_in<D: Database>(alloc: Global, database: &mut D) -> Result<Rows, StoreEr
         if !add_page(alloc, &mut rows, &page)? {
             break;
         }
-        match page.last() {
-            Some(last) if page.len() >= PAGE => after = rowid_of(last),
-            _ => return Ok(rows),
+        if page.len() < PAGE {
+            return Ok(rows);
+        }
+        match end_of(&page) {
+            Some(end) => after = end,
+            None => break,
         }
     }
     Err(database.refuse(Damage::Row))
@@ -120,6 +125,7 @@ fn rows_in<D: Database>(alloc: Global, database: &mut D) -> Result<Rows, StoreEr
 
 /// The greatest number that was given out in a database.
 fn top_in<D: Database>(database: &mut D) -> Result<u64, StoreError>
+    ensures told { IfOk result (λ top. TellsTop D.shows database.old database.new top) }
     ensures key { D.key database.new ≡ D.key database.old }
 {
     let rows = database.ask(Query::Top, &[])?;
@@ -156,11 +162,14 @@ fn add(alloc: Global, rows: &mut Rows, row: &Row) -> Result<bool, NoMemory>
     }
 }
 
-/// The number of a row, as the database has it.
-fn rowid_of(row: &Row) -> i64 {
-    match row.get_ref(0) {
-        Ok(ValueRef::Int(number)) => number,
-        _ => i64::MAX,
+/// The number of the last row of a page, as the database has it.
+fn end_of(page: &[Row]) -> Option<i64>
+    ensures { IfSome result (λ end. EndsAt page.now end) }
+{
+    let last = page.last()?;
+    match last.get_ref(0) {
+        Ok(ValueRef::Int(number)) => Some(number),
+        _ => None,
     }
 }
 
