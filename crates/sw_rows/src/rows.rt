@@ -1,4 +1,4 @@
-ghost use Rattle.std.specs.Prelude.{◌≡◌, ◌<◌, ◌≤◌, ◌^◌, ◌-◌, ◌++◌, ◌∷◌, [], All, max, true, IsTrue, IfOk, OnOk, OnErr};
+ghost use Rattle.std.specs.Prelude.{◌≡◌, ◌<◌, ◌≤◌, ◌^◌, ◌-◌, ◌++◌, ◌∷◌, [], All, length, max, true, IsTrue, IfOk, OnOk, OnErr};
 ghost use Rattle.std.specs.Arc.{arc_value};
 ghost use Rattle.std.specs.Option.{option_copied, option_map};
 ghost use Rattle.sw_rows.specs.Left.{rows_left};
@@ -200,6 +200,14 @@ impl Rows {
         ensures { result ≡ hash_of self.now.list }
     {
         self.sums.hash
+    }
+
+    /// How many rows there are, deleted ones too.
+    pub fn len(&self) -> usize
+        ensures value { result ≡ length self.now.list }
+        ensures small { result < 2 ^ 63 }
+    {
+        self.index.len()
     }
 
     /// How many rows are live.
