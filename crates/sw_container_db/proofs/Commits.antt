@@ -1,5 +1,5 @@
 -- What a commit of the batch of a step makes, told by the tables that were read before it.
-use Rattle.std.proofs.Common.{◌≡◌, ◌≢◌, ℕ, List, [], Option, Some, None, IsSome, IfSome, refl, sym, ◌∙◌, ap, subst, ◌⊎◌, inl, inr}
+use Rattle.std.proofs.Common.{◌≡◌, ◌≢◌, ℕ, List, [], Option, None, IsSome, refl, sym, ◌∙◌, ap, subst, ◌⊎◌, inl, inr}
 use Rattle.sw_hashpath.specs.declared.place.Place.{Place}
 use Rattle.sw_keeper.specs.declared.tables.Tables.{Tables}
 use Rattle.sw_keeper.specs.Changes.{IsBatch, all_changed}
@@ -15,16 +15,7 @@ use Rattle.sw_container_steps.specs.declared.cont_change.ContChange.{ContChange}
 use Rattle.sw_container_steps.specs.declared.cont_entry.ContEntry.{ContEntry}
 use Rattle.sw_container_steps.proofs.Ruling.{are-rules}
 use Rattle.sw_container_steps.proofs.Seeing.{entries-are-seen, steps-hold}
-use Rattle.sw_container_db.specs.ContDirs.{place_of}
-use Rattle.sw_container_db.specs.declared.loading.Loaded.{Loaded}
 use Rattle.sw_container_db.proofs.Kept.{of-batch}
-
--- the tables that were read are those that were taken apart
-pub taken-is : (loaded : Option Loaded) (l : Loaded) (read : Option Tables) → IfSome loaded (λ x. read ≡ x.tables) → loaded ≡ Some l → l.tables ≡ read
-taken-is loaded l read same one = let is : read ≡ l.tables = subst (λ (x : Option Loaded). IfSome x (λ y. read ≡ y.tables)) one same in sym is
-
-pub taken-at : (loaded : Option Loaded) (l : Loaded) (place : Place) → loaded ≡ Some l → place_of loaded ≡ Some place → l.place ≡ place
-taken-at loaded l place one at = let here : Some l.place ≡ Some place = ap place_of (sym one) ∙ at in cc
 
 -- the keeper takes the batch
 pub takes : (taken read held after : Option Tables) (place : Place) (change : ContChange) (entries : List ContEntry) (batch : List Change)
@@ -82,8 +73,7 @@ seen read held place change entries sign allowed are full tells is same =
     (ap (λ (e : List ContEntry). sign_of (fold entered read e)) (sym are) ∙ (ap (λ (t : Option Tables). sign_of (fold entered t entries)) is ∙ (same ∙ tells)))
 
 -- the tables after the batch are those that are held then
-pub kept-there : (old new : Holdings) (place at : Place) (taken read after : Option Tables) (batch : List Change) → taken ≡ read → read ≡ old place →
-    all_changed taken batch ≡ after → Changes old new place batch
-    → at ≡ place → after ≡ new at
-kept-there old new place at taken read after batch turn is makes changes here =
-    sym makes ∙ (ap (λ (t : Option Tables). all_changed t batch) (turn ∙ is) ∙ (sym changes.there ∙ ap new (sym here)))
+pub kept-there : (old new : Holdings) (place : Place) (taken read after : Option Tables) (batch : List Change) → taken ≡ read → read ≡ old place →
+    all_changed taken batch ≡ after → Changes old new place batch → after ≡ new place
+kept-there old new place taken read after batch turn is makes changes =
+    sym makes ∙ (ap (λ (t : Option Tables). all_changed t batch) (turn ∙ is) ∙ sym changes.there)

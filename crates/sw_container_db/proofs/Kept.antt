@@ -1,8 +1,9 @@
 -- How the containers of one lock keep what is promised of them: what each call leaves is in order.
 use Rattle.std.proofs.Common.{◌≡◌, ◌≢◌, ℕ, ◌+◌, ◌-◌, ◌^◌, Bool, true, List, [], ◌∷◌, ◌++◌, length, refl, sym, ◌∙◌, ap, subst, arith}
-use Rattle.std.proofs.Common.{length-append, nat_le, ◌&&◌, Option, Some, None, IfSome, IsSome, Contains, ◌⊎◌, inl, inr, ◌↔◌}
+use Rattle.std.proofs.Common.{length-append, nat_le, ◌&&◌, Option, Some, None, IsSome, Contains, ◌⊎◌, inl, inr, ◌↔◌}
 use Rattle.std.specs.List.{fold}
 use Rattle.std.proofs.lemmas.List.{append-nil}
+use Rattle.std.proofs.lemmas.List.Elements.{All-pop, All-weaker}
 use Rattle.sw_hashpath.specs.declared.place.Place.{Place}
 use Rattle.sw_keeper.specs.Keeping.{ListsPlaces}
 use Rattle.sw_keeper.specs.declared.tables.Tables.{Tables}
@@ -19,17 +20,27 @@ use Rattle.sw_container_steps.specs.Rules.{ChangesContainer, ContHistory, ContJo
 use Rattle.sw_container_steps.specs.declared.cont_answer.ContAnswer.{ContAnswer}
 use Rattle.sw_container_steps.specs.declared.cont_change.ContChange.{ContChange}
 use Rattle.sw_container_steps.specs.declared.cont_entry.ContEntry.{ContEntry}
-use Rattle.sw_container_db.specs.ContDirs.{AreHeld, AreOwn, ContKept, IsContDir, IsSigned, cont_history_of, doubts_in, place_of}
-use Rattle.sw_container_db.specs.declared.loading.Loaded.{Loaded}
+use Rattle.sw_container_db.specs.ContDirs.{AreHeld, AreOwn, ContKept, IsContDir, IsSigned, cont_history_of, doubts_in}
+use Rattle.sw_container_db.specs.LoadedList.{Lacks, tables_at}
+use Rattle.sw_container_db.specs.declared.loaded_list.Loaded.{Loaded}
 use Rattle.sw_container_db.specs.declared.sign.Doubt.{Doubt}
 
 no-doubt : (doubt : Option Doubt) (stood : Place → Option Tables) → doubts_in doubt ≡ [] → IsSigned doubt stood
 no-doubt None stood none = record {}
 no-doubt (Some d) stood none = let never : d.batch.items ∷ [] ≡ [] = none in cc
 
-pub still-held : (loaded : Option Loaded) (before now : Place → Option Tables) → ((p : Place) → now p ≡ before p) → AreHeld loaded before → AreHeld loaded now
-still-held None before now same are = record {}
-still-held (Some l) before now same are = are ∙ sym (same l.place)
+pub still-held : (loaded : List Loaded) (before now : Place → Option Tables) → ((p : Place) → now p ≡ before p) → AreHeld loaded before → AreHeld loaded now
+still-held loaded before now same are =
+    All-weaker (λ (l : Loaded). l.tables ≡ before l.place) (λ (l : Loaded). l.tables ≡ now l.place) (λ l is. is ∙ sym (same l.place)) loaded are
+
+-- what has changed is held at another place
+pub others-held : (others : List Loaded) (place : Place) (before now : Place → Option Tables) → ((p : Place) → p ≢ place → now p ≡ before p)
+    → Lacks place others → AreHeld others before → AreHeld others now
+others-held others place before now away lacks are k d within = are k d within ∙ sym (away _ (lacks k d within))
+
+pub held-parts : (loaded others : List Loaded) (l : Loaded) (held : Place → Option Tables) → loaded ≡ others ++ l ∷ [] → AreHeld loaded held
+    → AreHeld others held × (l.tables ≡ held l.place)
+held-parts loaded others l held one are = All-pop (λ (m : Loaded). m.tables ≡ held m.place) loaded others (Some l) one are
 
 pub lists : (places : List Place) (held stood : Place → Option Tables) → ((p : Place) → held p ≡ stood p) → ListsPlaces places (λ p. IsSome (held p))
     → ListsPlaces places (λ p. IsSome (stood p))
@@ -40,8 +51,8 @@ lists places held stood same all = record {
 
 -- ---- the keeper and its journal
 
-module _ {K : Type 0} (tells : K → Bool) (holds : K → Place → Option Tables) (faults : K → ℕ) (k : ContKept K) (doubt : Option Doubt) (loaded : Option Loaded)
-    (node : IsContDir tells holds faults k doubt loaded) where
+module _ {K : Type 0} (tells : K → Bool) (holds : K → Place → Option Tables) (faults : K → ℕ) (k : ContKept K) (doubt : Option Doubt)
+    (node : IsContDir tells holds faults k doubt) where
   abbrev h : ContHistory
   h = cont_history_of tells holds faults k
 
@@ -53,53 +64,39 @@ module _ {K : Type 0} (tells : K → Bool) (holds : K → Place → Option Table
       stands cont_rules (cont_history_of tells holds faults k) place ≡ holds k.keeper place
   fits-none none told place = sym (tell cont_rules h place (holds k.keeper place) (node.fits told place) (ap (doubts_about cont_rules place) none))
 
-  -- the tables that are loaded, of the place that they are of
-  pub loaded-known : (l : Loaded) (place : Place) → loaded ≡ Some l → k.loaded ≡ Some place → tells k.keeper ≡ true → l.tables ≡ holds k.keeper place
-  loaded-known l place one at told =
-      let here : Some l.place ≡ Some place = ap place_of (sym one) ∙ (sym node.place ∙ at) in
-      let is : l.place ≡ place = cc in
-      let held : l.tables ≡ holds k.keeper l.place = subst (λ (x : Option Loaded). AreHeld x (holds k.keeper)) one (node.held (sym node.same ∙ told)) in
-      held ∙ ap (holds k.keeper) is
-
-  -- what was read of the tables that are loaded
-  pub loaded-read : (place : Place) (t : Option Tables) → k.loaded ≡ Some place → IfSome loaded (λ l. t ≡ l.tables) → tells k.keeper ≡ true →
-      t ≡ holds k.keeper place
-  loaded-read place t at same told = by loaded refl same
-    where
-      clash : Some place ≡ None → ⊥
-      clash is = cc
-
-      by : (l : Option Loaded) → loaded ≡ l → IfSome l (λ x. t ≡ x.tables) → t ≡ holds k.keeper place
-      by None one is = absurd (clash (sym at ∙ (node.place ∙ ap place_of one)))
-      by (Some l) one is = is ∙ loaded-known l place one at told
+  -- the tables that were used last are held
+  pub last-held : (others : List Loaded) (place : Place) (read : Option Tables) → k.loaded ≡ others ++ tables_at place read ∷ [] → tells k.keeper ≡ true
+      → read ≡ holds k.keeper place
+  last-held others place read at told =
+      let parts = held-parts k.loaded others (tables_at place read) (holds k.keeper) at (node.held (sym node.same ∙ told)) in parts.1
 
   -- the keeper was called, and holds what it held
-  pub kept-same : (keeper : K) (fresh : List ContEntry) (entries : List ContEntry) (now_loaded : Option Loaded) → tells keeper ≡ tells k.keeper
+  pub kept-same : (keeper : K) (fresh : List ContEntry) (entries : List ContEntry) (now_loaded : List Loaded) → tells keeper ≡ tells k.keeper
       → (tells k.keeper ≡ true → (p : Place) → holds keeper p ≡ holds k.keeper p) → entries ≡ k.journal.entries
       → (tells k.began ≡ true → AreHeld now_loaded (holds keeper)) → IsContDir tells holds faults
-      (record { keeper = keeper; began = k.began; loaded = place_of now_loaded; fresh = fresh; journal = record k.journal { entries = entries } }) doubt
-      now_loaded
+      (record { keeper = keeper; began = k.began; loaded = now_loaded; fresh = fresh; journal = record k.journal { entries = entries } }) doubt
   kept-same keeper fresh entries now_loaded told same are still = rw are (record {
     same = told ∙ node.same;
     doubts = node.doubts;
     own = node.own;
     fits = λ is p. subst (λ (v : Option Tables). CanStand cont_rules h p v) (sym (same (node.same ∙ is) p)) (node.fits is p);
     signed = node.signed;
-    place = refl;
     held = still;
   })
 
   -- the doubt is put back
-  pub kept-back : (d : Doubt) → doubt ≡ Some d → (keeper : K) (fresh : List ContEntry) (entries : List ContEntry) → tells keeper ≡ tells k.keeper
-      → (tells k.keeper ≡ true → (p : Place) → holds keeper p ≡ holds k.keeper p) → entries ≡ k.journal.entries → IsContDir tells holds faults
+  pub kept-back : (d : Doubt) → doubt ≡ Some d → (keeper : K) (fresh : List ContEntry) (entries : List ContEntry) (now_loaded : List Loaded)
+      → tells keeper ≡ tells k.keeper
+      → (tells k.keeper ≡ true → (p : Place) → holds keeper p ≡ holds k.keeper p) → entries ≡ k.journal.entries
+      → (tells k.began ≡ true → AreHeld now_loaded (holds keeper)) → IsContDir tells holds faults
       (record {
         keeper = keeper;
         began = k.began;
-        loaded = None;
+        loaded = now_loaded;
         fresh = fresh;
         journal = record k.journal { entries = entries; doubts = d.batch.items ∷ [] };
-      }) (Some d) None
-  kept-back d one keeper fresh entries told same are = rw are (record {
+      }) (Some d)
+  kept-back d one keeper fresh entries now_loaded told same are still = rw are (record {
     same = told ∙ node.same;
     doubts = refl;
     own = subst AreOwn one node.own;
@@ -107,8 +104,7 @@ module _ {K : Type 0} (tells : K → Bool) (holds : K → Place → Option Table
         (node.doubts ∙ ap doubts_in one)
         (subst (λ (v : Option Tables). CanStand cont_rules h p v) (sym (same (node.same ∙ is) p)) (node.fits is p));
     signed = λ is. subst (λ (x : Option Doubt). IsSigned x stood) one (node.signed is);
-    place = refl;
-    held = λ is. record {};
+    held = still;
   })
 
   -- ---- what a step leaves, by the laws of steps
@@ -125,26 +121,24 @@ module _ {K : Type 0} (tells : K → Bool) (holds : K → Place → Option Table
   ]
 
   -- a batch was entered
-  pub kept-entered : (keeper : K) (fresh : List ContEntry) (now_loaded : Option Loaded) (entries : List ContEntry) (place : Place) (change : ContChange)
+  pub kept-entered : (keeper : K) (fresh : List ContEntry) (now_loaded : List Loaded) (entries : List ContEntry) (place : Place) (change : ContChange)
       (answer : ContAnswer) → k.journal.doubts ≡ [] → tells keeper ≡ tells k.keeper
       → (tells k.keeper ≡ true → (p : Place) → p ≢ place → holds keeper p ≡ holds k.keeper p)
       → ChangesContainer true (cont_history_of tells holds faults k) (holds k.keeper) place change answer
       (record { told = tells k.began; opening = holds k.began; journal = record k.journal { entries = entries }; faults = faults keeper }) (holds keeper place)
       → (tells k.began ≡ true → AreHeld now_loaded (holds keeper)) → IsContDir tells holds faults
-      (record { keeper = keeper; began = k.began; loaded = place_of now_loaded; fresh = fresh; journal = record k.journal { entries = entries } }) doubt
-      now_loaded
+      (record { keeper = keeper; began = k.began; loaded = now_loaded; fresh = fresh; journal = record k.journal { entries = entries } }) doubt
   kept-entered keeper fresh now_loaded entries place change answer none told others step still = record {
     same = told ∙ node.same;
     doubts = node.doubts;
     own = node.own;
     fits = λ is. fits-after _ place change answer (holds keeper) step others is is;
     signed = λ is. no-doubt doubt _ (sym node.doubts ∙ none);
-    place = refl;
     held = still;
   }
 
   -- a commit failed
-  pub kept-doubted : (keeper : K) (fresh : List ContEntry) (now_loaded : Option Loaded) (d : Doubt) (change : ContChange) (answer : ContAnswer)
+  pub kept-doubted : (keeper : K) (fresh : List ContEntry) (now_loaded : List Loaded) (d : Doubt) (change : ContChange) (answer : ContAnswer)
       → k.journal.doubts ≡ [] → tells keeper ≡ tells k.keeper
       → (tells k.keeper ≡ true → (p : Place) → p ≢ d.place → holds keeper p ≡ holds k.keeper p)
       → ChangesContainer true (cont_history_of tells holds faults k) (holds k.keeper) d.place change answer
@@ -153,8 +147,8 @@ module _ {K : Type 0} (tells : K → Bool) (holds : K → Place → Option Table
       → (tells k.keeper ≡ true → d.sign ≡ sign_of (holds k.keeper d.place))
       → (tells k.keeper ≡ true → sign_of (fold entered (holds k.keeper d.place) d.batch.items) ≢ d.sign)
       → IsOf cont_rules d.place d.batch.items → (tells k.began ≡ true → AreHeld now_loaded (holds keeper)) → IsContDir tells holds faults
-      (record { keeper = keeper; began = k.began; loaded = place_of now_loaded; fresh = fresh; journal = record k.journal { doubts = d.batch.items ∷ [] } })
-      (Some d) now_loaded
+      (record { keeper = keeper; began = k.began; loaded = now_loaded; fresh = fresh; journal = record k.journal { doubts = d.batch.items ∷ [] } })
+      (Some d)
   kept-doubted keeper fresh now_loaded d change answer none told others step sign apart own still = record {
     same = told ∙ node.same;
     doubts = refl;
@@ -165,7 +159,6 @@ module _ {K : Type 0} (tells : K → Bool) (holds : K → Place → Option Table
           sign (node.same ∙ is) ∙ ap sign_of (sym here),
           subst (λ (t : Option Tables). sign_of (fold entered t d.batch.items) ≢ d.sign) (sym here) (apart (node.same ∙ is)),
         );
-    place = refl;
     held = still;
   }
 
@@ -205,24 +198,23 @@ module _ {K : Type 0} (tells : K → Bool) (holds : K → Place → Option Table
             (all ∙ (ap (λ (es : List ContEntry). d.batch.items ++ es) chosen.1 ∙ append-nil d.batch.items)))
 
     -- the batch of a doubt had been made
-    pub kept-settled : (keeper : K) (fresh : List ContEntry) (now_loaded : Option Loaded) (entries : List ContEntry) → tells keeper ≡ tells k.keeper
+    pub kept-settled : (keeper : K) (fresh : List ContEntry) (now_loaded : List Loaded) (entries : List ContEntry) → tells keeper ≡ tells k.keeper
         → (tells k.keeper ≡ true → (p : Place) → holds keeper p ≡ holds k.keeper p)
         → (tells k.keeper ≡ true → sign_of (holds k.keeper d.place) ≢ d.sign) → entries ≡ k.journal.entries ++ d.batch.items
         → (tells k.began ≡ true → AreHeld now_loaded (holds keeper)) → IsContDir tells holds faults
         (record {
           keeper = keeper;
           began = k.began;
-          loaded = place_of now_loaded;
+          loaded = now_loaded;
           fresh = fresh;
           journal = record k.journal { entries = entries; doubts = [] };
-        }) None now_loaded
+        }) None
     kept-settled keeper fresh now_loaded entries told same apart are still = record {
       same = told ∙ node.same;
       doubts = refl;
       own = record {};
       fits = λ is p. subst (λ (v : Option Tables). CanStand cont_rules g p v) (sym (same (node.same ∙ is) p ∙ at is p)) (can-tell cont_rules g p);
       signed = λ is. record {};
-      place = refl;
       held = still;
     }
       where
@@ -247,17 +239,16 @@ module _ {K : Type 0} (tells : K → Bool) (holds : K → Place → Option Table
         ]
 
     -- it had not been made
-    pub kept-dropped : (keeper : K) (fresh : List ContEntry) (now_loaded : Option Loaded) → tells keeper ≡ tells k.keeper
+    pub kept-dropped : (keeper : K) (fresh : List ContEntry) (now_loaded : List Loaded) → tells keeper ≡ tells k.keeper
         → (tells k.keeper ≡ true → (p : Place) → holds keeper p ≡ holds k.keeper p) → (tells k.keeper ≡ true → sign_of (holds k.keeper d.place) ≡ d.sign)
         → (tells k.began ≡ true → AreHeld now_loaded (holds keeper)) → IsContDir tells holds faults
-        (record { keeper = keeper; began = k.began; loaded = place_of now_loaded; fresh = fresh; journal = record k.journal { doubts = [] } }) None now_loaded
+        (record { keeper = keeper; began = k.began; loaded = now_loaded; fresh = fresh; journal = record k.journal { doubts = [] } }) None
     kept-dropped keeper fresh now_loaded told same sign still = record {
       same = told ∙ node.same;
       doubts = refl;
       own = record {};
       fits = λ is p. subst (λ (v : Option Tables). CanStand cont_rules g p v) (sym (same (node.same ∙ is) p ∙ at is p)) (can-tell cont_rules g p);
       signed = λ is. record {};
-      place = refl;
       held = still;
     }
       where

@@ -3,5 +3,7 @@ pub mod Commits
 pub mod Ends
 pub mod Fresh
 pub mod Kept
+pub mod LoadedLists
+pub mod Loadings
 pub mod Making
 pub mod ReadSteps

@@ -1,8 +1,9 @@
 -- A step at tables that are loaded, with nothing in doubt: what each of its ends is, and that it leaves the lock in order.
-use Rattle.std.proofs.Common.{◌≡◌, ◌≢◌, ℕ, ◌+◌, ◌-◌, ◌^◌, ◌≤◌, Bool, true, false, List, [], ◌∷◌, ◌++◌, length, nat_le, ◌&&◌, Option, Some, None, IsSome, IfSome}
+use Rattle.std.proofs.Common.{◌≡◌, ◌≢◌, ℕ, ◌+◌, ◌-◌, ◌^◌, ◌≤◌, Bool, true, false, List, [], ◌∷◌, ◌++◌, length, nat_le, ◌&&◌, Option, Some, IsSome}
 use Rattle.std.proofs.Common.{refl, sym, ◌∙◌, ap, subst, arith}
 use Rattle.std.specs.List.{fold}
 use Rattle.std.proofs.lemmas.List.{append-nil}
+use Rattle.std.proofs.lemmas.List.Elements.{All-push}
 use Rattle.sw_hashpath.specs.declared.place.Place.{Place}
 use Rattle.sw_outside.specs.Faults.{HasRisen}
 use Rattle.sw_keeper.specs.Changes.{IsBatch, all_changed}
@@ -21,18 +22,20 @@ use Rattle.sw_container_steps.specs.declared.cont_change.ContChange.{ContChange}
 use Rattle.sw_container_steps.specs.declared.cont_entry.ContEntry.{ContEntry}
 use Rattle.sw_container_steps.specs.declared.deciding.Decision.TheVariants.{Makes, Refused}
 use Rattle.sw_container_db.specs.ContDirs.{ContKept, IsContDir, cont_history_of}
-use Rattle.sw_container_db.specs.declared.loading.Loaded.{Loaded}
+use Rattle.sw_container_db.specs.LoadedList.{Lacks, rows_held, tables_at, trimmed}
+use Rattle.sw_container_db.specs.declared.loaded_list.Loaded.{Loaded}
 use Rattle.sw_container_db.specs.declared.sign.Doubt.{Doubt}
-use Rattle.sw_container_db.proofs.Commits.{kept-there, made-elsewhere, made-there, makes-entries, may-elsewhere, may-there, of-place, seen, taken-at, taken-is}
+use Rattle.sw_container_db.proofs.Commits.{kept-there, made-elsewhere, made-there, makes-entries, may-elsewhere, may-there, of-place, seen}
 use Rattle.sw_container_db.proofs.Commits.{takes}
 use Rattle.sw_container_db.proofs.Ends.{done, doubted, full, later, refused, wanted}
-use Rattle.sw_container_db.proofs.Kept.{empty, front-is, kept-doubted, kept-entered, loaded-read, nonempty, room-is, room-none}
+use Rattle.sw_container_db.proofs.Kept.{empty, front-is, held-parts, kept-doubted, kept-entered, last-held, nonempty, others-held, room-is, room-none}
+use Rattle.sw_container_db.proofs.LoadedLists.{trimmed-all}
 
-module _ {K : Type 0} (tells : K → Bool) (holds : K → Place → Option Tables) (faults : K → ℕ) (k : ContKept K) (doubt : Option Doubt) (loaded : Option Loaded)
-    (node : IsContDir tells holds faults k doubt loaded) (place : Place) (change : ContChange) (none : k.journal.doubts ≡ []) (at : k.loaded ≡ Some place)
-    (read : Option Tables) (same : IfSome loaded (λ l. read ≡ l.tables)) where
+module _ {K : Type 0} (tells : K → Bool) (holds : K → Place → Option Tables) (faults : K → ℕ) (k : ContKept K) (doubt : Option Doubt)
+    (node : IsContDir tells holds faults k doubt) (place : Place) (change : ContChange) (none : k.journal.doubts ≡ []) (others : List Loaded)
+    (read : Option Tables) (at : k.loaded ≡ others ++ tables_at place read ∷ []) where
   pub held : tells k.keeper ≡ true → read ≡ holds k.keeper place
-  held told = loaded-read tells holds faults k doubt loaded node place read at same told
+  held told = last-held tells holds faults k doubt node others place read at told
 
   is : tells k.began ≡ true → read ≡ holds k.keeper place
   is told = held (node.same ∙ told)
@@ -84,20 +87,14 @@ module _ {K : Type 0} (tells : K → Bool) (holds : K → Place → Option Table
       pub make-full : room ≡ false → StepTo conts.JournalFull k.journal (faults k.keeper) (holds k.keeper place)
       make-full lacks = full (cont_history_of tells holds faults k) (holds k.keeper) place change none node.fits read is decided.0 (room_so ∙ lacks)
 
-      module _ (has : room ≡ true) (taken : Loaded) (was : loaded ≡ Some taken) (given : List ContEntry) (give : given ≡ batch) (changes : List Change)
-          (after : Option Tables) (makes : all_changed taken.tables changes ≡ after) (leaves : after ≡ fold entered taken.tables given) where
-        turn : taken.tables ≡ read
-        turn = taken-is loaded taken read same was
-
-        pub there : taken.place ≡ place
-        there = taken-at loaded taken place was (sym node.place ∙ at)
-
-        pub make-takes : (IsSome after → IsBatch taken.tables changes) → tells k.keeper ≡ true → IsBatch (holds k.keeper place) changes
+      module _ (has : room ≡ true) (taken : Option Tables) (turn : taken ≡ read) (given : List ContEntry) (give : given ≡ batch) (changes : List Change)
+          (after : Option Tables) (makes : all_changed taken changes ≡ after) (leaves : after ≡ fold entered taken given) where
+        pub make-takes : (IsSome after → IsBatch taken changes) → tells k.keeper ≡ true → IsBatch (holds k.keeper place) changes
         make-takes fits told =
-            takes taken.tables read (holds k.keeper place) after place change given changes turn decided.0 (give ∙ are) leaves fits (held told)
+            takes taken read (holds k.keeper place) after place change given changes turn decided.0 (give ∙ are) leaves fits (held told)
 
         all_make : all_changed read changes ≡ fold entered read batch
-        all_make = makes-entries taken.tables read after batch given changes turn makes leaves give
+        all_make = makes-entries taken read after batch given changes turn makes leaves give
 
         -- its commit was made
         module _ (keeper : K) (told_same : tells keeper ≡ tells k.keeper) (up : faults k.keeper ≤ faults keeper)
@@ -110,18 +107,22 @@ module _ {K : Type 0} (tells : K → Bool) (holds : K → Place → Option Table
               (λ told. made-there (holds k.keeper) (holds k.keeper) (holds keeper) place changes read batch (λ p. refl) (is told) all_make
               (ok (node.same ∙ told)) ∙ ap (fold entered (holds k.keeper place)) are)
 
-          pub done-kept : (fresh : List ContEntry) → IsContDir tells holds faults (record {
+          pub done-kept : (fresh : List ContEntry) → Lacks place others → IsContDir tells holds faults (record {
             keeper = keeper;
             began = k.began;
-            loaded = Some taken.place;
+            loaded = trimmed (rows_held after) others ++ tables_at place after ∷ [];
             fresh = fresh;
             journal = record k.journal { entries = entries };
-          }) doubt (Some (record { place = taken.place; tables = after }))
-          done-kept fresh = kept-entered tells holds faults k doubt loaded node keeper fresh (Some (record { place = taken.place; tables = after })) entries
-              place change answer none told_same
+          }) doubt
+          done-kept fresh lacks = kept-entered tells holds faults k doubt node keeper fresh (trimmed (rows_held after) others ++ tables_at place after ∷ [])
+              entries place change answer none told_same
               (λ told. made-elsewhere (holds k.keeper) (holds k.keeper) (holds keeper) place changes (λ p. refl) (ok told)) make-done
-              (λ told. kept-there (holds k.keeper) (holds keeper) place taken.place taken.tables read after changes turn (is told) makes
-              (ok (node.same ∙ told)) there)
+              (λ told. All-push (λ (l : Loaded). l.tables ≡ holds keeper l.place) (trimmed (rows_held after) others) (tables_at place after)
+              (trimmed-all (λ (l : Loaded). l.tables ≡ holds keeper l.place) (rows_held after) others
+              (others-held others place (holds k.keeper) (holds keeper)
+              (made-elsewhere (holds k.keeper) (holds k.keeper) (holds keeper) place changes (λ p. refl) (ok (node.same ∙ told))) lacks
+              (held-parts k.loaded others (tables_at place read) (holds k.keeper) at (node.held told)).0))
+              (kept-there (holds k.keeper) (holds keeper) place taken read after changes turn (is told) makes (ok (node.same ∙ told))))
 
         -- it failed, and was made or wasn't
         module _ (keeper : K) (told_same : tells keeper ≡ tells k.keeper) (up : faults k.keeper ≤ faults keeper)
@@ -133,15 +134,15 @@ module _ {K : Type 0} (tells : K → Bool) (holds : K → Place → Option Table
               (λ told. may-there (holds k.keeper) (holds k.keeper) (holds keeper) place changes read batch (λ p. refl) (is told) all_make
               (may (node.same ∙ told)))
 
-          pub doubted-kept : (d : Doubt) (fresh : List ContEntry) → d.place ≡ place → d.batch.items ≡ batch → d.sign ≡ sign_of read
+          pub doubted-kept : (d : Doubt) (fresh : List ContEntry) → Lacks place others → d.place ≡ place → d.batch.items ≡ batch → d.sign ≡ sign_of read
               → IsContDir tells holds faults (record {
                 keeper = keeper;
                 began = k.began;
-                loaded = None;
+                loaded = others;
                 fresh = fresh;
                 journal = record k.journal { doubts = d.batch.items ∷ [] };
-              }) (Some d) None
-          doubted-kept d fresh here items sign = kept-doubted tells holds faults k doubt loaded node keeper fresh None d change conts.Failed none told_same
+              }) (Some d)
+          doubted-kept d fresh lacks here items sign = kept-doubted tells holds faults k doubt node keeper fresh others d change conts.Failed none told_same
               (λ told p away. may-elsewhere (holds k.keeper) (holds k.keeper) (holds keeper) place changes (λ x. refl) (may told) p
               (λ same_place. away (same_place ∙ sym here)))
               (subst (λ (x : Place). ChangesContainer true (cont_history_of tells holds faults k) (holds k.keeper) x change conts.Failed
@@ -154,4 +155,6 @@ module _ {K : Type 0} (tells : K → Bool) (holds : K → Place → Option Table
               (held told)))
               (subst (λ (x : Place). IsOf cont_rules x d.batch.items) (sym here)
               (of-place read place change d.batch.items (items ∙ are) (λ nothing. some (sym items ∙ nothing))))
-              (λ told. record {})
+              (λ told. others-held others place (holds k.keeper) (holds keeper)
+              (may-elsewhere (holds k.keeper) (holds k.keeper) (holds keeper) place changes (λ p. refl) (may (node.same ∙ told))) lacks
+              (held-parts k.loaded others (tables_at place read) (holds k.keeper) at (node.held told)).0)

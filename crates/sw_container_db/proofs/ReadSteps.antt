@@ -1,5 +1,5 @@
 -- A read of one container, over what was seen of it once its tables were loaded.
-use Rattle.std.proofs.Common.{◌≡◌, ◌≢◌, ℕ, Bool, true, [], length, Option, Some, sym, ◌∙◌, ap, Result, Err}
+use Rattle.std.proofs.Common.{◌≡◌, ◌≢◌, ℕ, Bool, true, List, [], ◌∷◌, ◌++◌, length, Option, sym, ◌∙◌, ap, Result, Err}
 use Rattle.sw_hashpath.specs.declared.place.Place.{Place}
 use Rattle.sw_keeper.specs.declared.tables.Tables.{Tables}
 use Rattle.sw_history.specs.Halves.{GrowsOf}
@@ -8,8 +8,11 @@ use Rattle.sw_step.specs.Rules.{CanStand, Fails}
 use Rattle.sw_step.specs.Steps.{OnlySettles, Tells}
 use Rattle.sw_container_steps.specs.Rules.{cont_ending, cont_look, cont_rules, look_by}
 use Rattle.sw_container_steps.specs.declared.cont_answer.ContAnswer.{ContAnswer}
+use Rattle.sw_container_db.specs.Calling.{Seen}
 use Rattle.sw_container_db.specs.ContDirs.{ContKept, cont_history_of}
+use Rattle.sw_container_db.specs.LoadedList.{tables_at}
 use Rattle.sw_container_db.specs.Stepping.{IsReadStep}
+use Rattle.sw_container_db.specs.declared.loaded_list.Loaded.{Loaded}
 use Rattle.sw_container_db.proofs.Ends.{reads, reads-none}
 use Rattle.sw_container_db.proofs.Fresh.{IsKept}
 
@@ -19,16 +22,21 @@ module _ {K : Type 0} (tells : K → Bool) (holds : K → Place → Option Table
     (grows : GrowsOf (cont_history_of tells holds faults k) (cont_history_of tells holds faults n))
     (settles : OnlySettles cont_rules (λ (p : Place). true) (cont_history_of tells holds faults k) (cont_history_of tells holds faults n))
     (fits : tells n.began ≡ true → (p : Place) → CanStand cont_rules (cont_history_of tells holds faults n) p (holds n.keeper p)) where
+  -- the tables that were used last, once those of the place were read
+  pub seen-known : (calls : K → ℕ) → Seen tells holds faults calls k place n → (t : Option Tables)
+      → ((others : List Loaded) (l : Loaded) → n.loaded ≡ others ++ l ∷ [] → t ≡ l.tables) → tells n.keeper ≡ true → t ≡ holds n.keeper place
+  seen-known calls seen t shown tell = shown _ (tables_at place seen.read) seen.looked.loaded
+      ∙ (seen.is_read.known (sym told ∙ tell) ∙ sym (same (sym told ∙ tell) place))
+
   -- the tables were there, and this is what is read of them
   pub read-step : {B : Type 0} (t : Option Tables) (reading : Option Tables → ℕ → Result B ContAnswer) (got : Result B ContAnswer) →
-      tells k.keeper ≡ tells k.began → n.journal.doubts ≡ [] → n.loaded ≡ Some place
-      → ((p : Place) → n.loaded ≡ Some p → tells n.keeper ≡ true → t ≡ holds n.keeper p)
+      tells k.keeper ≡ tells k.began → n.journal.doubts ≡ [] → (tells n.keeper ≡ true → t ≡ holds n.keeper place)
       → got ≡ reading t (length n.journal.entries) → cont_look got ≡ Tells → IsReadStep tells holds faults k place reading got n
-  read-step t reading got tied none at known shown is = record {
+  read-step t reading got tied none known shown is = record {
     same = record { began = began; told = told; fresh = fresh };
     all = same;
     read = reads (cont_history_of tells holds faults k) (cont_history_of tells holds faults n) place (holds n.keeper) reading grows settles fits t got none
-        (λ tell. known place at (told ∙ (tied ∙ (sym (ap tells began) ∙ tell)))) shown is;
+        (λ tell. known (told ∙ (tied ∙ (sym (ap tells began) ∙ tell)))) shown is;
   }
 
   -- they weren't

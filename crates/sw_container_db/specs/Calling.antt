@@ -1,15 +1,17 @@
 -- The calls of the keeper that a step makes, in their order, and how many of them failed: the load that settles the doubt, the load of the
--- container's tables where they aren't loaded already, and the commit. (This project's own.)
-use Rattle.std.specs.Prelude.{◌≡◌, ℕ, zero, suc, ◌≤◌, Bool, true, false, if◌then◌else◌, List, [], ◌∷◌, Option, None, Some, ◌⊎◌, Result, Ok, Err}
+-- container's tables where they aren't loaded already, and the commit; and what stays loaded then. (This project's own.)
+use Rattle.std.specs.Prelude.{◌≡◌, ℕ, zero, suc, ◌≤◌, Bool, true, if◌then◌else◌, List, [], ◌∷◌, ◌++◌, Option, IfSome, ◌⊎◌, Result, Ok, Err}
 use Rattle.sw_hashpath.specs.declared.place.Place.{Place}
 use Rattle.sw_outside.specs.Counts.{raised}
 use Rattle.sw_keeper.specs.declared.tables.Tables.{Tables}
-use Rattle.sw_container_steps.specs.Entries.{is_same_place}
+use Rattle.sw_container_steps.specs.Entries.{all_entered}
 use Rattle.sw_container_steps.specs.Steps.{entries_for}
 use Rattle.sw_container_steps.specs.declared.cont_answer.ContAnswer.{ContAnswer}
 use Rattle.sw_container_steps.specs.declared.cont_answer.ContAnswer.TheVariants as answers
 use Rattle.sw_container_steps.specs.declared.cont_change.ContChange.{ContChange}
 use Rattle.sw_container_db.specs.ContDirs.{ContKept}
+use Rattle.sw_container_db.specs.LoadedList.{found, is_loaded, rows_held, tables_at, trimmed, without}
+use Rattle.sw_container_db.specs.declared.loaded_list.Loaded.{Loaded}
 
 -- one more for each of so many calls, up to the greatest count
 abbrev pub raised_by : ℕ → ℕ → ℕ
@@ -21,115 +23,154 @@ abbrev pub call_for : {A : Type 0} → List A → ℕ
 call_for [] = 0
 call_for (x ∷ xs) = 1
 
--- the place whose tables are loaded once the doubt is settled: none where there was one
-abbrev pub loaded_after : {A : Type 0} → List A → Option Place → Option Place
+-- what stays loaded once the doubt is settled: where there was one, room was made for the tables by which it is settled
+abbrev pub loaded_after : {A : Type 0} → List A → List Loaded → List Loaded
 loaded_after [] loaded = loaded
-loaded_after (x ∷ xs) loaded = None
-
--- whether the tables that are loaded are those of this place
-abbrev pub is_loaded : Option Place → Place → Bool
-is_loaded None place = false
-is_loaded (Some at) place = is_same_place at place
+loaded_after (x ∷ xs) loaded = trimmed 0 loaded
 
 -- the load of the tables of a place: none where they are loaded
-abbrev pub load_for : Option Place → Place → ℕ
-load_for loaded place = if is_loaded loaded place then 0 else 1
+abbrev pub load_for : List Loaded → Place → ℕ
+load_for loaded place = if is_loaded place loaded then 0 else 1
 
--- the same once the doubt is settled
+-- what stays loaded beside the tables of a place once they were read: all else where they were loaded already, and where not what leaves room for them
+abbrev pub beside : Place → Option Tables → List Loaded → List Loaded
+beside place read loaded = if is_loaded place loaded then without place loaded else trimmed (rows_held read) loaded
+
+-- what stays loaded beside them once these entries were made: all else where there are none, and what leaves room for what they leave where there are
+abbrev pub beside_made : {A : Type 0} → List A → Option Tables → List Loaded → List Loaded
+beside_made [] left others = others
+beside_made (x ∷ xs) left others = trimmed (rows_held left) others
+
+-- the tables that a step leaves, over those that it read
+abbrev pub left_by : Option Tables → Place → ContChange → Option Tables
+left_by read place change = all_entered read (entries_for read place change)
+
+-- what is loaded once the doubt of a lock is settled
+abbrev pub settled_in : {K : Type 0} → ContKept K → List Loaded
+settled_in k = loaded_after k.journal.doubts k.loaded
+
+-- the load of the tables of a place once the doubt is settled
 abbrev pub load_at : {K : Type 0} → ContKept K → Place → ℕ
-load_at k place = load_for (loaded_after k.journal.doubts k.loaded) place
+load_at k place = load_for (settled_in k) place
 
 module _ {K : Type 0} (tells : K → Bool) (holds : K → Place → Option Tables) (faults calls : K → ℕ) where
   -- at every place is held what was held there
   abbrev pub SameTables : ContKept K → ContKept K → Type 0
   SameTables k n = tells k.keeper ≡ true → (place : Place) → holds n.keeper place ≡ holds k.keeper place
 
+  -- the tables that a step reads at a place: those that are loaded, where they are, and those that are held, where the keeper tells them
+  pub record IsRead (k : ContKept K) (place : Place) (read : Option Tables) : Type 0 where
+    pub loaded : IfSome (found place (settled_in k)) (λ l. read ≡ l.tables)
+    pub known : tells k.keeper ≡ true → read ≡ holds k.keeper place
+
   -- the call that settles the doubt, where there is one, so many loads, so many commits after them, and so many calls that failed
   pub record Counts (loads commits fails : ℕ) (k n : ContKept K) : Type 0 where
     pub called : calls n.keeper ≡ raised_by commits (raised_by loads (raised_by (call_for k.journal.doubts) (calls k.keeper)))
     pub failed : faults n.keeper ≡ raised_by fails (faults k.keeper)
 
-  -- no doubt is left; so many loads were made, nothing was committed, and the tables of this place are loaded
-  pub record Looked (loads : ℕ) (at : Option Place) (k n : ContKept K) : Type 0 where
+  -- ---- once the tables were read, where so many loads were made and these others stay loaded
+
+  -- no doubt is left, nothing was committed, and the tables of the place are the last
+  pub record Looked (loads : ℕ) (others : List Loaded) (read : Option Tables) (k : ContKept K) (place : Place) (n : ContKept K) : Type 0 where
     pub counts : Counts loads 0 0 k n
     pub settled : n.journal.doubts ≡ []
     pub same : SameTables k n
-    pub loaded : n.loaded ≡ at
+    pub loaded : n.loaded ≡ others ++ tables_at place read ∷ []
 
-  -- no doubt is left; what the step enters over the tables that were read was committed, where it enters anything, and they are loaded
-  pub record Wrote (loads : ℕ) (k : ContKept K) (place : Place) (change : ContChange) (n : ContKept K) : Type 0 where
-    pub read : Option Tables
-    pub known : tells k.keeper ≡ true → read ≡ holds k.keeper place
+  -- no doubt is left; what the step enters was committed, where it enters anything, and the tables that it leaves are the last
+  pub record Wrote (loads : ℕ) (others : List Loaded) (read : Option Tables) (k : ContKept K) (place : Place) (change : ContChange) (n : ContKept K)
+      : Type 0 where
     pub counts : Counts loads (call_for (entries_for read place change)) 0 k n
     pub settled : n.journal.doubts ≡ []
-    pub loaded : n.loaded ≡ Some place
+    pub loaded : n.loaded ≡ beside_made (entries_for read place change) (left_by read place change) others ++ tables_at place (left_by read place change) ∷ []
 
-  -- the load that was to settle the doubt failed: nothing has changed, but that no tables are loaded
-  pub record SettlingFails (k n : ContKept K) : Type 0 where
-    pub in_doubt : call_for k.journal.doubts ≡ 1
-    pub counts : Counts 0 0 1 k n
-    pub journal : n.journal ≡ k.journal
-    pub same : SameTables k n
-    pub loaded : n.loaded ≡ None
-
-  -- a load was needed, and failed: no tables have changed, no doubt is left, and no tables are loaded
-  pub record LoadFails (loads : ℕ) (k n : ContKept K) : Type 0 where
-    pub needed : loads ≡ 1
-    pub counts : Counts 1 0 1 k n
-    pub settled : n.journal.doubts ≡ []
-    pub same : SameTables k n
-    pub loaded : n.loaded ≡ None
-
-  -- the commit failed: what the step enters over the tables that were read is in doubt, and no tables are loaded
-  pub record CommitFails (loads : ℕ) (k : ContKept K) (place : Place) (change : ContChange) (n : ContKept K) : Type 0 where
-    pub read : Option Tables
-    pub known : tells k.keeper ≡ true → read ≡ holds k.keeper place
+  -- the commit failed: what the step enters is in doubt, and the others alone are loaded
+  pub record CommitFails (loads : ℕ) (others : List Loaded) (read : Option Tables) (k : ContKept K) (place : Place) (change : ContChange) (n : ContKept K)
+      : Type 0 where
     pub counts : Counts loads 1 1 k n
     pub doubted : n.journal.doubts ≡ entries_for read place change ∷ []
-    pub loaded : n.loaded ≡ None
+    pub loaded : n.loaded ≡ others
 
-  -- memory ran out: no tables have changed, no call failed, and nothing is in doubt that wasn't. Of the calls that may be made each was made or
-  -- wasn't, and no tables are loaded, or those of this place
-  pub record Wanted (loads commits : ℕ) (at : Option Place) (k n : ContKept K) : Type 0 where
-    pub some_loads : ℕ
-    pub some_commits : ℕ
-    pub within : (some_loads ≤ loads) × (some_commits ≤ commits)
-    pub counts : Counts some_loads some_commits 0 k n
-    pub journal : (n.journal ≡ k.journal) ⊎ (n.journal.doubts ≡ [])
+  -- memory ran out: no tables have changed, no call failed, and no doubt is left. The commit was made or wasn't, and the tables of the place are the last,
+  -- or the others alone are loaded
+  pub record CommitWants (loads : ℕ) (others : List Loaded) (read : Option Tables) (k : ContKept K) (place : Place) (n : ContKept K) : Type 0 where
+    pub commits : ℕ
+    pub within : commits ≤ 1
+    pub counts : Counts loads commits 0 k n
+    pub settled : n.journal.doubts ≡ []
     pub same : SameTables k n
-    pub loaded : (n.loaded ≡ None) ⊎ (n.loaded ≡ at)
+    pub loaded : (n.loaded ≡ others ++ tables_at place read ∷ []) ⊎ (n.loaded ≡ others)
 
-  -- of a step that makes so many loads, by its answer
-  abbrev pub CalledBy : ℕ → ContKept K → Place → ContChange → ContAnswer → ContKept K → Type 0
-  CalledBy loads k place change (answers.New front) n = Wrote loads k place change n
-  CalledBy loads k place change (answers.There front) n = Wrote loads k place change n
-  CalledBy loads k place change (answers.Done front) n = Wrote loads k place change n
-  CalledBy loads k place change answers.Absent n = Looked loads (Some place) k n
-  CalledBy loads k place change (answers.Stale time) n = Looked loads (Some place) k n
-  CalledBy loads k place change (answers.NotEmpty count) n = Looked loads (Some place) k n
-  CalledBy loads k place change answers.JournalFull n = Looked loads (Some place) k n
-  CalledBy loads k place change answers.Failed n = SettlingFails k n ⊎ LoadFails loads k n ⊎ CommitFails loads k place change n
-  CalledBy loads k place change answers.NoMemory n = Wanted loads 1 (Some place) k n
+  -- by the answer of the step
+  abbrev pub CalledBy : ℕ → List Loaded → Option Tables → ContKept K → Place → ContChange → ContAnswer → ContKept K → Type 0
+  CalledBy loads others read k place change (answers.New front) n = Wrote loads others read k place change n
+  CalledBy loads others read k place change (answers.There front) n = Wrote loads others read k place change n
+  CalledBy loads others read k place change (answers.Done front) n = Wrote loads others read k place change n
+  CalledBy loads others read k place change answers.Absent n = Looked loads others read k place n
+  CalledBy loads others read k place change (answers.Stale time) n = Looked loads others read k place n
+  CalledBy loads others read k place change (answers.NotEmpty count) n = Looked loads others read k place n
+  CalledBy loads others read k place change answers.JournalFull n = Looked loads others read k place n
+  CalledBy loads others read k place change answers.Failed n = CommitFails loads others read k place change n
+  CalledBy loads others read k place change answers.NoMemory n = CommitWants loads others read k place n
+
+  -- ---- of whole steps
+
+  -- the doubt wasn't settled: so many calls failed, and where none did memory ran out. Nothing has changed, but that room was made
+  pub record Unsettled (fails : ℕ) (k n : ContKept K) : Type 0 where
+    pub in_doubt : call_for k.journal.doubts ≡ 1
+    pub counts : Counts 0 0 fails k n
+    pub journal : n.journal ≡ k.journal
+    pub same : SameTables k n
+    pub loaded : n.loaded ≡ trimmed 0 k.loaded
+
+  -- a load was needed, and gave no tables: so many calls failed, and where none did memory ran out. No tables have changed, no doubt is left, and room was
+  -- made for the tables
+  pub record Unread (fails loads : ℕ) (k n : ContKept K) : Type 0 where
+    pub needed : loads ≡ 1
+    pub counts : Counts 1 0 fails k n
+    pub settled : n.journal.doubts ≡ []
+    pub same : SameTables k n
+    pub loaded : n.loaded ≡ trimmed 0 (settled_in k)
+
+  -- the tables of the place were read, and nothing else was done
+  pub record Seen (k : ContKept K) (place : Place) (n : ContKept K) : Type 0 where
+    pub read : Option Tables
+    pub is_read : IsRead k place read
+    pub looked : Looked (load_at k place) (beside place read (settled_in k)) read k place n
+
+  -- the tables of the place were read, and the step came to this answer over them
+  pub record Came (k : ContKept K) (place : Place) (change : ContChange) (answer : ContAnswer) (n : ContKept K) : Type 0 where
+    pub read : Option Tables
+    pub is_read : IsRead k place read
+    pub called : CalledBy (load_at k place) (beside place read (settled_in k)) read k place change answer n
 
   -- of a step at a place
   abbrev pub Called : ContKept K → Place → ContChange → ContAnswer → ContKept K → Type 0
-  Called k place change answer n = CalledBy (load_at k place) k place change answer n
+  Called k place change answers.Failed n = Unsettled 1 k n ⊎ Unread 1 (load_at k place) k n ⊎ Came k place change answers.Failed n
+  Called k place change answers.NoMemory n = Unsettled 0 k n ⊎ Unread 0 (load_at k place) k n ⊎ Came k place change answers.NoMemory n
+  Called k place change answer n = Came k place change answer n
 
-  -- of what makes so many loads, and got no more than this answer
-  abbrev pub RefusedBy : ℕ → Option Place → ContKept K → ContAnswer → ContKept K → Type 0
-  RefusedBy loads at k answers.Failed n = SettlingFails k n ⊎ LoadFails loads k n
-  RefusedBy loads at k answers.NoMemory n = Wanted loads 0 at k n
-  RefusedBy loads at k answer n = Looked loads at k n
-
-  -- of what makes so many loads, by what it got
-  abbrev pub LookedBy : {A : Type 0} → ℕ → Option Place → ContKept K → Result A ContAnswer → ContKept K → Type 0
-  LookedBy loads at k (Ok got) n = Looked loads at k n
-  LookedBy loads at k (Err answer) n = RefusedBy loads at k answer n
+  -- of a read at a place, by the answer in place of what it reads
+  abbrev pub RefusedBy : ContKept K → Place → ContAnswer → ContKept K → Type 0
+  RefusedBy k place answers.Failed n = Unsettled 1 k n ⊎ Unread 1 (load_at k place) k n
+  RefusedBy k place answers.NoMemory n = Unsettled 0 k n ⊎ Unread 0 (load_at k place) k n ⊎ Seen k place n
+  RefusedBy k place answer n = Seen k place n
 
   -- of a read at a place
   abbrev pub ReadCalled : {A : Type 0} → ContKept K → Place → Result A ContAnswer → ContKept K → Type 0
-  ReadCalled k place got n = LookedBy (load_at k place) (Some place) k got n
+  ReadCalled k place (Ok got) n = Seen k place n
+  ReadCalled k place (Err answer) n = RefusedBy k place answer n
 
-  -- of the names, whose call counts as a load. It leaves loaded what is
+  -- the names were asked for in one call, of which so many failed, with no doubt left; what is loaded stays
+  pub record Named (fails : ℕ) (k n : ContKept K) : Type 0 where
+    pub counts : Counts 1 0 fails k n
+    pub settled : n.journal.doubts ≡ []
+    pub same : SameTables k n
+    pub loaded : n.loaded ≡ settled_in k
+
+  -- of the names
   abbrev pub NamesCalled : {A : Type 0} → ContKept K → Result A ContAnswer → ContKept K → Type 0
-  NamesCalled k got n = LookedBy 1 (loaded_after k.journal.doubts k.loaded) k got n
+  NamesCalled k (Ok got) n = Named 0 k n
+  NamesCalled k (Err answers.Failed) n = Unsettled 1 k n ⊎ Named 1 k n
+  NamesCalled k (Err answers.NoMemory) n = Unsettled 0 k n ⊎ Named 0 k n
+  NamesCalled k (Err answer) n = Named 0 k n

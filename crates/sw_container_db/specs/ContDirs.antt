@@ -1,5 +1,5 @@
 -- What contracts see of the containers of one lock: a keeper, and the journal of what was done with it. (This project's own.)
-use Rattle.std.specs.Prelude.{◌≡◌, ◌≢◌, ℕ, Bool, true, List, [], ◌∷◌, Option, None, Some, ⊤}
+use Rattle.std.specs.Prelude.{◌≡◌, ◌≢◌, ℕ, Bool, true, List, [], ◌∷◌, Option, None, Some, All, ⊤}
 use Rattle.std.specs.List.{fold}
 use Rattle.sw_hashpath.specs.declared.place.Place.{Place}
 use Rattle.sw_keeper.specs.declared.tables.Tables.{Tables}
@@ -8,14 +8,14 @@ use Rattle.sw_container_steps.specs.Entries.{entered}
 use Rattle.sw_container_steps.specs.Laws.{sign_of}
 use Rattle.sw_container_steps.specs.Rules.{ContHistory, ContJournal, cont_rules}
 use Rattle.sw_container_steps.specs.declared.cont_entry.ContEntry.{ContEntry}
-use Rattle.sw_container_db.specs.declared.loading.Loaded.{Loaded}
+use Rattle.sw_container_db.specs.declared.loaded_list.Loaded.{Loaded}
 use Rattle.sw_container_db.specs.declared.sign.Doubt.{Doubt}
 
--- a keeper now and as the journal began, the place whose tables are loaded, what was entered since it was last taken out, and the journal
+-- a keeper now and as the journal began, the tables that are loaded, what was entered since it was last taken out, and the journal
 pub record ContKept (K : Type 0) : Type 0 where
   pub keeper : K
   pub began : K
-  pub loaded : Option Place
+  pub loaded : List Loaded
   pub fresh : List ContEntry
   pub journal : ContJournal
 
@@ -28,15 +28,9 @@ abbrev pub doubts_in : Option Doubt → List (List ContEntry)
 doubts_in None = []
 doubts_in (Some d) = d.batch.items ∷ []
 
--- the place whose tables are loaded
-abbrev pub place_of : Option Loaded → Option Place
-place_of None = None
-place_of (Some l) = Some l.place
-
 -- the tables that are loaded are those that are held
-abbrev pub AreHeld : Option Loaded → (Place → Option Tables) → Type 0
-AreHeld None held = ⊤
-AreHeld (Some l) held = l.tables ≡ held l.place
+abbrev pub AreHeld : List Loaded → (Place → Option Tables) → Type 0
+AreHeld loaded held = All (λ l. l.tables ≡ held l.place) loaded
 
 -- a doubt is one of its place
 abbrev pub AreOwn : Option Doubt → Type 0
@@ -51,11 +45,10 @@ IsSigned (Some d) stood = (d.sign ≡ sign_of (stood d.place)) × (sign_of (fold
 -- the invariant: the keeper tells as it did, and the journal has the one doubt that there may be. Where the keeper tells what it holds, each place may
 -- stand for what is held there, the sign of the doubt tells whether it was made, and what is loaded is what is held
 pub record IsContDir {K : Type 0} (tells : K → Bool) (holds : K → Place → Option Tables) (faults : K → ℕ) (k : ContKept K) (doubt : Option Doubt)
-    (loaded : Option Loaded) : Type 0 where
+    : Type 0 where
   pub same : tells k.keeper ≡ tells k.began
   pub doubts : k.journal.doubts ≡ doubts_in doubt
   pub own : AreOwn doubt
   pub fits : tells k.began ≡ true → (place : Place) → CanStand cont_rules (cont_history_of tells holds faults k) place (holds k.keeper place)
   pub signed : tells k.began ≡ true → IsSigned doubt (stands cont_rules (cont_history_of tells holds faults k))
-  pub place : k.loaded ≡ place_of loaded
-  pub held : tells k.began ≡ true → AreHeld loaded (holds k.keeper)
+  pub held : tells k.began ≡ true → AreHeld k.loaded (holds k.keeper)

@@ -1,3 +1,5 @@
 pub mod Calling
 pub mod ContDirs
+pub mod LoadedList
+pub mod Loading
 pub mod Stepping

@@ -1,14 +1,16 @@
-ghost use Rattle.std.specs.Prelude.{◌≡◌, ◌≢◌, ◌+◌, ◌<◌, ◌^◌, true, List, [], ◌++◌, Some, length, nat_le, ◌&&◌};
+ghost use Rattle.std.specs.Prelude.{◌≡◌, ◌≢◌, ◌+◌, ◌<◌, ◌^◌, true, List, [], ◌∷◌, ◌++◌, Option, length, nat_le, ◌&&◌};
 ghost use Rattle.sw_container_db.specs.Calling.{Called, CalledBy};
 ghost use Rattle.sw_container_db.specs.ContDirs.{cont_history_of};
+ghost use Rattle.sw_container_db.specs.LoadedList.{tables_at, IsLast};
 ghost use Rattle.sw_container_db.specs.Stepping.{IsStep};
 ghost use Rattle.sw_container_steps.specs.Rules.{ChangesContainer};
 ghost use Rattle.sw_container_steps.specs.declared.cont_entry.ContEntry.{ContEntry};
+ghost use Rattle.sw_container_db.specs.declared.loaded_list.Loaded.{Loaded};
 ghost use Rattle.sw_hashpath.specs.declared.place.Place.{Place};
+ghost use Rattle.sw_keeper.specs.declared.tables.Tables.{Tables};
 
 use crate::cont_dir::ContDir;
 use crate::entering::{enter, make_room};
-use crate::loading::{Loaded, tables_in, take};
 use crate::sign::{Doubt, sign_of};
 use std::alloc::Global;
 use sw_container_steps::{
@@ -36,19 +38,21 @@ impl<K: Keeper + Drop> ContDir<K> {
         }
     }
 
-    /// The same, with no doubt left and the tables loaded. Room for the entries is taken before the commit, and the tables are taken apart only for it.
+    /// The same, with no doubt left and the tables the last that are loaded. Room for the entries is taken before the commit, and the tables are taken
+    /// apart only for it.
     fn make(&mut self, alloc: Global, place: &Place, change: &ContChange) -> ContAnswer
         requires doubt { self.old.journal.doubts ≡ [] }
-        requires loaded { self.old.loaded ≡ Some place.now }
+        requires loaded { IsLast place.now self.old.loaded }
         ensures began { self.new.began ≡ self.old.began }
         ensures told { K.tells self.new.keeper ≡ K.tells self.old.keeper }
         ensures fresh { (added : List ContEntry) → self.new.journal.entries ≡ self.old.journal.entries ++ added → self.new.fresh ≡ self.old.fresh ++ added }
         ensures others { K.tells self.old.keeper ≡ true → (p : Place) → p ≢ place.now → K.holds self.new.keeper p ≡ K.holds self.old.keeper p }
         ensures made { ChangesContainer true (cont_history_of K.tells K.holds K.faults self.old) (K.holds self.old.keeper) place.now change.now
             result (cont_history_of K.tells K.holds K.faults self.new) (K.holds self.new.keeper place.now) }
-        ensures called { CalledBy K.tells K.holds K.faults K.calls 0 self.old place.now change.now result self.new }
+        ensures called { (others : List Loaded) → (read : Option Tables) → self.old.loaded ≡ others ++ tables_at place.now read ∷ []
+            → CalledBy K.tells K.holds K.faults K.calls 0 others read self.old place.now change.now result self.new }
     {
-        let tables = tables_in(&self.loaded);
+        let tables = self.loaded.last();
         let entries = match decide(alloc, tables, place, change) {
             Ok(Decision::Refused(answer)) => return answer,
             Ok(Decision::Makes(entries)) => entries,
@@ -68,23 +72,24 @@ impl<K: Keeper + Drop> ContDir<K> {
         if make_room(&mut self.entries, &mut self.fresh, batch.len()).is_err() {
             return ContAnswer::NoMemory;
         }
-        let Loaded { place: at, tables } = take(&mut self.loaded);
+        let tables = self.loaded.take_last();
         let Ok(made) = batch_of(alloc, tables, &batch) else {
+            let _ = self.loaded.let_go();
             return ContAnswer::NoMemory;
         };
         match self.keeper.commit(alloc, place, &made.batch) {
             Ok(()) => {
                 enter(&mut self.entries, &mut self.fresh, batch);
-                self.loaded = Some(Loaded {
-                    place: at,
-                    tables: made.tables,
-                });
+                self.loaded.put_last(made.tables);
                 answer
             }
-            Err(KeeperError::NoMemory) => ContAnswer::NoMemory,
+            Err(KeeperError::NoMemory) => {
+                let _ = self.loaded.let_go();
+                ContAnswer::NoMemory
+            }
             Err(KeeperError::Failed) => {
                 self.doubt = Some(Doubt {
-                    place: at,
+                    place: self.loaded.let_go(),
                     batch,
                     sign,
                 });

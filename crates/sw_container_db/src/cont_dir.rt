@@ -1,10 +1,11 @@
-ghost use Rattle.std.specs.Prelude.{◌≡◌, true, [], None, length};
+ghost use Rattle.std.specs.Prelude.{◌≡◌, true, [], length};
 ghost use Rattle.sw_container_db.specs.ContDirs.{cont_history_of};
+ghost use Rattle.sw_container_db.specs.LoadedList.{IsBounded};
 ghost use Rattle.sw_container_steps.specs.Rules.{cont_rules};
 ghost use Rattle.sw_step.specs.Rules.{CanStand};
 ghost use Rattle.sw_hashpath.specs.declared.place.Place.{Place};
 
-use crate::loading::Loaded;
+use crate::loaded_list::LoadedList;
 use crate::sign::Doubt;
 use std::alloc::Global;
 use std::marker::Model;
@@ -18,12 +19,12 @@ use sw_keeper::Keeper;
 /// its commit, if one did and isn't settled.
 ///
 /// Of what was entered only contracts see all. The entries themselves are kept until they are taken. The tables that were
-/// loaded last are kept too, as long as they are what the keeper holds.
+/// used last are kept too, as long as they are what the keeper holds.
 #[derive(Drop)]
 pub struct ContDir<K: Keeper + Drop> {
     pub(crate) keeper: K,
     opening: Snapshot<K>,
-    pub(crate) loaded: Option<Loaded>,
+    pub(crate) loaded: LoadedList,
     pub(crate) entries: Vec<Seen<ContEntry>>,
     pub(crate) fresh: Vec<ContEntry>,
     pub(crate) doubt: Option<Doubt>,
@@ -31,14 +32,14 @@ pub struct ContDir<K: Keeper + Drop> {
 }
 
 impl<K: Keeper + Drop> Model for ContDir<K> {
-    ghost use Rattle.sw_container_db.specs.ContDirs.{ContKept, IsContDir, doubts_in, place_of};
+    ghost use Rattle.sw_container_db.specs.ContDirs.{ContKept, IsContDir, doubts_in};
 
     ghost Value = { ContKept K };
 
     ghost view = { λ n. record {
       keeper = n.keeper;
       began = n.opening.value;
-      loaded = place_of n.loaded;
+      loaded = n.loaded;
       fresh = n.fresh.items;
       journal = record { entries = n.entries.items; doubts = doubts_in n.doubt; max_entries = n.max_entries; max_bytes = 0 };
     } };
@@ -46,10 +47,10 @@ impl<K: Keeper + Drop> Model for ContDir<K> {
     ghost invariant = { λ n. IsContDir K.tells K.holds K.faults (record {
       keeper = n.keeper;
       began = n.opening.value;
-      loaded = place_of n.loaded;
+      loaded = n.loaded;
       fresh = n.fresh.items;
       journal = record { entries = n.entries.items; doubts = doubts_in n.doubt; max_entries = n.max_entries; max_bytes = 0 };
-    }) n.doubt n.loaded };
+    }) n.doubt };
 }
 
 impl<K: Keeper + Drop> ContDir<K> {
@@ -59,12 +60,12 @@ impl<K: Keeper + Drop> ContDir<K> {
         ensures began { result.began ≡ keeper }
         ensures journal { result.journal ≡ record { entries = []; doubts = []; max_entries = max_entries; max_bytes = 0 } }
         ensures fresh { result.fresh ≡ [] }
-        ensures loaded { result.loaded ≡ None }
+        ensures loaded { result.loaded ≡ [] }
     {
         ContDir {
             opening: Snapshot::of(&keeper),
             keeper,
-            loaded: None,
+            loaded: LoadedList::new(alloc),
             entries: Vec::new(alloc),
             fresh: Vec::new(alloc),
             doubt: None,
@@ -78,6 +79,13 @@ impl<K: Keeper + Drop> ContDir<K> {
             → CanStand cont_rules (cont_history_of K.tells K.holds K.faults self.now) place (K.holds self.now.keeper place) }
     {
         let _ = &self.keeper;
+    }
+
+    /// The tables of at most 64 containers are loaded, with at most 262,144 rows, or those of one container alone. It does nothing: its clause tells it.
+    pub fn stays_bounded(&self)
+        ensures { IsBounded self.now.loaded }
+    {
+        self.loaded.stay_bounded();
     }
 
     /// The front: how many entries the journal has.

@@ -1,7 +1,8 @@
-ghost use Rattle.std.specs.Prelude.{◌≡◌, ◌≢◌, true, List, [], ◌++◌, Some, None, IsSome, IfSome, IfErr, OnOk, OnErr};
-ghost use Rattle.sw_container_db.specs.Calling.{ReadCalled, is_loaded, load_for, raised_by};
-ghost use Rattle.sw_container_db.specs.ContDirs.{cont_history_of, place_of};
-ghost use Rattle.sw_container_steps.specs.Entries.{is_same_place};
+ghost use Rattle.std.specs.Prelude.{◌≡◌, ◌≢◌, true, List, ◌++◌, IfErr, OnOk, OnErr};
+ghost use Rattle.sw_container_db.specs.Calling.{ReadCalled, load_for, raised_by};
+ghost use Rattle.sw_container_db.specs.ContDirs.{cont_history_of};
+ghost use Rattle.sw_container_db.specs.LoadedList.{trimmed};
+ghost use Rattle.sw_container_db.specs.Loading.{Loads};
 ghost use Rattle.sw_container_steps.specs.Rules.{cont_ending, cont_rules, look_by};
 ghost use Rattle.sw_step.specs.Rules.{CanStand, Fails};
 ghost use Rattle.sw_step.specs.Steps.{OnlySettles, Tells};
@@ -13,17 +14,9 @@ ghost use Rattle.sw_outside.specs.Faults.{HasRisen};
 
 use crate::cont_dir::ContDir;
 use std::alloc::Global;
-use std::mem;
 use sw_container_steps::ContAnswer;
 use sw_hashpath::Place;
-use sw_keeper::{Keeper, KeeperError, Tables};
-
-/// The tables of a place, as the keeper holds them.
-#[derive(Debug, Drop)]
-pub(crate) struct Loaded {
-    pub(crate) place: Place,
-    pub(crate) tables: Option<Tables>,
-}
+use sw_keeper::{Keeper, KeeperError};
 
 impl<K: Keeper + Drop> ContDir<K> {
     /// Settles the doubt where there is one, and then loads the tables of the place where they aren't loaded. No tables change.
@@ -73,68 +66,25 @@ impl<K: Keeper + Drop> ContDir<K> {
         }
     }
 
-    /// Loads the tables of the place where they aren't loaded. Those of another place go first, so that two are never held at once.
+    /// Loads the tables of the place where they aren't loaded. Those used longest ago go before, until there is room for one more.
     fn load(&mut self, alloc: Global, place: &Place) -> Result<(), KeeperError>
         ensures began { self.new.began ≡ self.old.began }
         ensures journal { self.new.journal ≡ self.old.journal }
         ensures fresh { self.new.fresh ≡ self.old.fresh }
         ensures told { K.tells self.new.keeper ≡ K.tells self.old.keeper }
         ensures same { K.tells self.old.keeper ≡ true → (p : Place) → K.holds self.new.keeper p ≡ K.holds self.old.keeper p }
-        ensures loaded { OnOk result (self.new.loaded ≡ Some place.now) }
-        ensures unloaded { OnErr result (self.new.loaded ≡ None) }
+        ensures loaded { OnOk result (Loads K.tells K.holds self.old place.now self.new) }
+        ensures unloaded { OnErr result (self.new.loaded ≡ trimmed 0 self.old.loaded) }
         ensures needed { OnErr result (load_for self.old.loaded place.now ≡ 1) }
         ensures cause { HasCause (K.faults self.old.keeper) (K.faults self.new.keeper) result }
         ensures calls { K.calls self.new.keeper ≡ raised_by (load_for self.old.loaded place.now) (K.calls self.old.keeper) }
     {
-        if is_of(&self.loaded, place) {
+        if self.loaded.touch(place) {
             return Ok(());
         }
-        self.loaded = None;
+        self.loaded.leave_room();
         let tables = self.keeper.load(alloc, place)?;
-        let place = place.copy(alloc)?;
-        self.loaded = Some(Loaded { place, tables });
+        self.loaded.push(alloc, place, tables)?;
         Ok(())
     }
-}
-
-/// The tables, where any are loaded.
-pub(crate) fn tables_in(loaded: &Option<Loaded>) -> &Option<Tables>
-    requires { IsSome loaded.now }
-    ensures { IfSome loaded.now (λ l. result.now ≡ l.tables) }
-{
-    match loaded {
-        Some(loaded) => &loaded.tables,
-        None => unreachable!(),
-    }
-}
-
-/// Takes the tables out, where any are loaded.
-pub(crate) fn take(loaded: &mut Option<Loaded>) -> Loaded
-    requires { IsSome loaded.old }
-    ensures value { loaded.old ≡ Some result }
-    ensures after { loaded.new ≡ None }
-{
-    match mem::replace(loaded, None) {
-        Some(loaded) => loaded,
-        None => unreachable!(),
-    }
-}
-
-/// Whether these are the tables of the place.
-fn is_of(loaded: &Option<Loaded>, place: &Place) -> bool
-    ensures { result ≡ is_loaded (place_of loaded.now) place.now }
-{
-    match loaded {
-        Some(loaded) => is_same_place(&loaded.place, place),
-        None => false,
-    }
-}
-
-/// Whether two places are one, in all that they have.
-fn is_same_place(a: &Place, b: &Place) -> bool
-    ensures { result ≡ is_same_place a.now b.now }
-{
-    a.hash == b.hash
-        && a.account.as_slice() == b.account.as_slice()
-        && a.container.as_slice() == b.container.as_slice()
 }

@@ -36,10 +36,7 @@ impl<K: Keeper + Drop> ContDir<K> {
         }
         match self.keeper.names(alloc) {
             Ok(places) => Ok(places),
-            Err(KeeperError::Failed) => {
-                self.loaded = None;
-                Err(ContAnswer::Failed)
-            }
+            Err(KeeperError::Failed) => Err(ContAnswer::Failed),
             Err(KeeperError::NoMemory) => Err(ContAnswer::NoMemory),
         }
     }

@@ -1,11 +1,12 @@
-ghost use Rattle.std.specs.Prelude.{◌≡◌, true, Some, IsSome};
+ghost use Rattle.std.specs.Prelude.{◌≡◌, ◌++◌, ◌∷◌, [], List};
 ghost use Rattle.sw_container_db.specs.Calling.{ReadCalled};
+ghost use Rattle.sw_container_db.specs.LoadedList.{IsLast};
 ghost use Rattle.sw_container_db.specs.Stepping.{IsReadStep};
 ghost use Rattle.sw_container_steps.specs.Reads.{info_of, listing_of, times_of};
+ghost use Rattle.sw_container_db.specs.declared.loaded_list.Loaded.{Loaded};
 ghost use Rattle.sw_hashpath.specs.declared.place.Place.{Place};
 
 use crate::cont_dir::ContDir;
-use crate::loading::tables_in;
 use std::alloc::Global;
 use sw_container_steps::{ContAnswer, Info, info_of, list, times_of};
 use sw_hashpath::Place;
@@ -56,11 +57,11 @@ impl<K: Keeper + Drop> ContDir<K> {
         }
     }
 
-    /// The tables that are loaded, those of the place.
+    /// The tables that were used last, those of the place.
     fn tables(&self) -> &Option<Tables>
-        requires loaded { IsSome self.now.loaded }
-        ensures { (place : Place) → self.now.loaded ≡ Some place → K.tells self.now.keeper ≡ true → result.now ≡ K.holds self.now.keeper place }
+        requires { (place : Place) × IsLast place self.now.loaded }
+        ensures { (others : List Loaded) → (l : Loaded) → self.now.loaded ≡ others ++ l ∷ [] → result.now ≡ l.tables }
     {
-        tables_in(&self.loaded)
+        self.loaded.last()
     }
 }

@@ -18,8 +18,8 @@ use std::mem;
 use sw_keeper::{Keeper, KeeperError};
 
 impl<K: Keeper + Drop> ContDir<K> {
-    /// Settles the doubt, where there is one: its entries are entered where they were made, and it goes. Whether they were made is seen by a load, and
-    /// no tables stay loaded from before it.
+    /// Settles the doubt, where there is one: its entries are entered where they were made, and it goes. Whether they were made is seen by a load, for
+    /// which room is made.
     pub(crate) fn settle(&mut self, alloc: Global) -> Result<(), KeeperError>
         ensures began { self.new.began ≡ self.old.began }
         ensures grows { GrowsOf (cont_history_of K.tells K.holds K.faults self.old) (cont_history_of K.tells K.holds K.faults self.new) }
@@ -39,7 +39,7 @@ impl<K: Keeper + Drop> ContDir<K> {
         let Some(doubt) = mem::replace(&mut self.doubt, None) else {
             return Ok(());
         };
-        self.loaded = None;
+        self.loaded.leave_room();
         match was_made(alloc, &mut self.keeper, &doubt) {
             Ok(true) => {
                 if make_room(&mut self.entries, &mut self.fresh, doubt.batch.len()).is_err() {

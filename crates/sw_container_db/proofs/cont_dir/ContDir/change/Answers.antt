@@ -3,7 +3,6 @@ use Rattle.sw_keeper.specs.declared.tables.Tables.{Tables}
 use Rattle.sw_step.proofs.Settled.{added-is}
 use Rattle.sw_step.specs.Rules.{CanStand}
 use Rattle.sw_container_steps.specs.Rules.{cont_rules}
-use Rattle.sw_container_db.specs.Calling.{load_at}
 use Rattle.sw_container_db.specs.ContDirs.{cont_history_of}
 use Rattle.sw_container_db.proofs.Calls.{called-after, called-fault}
 use Rattle.sw_container_db.proofs.Fresh.{fresh-both}
@@ -45,11 +44,11 @@ returns-in-Err-clause-made g c =
 pub returns-in-Ok-clause-called : goal.returns-in-Ok-clause-called
 returns-in-Ok-clause-called g c =
     let v = g.K.Keeper in
-    called-after v.tells v.holds v.faults v.calls c.args.self.now c.ready.new.self (load_at c.args.self.now c.args.place.now) c.args.place.now
-    c.in-Ok.ensures.called c.ready.ensures.told c.make.new.self c.args.change.now c.make.result c.make.ensures.called
+    called-after v.tells v.holds v.faults v.calls c.args.self.now c.ready.new.self c.args.place.now c.in-Ok.ensures.called c.ready.ensures.told
+    c.make.new.self c.args.change.now c.make.result c.make.ensures.called
 
 pub returns-in-Err-clause-called : goal.returns-in-Err-clause-called
 returns-in-Err-clause-called g c =
     let v = g.K.Keeper in
-    called-fault v.tells v.holds v.faults v.calls c.args.self.now c.ready.new.self (load_at c.args.self.now c.args.place.now) c.args.place.now c.args.change.now
-    c.in-Err.answer c.in-Err.ensures.fault c.in-Err.ensures.called
+    called-fault v.tells v.holds v.faults v.calls c.args.self.now c.ready.new.self c.args.place.now c.args.change.now c.in-Err.answer c.in-Err.ensures.fault
+    c.in-Err.ensures.called

@@ -1,12 +1,17 @@
 use Rattle.std.proofs.lemmas.Result.{err_from_is_err_and}
-use Rattle.std.proofs.Common.{◌≡◌, length, Some, ◌∙◌, ap}
+use Rattle.std.proofs.Common.{◌≡◌, length, ◌∙◌, ap}
 use Rattle.sw_container_steps.specs.Reads.{info_of}
 use Rattle.sw_container_steps.specs.Rules.{cont_look}
-use Rattle.sw_container_db.specs.Calling.{load_at}
+use Rattle.sw_container_db.specs.Calling.{beside, settled_in}
 use Rattle.sw_container_db.proofs.Calls.{informed}
 use Rattle.sw_container_db.proofs.Ends.{info-tells}
-use Rattle.sw_container_db.proofs.ReadSteps.{read-none, read-step}
+use Rattle.sw_container_db.proofs.ReadSteps.{read-none, read-step, seen-known}
 use Rattle.sw_container_db.proofs.cont_dir.ContDir.info.Goals as goal
+
+pub tables-requires : goal.tables-requires
+tables-requires g c =
+    let seen = c.in_ok-ready.ensures.called in
+    (c.args.place.now, (beside c.args.place.now seen.read (settled_in c.args.self.now), seen.read, seen.looked.loaded))
 
 pub returns-clause-read : goal.returns-clause-read
 returns-clause-read g c =
@@ -15,13 +20,16 @@ returns-clause-read g c =
     c.info_of.ensures ∙ ap (info_of c.tables.result.now) c.front.ensures in
     read-step v.tells v.holds v.faults c.args.self.now c.ready.new.self place c.ready.ensures.began c.ready.ensures.told c.ready.ensures.fresh
     c.ready.ensures.same c.ready.ensures.grows c.ready.ensures.settles c.ready.ensures.fits c.tables.result.now info_of c.info_of.result
-    c.ready.ensures.tied c.in_ok-ready.ensures.called.settled c.in_ok-ready.ensures.called.loaded c.tables.ensures is
+    c.ready.ensures.tied c.in_ok-ready.ensures.called.looked.settled
+    (seen-known v.tells v.holds v.faults c.args.self.now c.ready.new.self place c.ready.ensures.began c.ready.ensures.told c.ready.ensures.fresh
+    c.ready.ensures.same c.ready.ensures.grows c.ready.ensures.settles c.ready.ensures.fits
+    v.calls c.in_ok-ready.ensures.called c.tables.result.now c.tables.ensures) is
     (ap cont_look is ∙ info-tells c.tables.result.now (length c.ready.new.self.journal.entries))
 
 pub returns-clause-called : goal.returns-clause-called
 returns-clause-called g c =
     let v = g.K.Keeper in let place = c.args.place.now in
-    informed v.tells v.holds v.faults v.calls c.args.self.now c.ready.new.self (load_at c.args.self.now place) (Some place) c.tables.result.now c.front.result
+    informed v.tells v.holds v.faults v.calls c.args.self.now c.ready.new.self place c.tables.result.now c.front.result
     c.info_of.result c.info_of.ensures c.in_ok-ready.ensures.called
 
 pub returns-in_err-ready-clause-read : goal.returns-in_err-ready-clause-read

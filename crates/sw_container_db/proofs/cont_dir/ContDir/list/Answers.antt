@@ -1,13 +1,18 @@
 use Rattle.sw_container_steps.specs.declared.cont_answer.ContAnswer.TheVariants as conts
 use Rattle.std.proofs.lemmas.Result.{err_from_is_err_and}
-use Rattle.std.proofs.Common.{length, Some, ◌∙◌, ap}
+use Rattle.std.proofs.Common.{length, ◌∙◌, ap}
 use Rattle.sw_container_steps.specs.Reads.{listing_of}
 use Rattle.sw_container_steps.specs.Rules.{cont_look}
-use Rattle.sw_container_db.specs.Calling.{load_at}
+use Rattle.sw_container_db.specs.Calling.{beside, settled_in}
 use Rattle.sw_container_db.proofs.Calls.{listed}
 use Rattle.sw_container_db.proofs.Ends.{listing-tells}
-use Rattle.sw_container_db.proofs.ReadSteps.{read-none, read-step}
+use Rattle.sw_container_db.proofs.ReadSteps.{read-none, read-step, seen-known}
 use Rattle.sw_container_db.proofs.cont_dir.ContDir.list.Goals as goal
+
+pub tables-requires : goal.tables-requires
+tables-requires g c =
+    let seen = c.in_ok-ready.ensures.called in
+    (c.args.place.now, (beside c.args.place.now seen.read (settled_in c.args.self.now), seen.read, seen.looked.loaded))
 
 pub returns-in-Ok-clause-read : goal.returns-in-Ok-clause-read
 returns-in-Ok-clause-read g c =
@@ -15,13 +20,16 @@ returns-in-Ok-clause-read g c =
     let front = length c.ready.new.self.journal.entries in
     read-step v.tells v.holds v.faults c.args.self.now c.ready.new.self place c.ready.ensures.began c.ready.ensures.told c.ready.ensures.fresh
     c.ready.ensures.same c.ready.ensures.grows c.ready.ensures.settles c.ready.ensures.fits c.tables.result.now (listing_of query) c.in-Ok.answer
-    c.ready.ensures.tied c.in_ok-ready.ensures.called.settled c.in_ok-ready.ensures.called.loaded c.tables.ensures
+    c.ready.ensures.tied c.in_ok-ready.ensures.called.looked.settled
+    (seen-known v.tells v.holds v.faults c.args.self.now c.ready.new.self place c.ready.ensures.began c.ready.ensures.told c.ready.ensures.fresh
+    c.ready.ensures.same c.ready.ensures.grows c.ready.ensures.settles c.ready.ensures.fits
+    v.calls c.in_ok-ready.ensures.called c.tables.result.now c.tables.ensures)
     (c.in-Ok.ensures front) (ap cont_look (c.in-Ok.ensures front) ∙ listing-tells query c.tables.result.now front)
 
 pub returns-in-Ok-clause-called : goal.returns-in-Ok-clause-called
 returns-in-Ok-clause-called g c =
     let v = g.K.Keeper in let place = c.args.place.now in let front = length c.ready.new.self.journal.entries in
-    listed v.tells v.holds v.faults v.calls c.args.self.now c.ready.new.self (load_at c.args.self.now place) (Some place) c.args.query.now c.tables.result.now
+    listed v.tells v.holds v.faults v.calls c.args.self.now c.ready.new.self place c.args.query.now c.tables.result.now
     front c.in-Ok.answer (c.in-Ok.ensures front) c.in_ok-ready.ensures.called
 
 pub returns-in_err-ready-clause-read : goal.returns-in_err-ready-clause-read
