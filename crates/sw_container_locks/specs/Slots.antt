@@ -1,5 +1,5 @@
 -- What contracts see of all container locks, and what is done with the keepers of some. (This project's own.)
-use Rattle.std.specs.Prelude.{◌≡◌, ◌≢◌, ℕ, ◌+◌, ◌<◌, ◌≤◌, ◌⊎◌, Bool, List, [], ◌∷◌, length, map, None, Some}
+use Rattle.std.specs.Prelude.{◌≡◌, ◌≢◌, ℕ, ◌+◌, ◌<◌, ◌≤◌, ◌⊎◌, Bool, List, [], ◌∷◌, length, map, Some}
 use Rattle.std.specs.List.{flat_map, slice_get}
 use Rattle.std.specs.declared.alloc.Global.{Global}
 use Rattle.std.specs.declared.vec.Vec.{Vec}
@@ -10,7 +10,7 @@ use Rattle.sw_container_locks.specs.declared.cont_slot.ContSlot.TheVariants as s
 
 -- a lock that begins over a keeper
 abbrev pub begun : {K : Type 0} → K → ContKept K
-begun keeper = record { keeper = keeper; began = keeper; loaded = None; fresh = []; journal = empty_journal }
+begun keeper = record { keeper = keeper; began = keeper; loaded = []; fresh = []; journal = empty_journal }
 
 -- An open lock, between two steps: the entries of the last one were taken out, the journal has its limits, and the keeper tells what it holds if it
 -- did so when the journal began
