@@ -5,7 +5,7 @@ use Rattle.std.specs.Prelude.{slice_get, ◌&&◌, ◌||◌}
 use Rattle.std.proofs.lemmas.Bool.{or_cases, or_left, or_right}
 use Rattle.std.proofs.lemmas.Nat.{div-mul-add, mod-mul-add}
 use Rattle.sw_stores.specs.Places.{at_place, AreHome, AreOut, ComeHome, GoOut, is_among, is_around, IsAsItWas, IsSameBut}
-use Rattle.sw_stores.specs.Volumes.{AreResting, AreStarted, StartsFrom}
+use Rattle.sw_stores.specs.Starting.{AreResting, AreStarted, StartsFrom}
 use Rattle.sw_stores.proofs.Places.{among-parts, among-place, not-among}
 
 module _ {T : Type 0} (old new : ℕ → ℕ → T) (stripes place : ℕ) where

@@ -1,4 +1,5 @@
-pub mod AtPlaces
+mod InRange
 mod Places
-mod Ranges
 mod Slots
+pub mod AtPlaces
+pub mod Pairs

@@ -10,7 +10,7 @@ use Rattle.std.proofs.lemmas.List.Quantifiers.{position-Some}
 use Rattle.std.proofs.lemmas.Option.{slice_get-get_or, slice_get_past}
 use Rattle.sw_stores.specs.Places.{is_pair}
 use Rattle.sw_stores.specs.Shelf.{Fills, slot_at}
-use Rattle.sw_stores.specs.declared.volume_shelf.Slot.{Slot}
+use Rattle.sw_stores.specs.declared.part_shelf.Slot.{Slot}
 
 -- a pair of two numbers that is that of two others has the same numbers
 pub pair-is : (device stripe d s : ℕ) → is_pair device stripe d s ≡ true → (d ≡ device) × (s ≡ stripe)
@@ -34,7 +34,7 @@ module _ {V : Type 0} where
   holds-set : (slots : List (Slot V)) (i device stripe : ℕ) (w : Option V) (x : Slot V) → i < length slots
       → is_pair device stripe (get_or slots i x).device (get_or slots i x).stripe ≡ true
       → ((k : ℕ) → k < i → is_pair device stripe (get_or slots k x).device (get_or slots k x).stripe ≡ false)
-      → Holds slots (set slots i (record (get_or slots i x) { volume = w })) device stripe (record (get_or slots i x) { volume = w })
+      → Holds slots (set slots i (record (get_or slots i x) { part = w })) device stripe (record (get_or slots i x) { part = w })
   holds-set [] i device stripe w x inside here before = absurd (omega arith)
   holds-set (slot ∷ slots) zero device stripe w x inside here before = λ d s.
       let at = pair-is device stripe slot.device slot.stripe here in
@@ -58,7 +58,7 @@ module _ {V : Type 0} where
       cond-true (is_pair d s slot.device slot.stripe) _ _ is ∙ sym (cond-false (is_pair device stripe d s) _ _ no ∙ cond-true
       (is_pair d s slot.device slot.stripe) _ _ is))
       (λ off. cond-false (is_pair d s slot.device slot.stripe) _ _ off ∙ rest
-      ∙ ap (λ o. cond (is_pair device stripe d s) (Some (record (get_or slots i x) { volume = w })) o)
+      ∙ ap (λ o. cond (is_pair device stripe d s) (Some (record (get_or slots i x) { part = w })) o)
       (sym (cond-false (is_pair d s slot.device slot.stripe) (Some slot) (slot_at slots d s) off)))
       (cases_Bool (is_pair d s slot.device slot.stripe))
 
@@ -91,20 +91,20 @@ module _ {V : Type 0} where
       (sym (cond-false (is_pair d s front.device front.stripe) (Some front) (slot_at slots d s) out)))
       (cases_Bool (is_pair d s front.device front.stripe))
 
-  pub fills : (old new : List (Slot V)) (device stripe : ℕ) (slot : Slot V) → Holds old new device stripe slot → Fills old new device stripe slot.volume
+  pub fills : (old new : List (Slot V)) (device stripe : ℕ) (slot : Slot V) → Holds old new device stripe slot → Fills old new device stripe slot.part
   fills old new device stripe slot holds = record {
-    rests = λ d s. ap (λ o. option_and_then (λ (slot : Slot V). slot.volume) o) (holds d s) ∙ volume (is_pair device stripe d s) (slot_at old d s);
-    out = λ d s. ap (λ o. unwrap_or (option_map (λ (slot : Slot V). is_none slot.volume) o) false) (holds d s) ∙ empty (is_pair device stripe d s)
+    rests = λ d s. ap (λ o. option_and_then (λ (slot : Slot V). slot.part) o) (holds d s) ∙ volume (is_pair device stripe d s) (slot_at old d s);
+    out = λ d s. ap (λ o. unwrap_or (option_map (λ (slot : Slot V). is_none slot.part) o) false) (holds d s) ∙ empty (is_pair device stripe d s)
         (slot_at old d s);
   }
     where
-      volume : (b : Bool) (o : Option (Slot V)) → option_and_then (λ (slot : Slot V). slot.volume) (cond b (Some slot) o) ≡ cond b slot.volume
-          (option_and_then (λ (slot : Slot V). slot.volume) o)
+      volume : (b : Bool) (o : Option (Slot V)) → option_and_then (λ (slot : Slot V). slot.part) (cond b (Some slot) o) ≡ cond b slot.part
+          (option_and_then (λ (slot : Slot V). slot.part) o)
       volume true o = refl
       volume false o = refl
 
-      empty : (b : Bool) (o : Option (Slot V)) → unwrap_or (option_map (λ (slot : Slot V). is_none slot.volume) (cond b (Some slot) o)) false ≡ cond b
-          (is_none slot.volume) (unwrap_or (option_map (λ (slot : Slot V). is_none slot.volume) o) false)
+      empty : (b : Bool) (o : Option (Slot V)) → unwrap_or (option_map (λ (slot : Slot V). is_none slot.part) (cond b (Some slot) o)) false ≡ cond b
+          (is_none slot.part) (unwrap_or (option_map (λ (slot : Slot V). is_none slot.part) o) false)
       empty true o = refl
       empty false o = refl
 
@@ -132,16 +132,16 @@ module _ {V : Type 0} where
 
   pub fills-set : (slots : List (Slot V)) (device stripe i : ℕ) (w : Option V) (x : Slot V) →
       position (λ slot. is_pair device stripe slot.device slot.stripe) slots ≡ Some i
-      → Fills slots (set slots i (record (get_or slots i x) { volume = w })) device stripe w
+      → Fills slots (set slots i (record (get_or slots i x) { part = w })) device stripe w
   fills-set slots device stripe i w x is =
       let first = position-Some (λ (slot : Slot V). is_pair device stripe slot.device slot.stripe) slots i x is in
-      fills slots _ device stripe (record (get_or slots i x) { volume = w }) (holds-set slots i device stripe w x first.0 first.1 first.2)
+      fills slots _ device stripe (record (get_or slots i x) { part = w }) (holds-set slots i device stripe w x first.0 first.1 first.2)
 
   pub fills-push : (slots : List (Slot V)) (device stripe : ℕ) (w : Option V) → position (λ slot. is_pair device stripe slot.device slot.stripe) slots ≡ None
-      → Fills slots (slots ++ record { device = device; stripe = stripe; volume = w } ∷ []) device stripe w
+      → Fills slots (slots ++ record { device = device; stripe = stripe; part = w } ∷ []) device stripe w
   fills-push slots device stripe w is =
-      fills slots _ device stripe (record { device = device; stripe = stripe; volume = w })
-      (holds-push slots (record { device = device; stripe = stripe; volume = w }) (not_found slots device stripe is))
+      fills slots _ device stripe (record { device = device; stripe = stripe; part = w })
+      (holds-push slots (record { device = device; stripe = stripe; part = w }) (not_found slots device stripe is))
 
   -- what was found in the same list
   pub looked_up : (slots at : List (Slot V)) (device stripe : ℕ) (o : Option ℕ) → at ≡ slots →

@@ -2,4 +2,4 @@ pub mod Places
 pub mod Rings
 pub mod Shelf
 pub mod Telling
-pub mod Volumes
+pub mod Starting

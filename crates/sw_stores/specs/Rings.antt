@@ -5,19 +5,20 @@ use Rattle.std.specs.Str.{bytes_eq}
 use Rattle.sw_outside.specs.Supply.{is_failing}
 use Rattle.sw_outside.specs.declared.store_error.StoreError.{StoreError}
 use Rattle.sw_outside.specs.declared.store_error.StoreError.TheVariants as errors
+use Rattle.sw_keeper.specs.MemState.{MemState as KeeperState}
 use Rattle.sw_volume.specs.MemState.{MemState}
 use Rattle.sw_stores.specs.Shelf.{IsFresh, rests_in}
-use Rattle.sw_stores.specs.Volumes.{StartsFrom}
+use Rattle.sw_stores.specs.Starting.{StartsFrom}
 use Rattle.sw_stores.specs.declared.mem_stores.RingText.{RingText}
-use Rattle.sw_stores.specs.declared.volume_shelf.Slot.{Slot}
+use Rattle.sw_stores.specs.declared.part_shelf.Slot.{Slot}
 
 -- stores in memory
 pub record StoresState : Type 0 where
   pub rings : List RingText
   pub failing : List ℕ  -- the numbers of the calls that fail, counted from 0
-  pub calls : ℕ  -- how many rings were read and volumes started, or tried
+  pub calls : ℕ  -- how many rings were read and parts of locks started, or tried
   pub faults : ℕ  -- how many of these calls failed
-  pub volumes : List (Slot MemState)
+  pub parts : List (Slot (MemState × KeeperState))
 
 -- the text of the ring of a name
 abbrev pub text_in : List RingText → List ℕ → Option (List ℕ)
@@ -32,9 +33,9 @@ IsFound (Some text) result = (result ≡ Ok text) ⊎ (result ≡ Err errors.NoM
 abbrev pub IsGiven : StoresState → List ℕ → Result (List ℕ) StoreError → Type 0
 IsGiven stores name result = MatchBool (is_failing stores.failing stores.calls) (result ≡ Err errors.Failed) (IsFound (text_in stores.rings name) result)
 
--- so it is where a volume is to be started; no other start fails, and only where no volume rests one may want memory
-abbrev pub IsStart : StoresState → ℕ → ℕ → Result MemState StoreError → Type 0
+-- so it is where a lock's part is to be started; no other start fails, and only where none rests it may want memory
+abbrev pub IsStart : StoresState → ℕ → ℕ → Result (MemState × KeeperState) StoreError → Type 0
 IsStart stores device stripe result =
     MatchBool (is_failing stores.failing stores.calls) (result ≡ Err errors.Failed)
-    (MatchResult result (StartsFrom IsFresh (rests_in stores.volumes device stripe))
-    (λ error. (error ≡ errors.NoMemory) × (rests_in stores.volumes device stripe ≡ None)))
+    (MatchResult result (StartsFrom IsFresh (rests_in stores.parts device stripe))
+    (λ error. (error ≡ errors.NoMemory) × (rests_in stores.parts device stripe ≡ None)))

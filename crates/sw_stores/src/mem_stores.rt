@@ -7,12 +7,13 @@ ghost use Rattle.sw_stores.specs.Places.{is_pair, ComeHome, GoOut, IsAsItWas, Is
 ghost use Rattle.sw_stores.specs.Rings.{IsGiven, IsStart, text_in};
 ghost use Rattle.sw_stores.specs.Shelf.{is_out, IsFresh, rests_in};
 ghost use Rattle.sw_stores.specs.Telling.{faults_after, IsKept};
-ghost use Rattle.sw_stores.specs.Volumes.{StartsFrom};
+ghost use Rattle.sw_stores.specs.Starting.{StartsFrom};
 
+use crate::part_shelf::PartShelf;
 use crate::stores::Stores;
-use crate::volume_shelf::VolumeShelf;
 use std::alloc::Global;
 use std::marker::Model;
+use sw_keeper::MemKeeper;
 use sw_outside::{Bytes, StoreError};
 use sw_volume::MemVolume;
 
@@ -23,14 +24,14 @@ pub struct RingText {
     pub text: Bytes,
 }
 
-/// Stores in memory, which tell the texts of their rings and the volumes that rest. Tests choose which calls fail.
+/// Stores in memory, which tell the texts of their rings, and the volumes and keepers that rest. Tests choose which calls fail.
 #[derive(Debug, Drop)]
 pub struct MemStores {
     rings: Vec<RingText>,
     failing: Vec<u64>,
     calls: u64,
     faults: u64,
-    volumes: VolumeShelf,
+    parts: PartShelf<(MemVolume, MemKeeper)>,
 }
 
 impl Model for MemStores {
@@ -38,16 +39,20 @@ impl Model for MemStores {
 
     ghost Value = { StoresState };
 
-    ghost view = { λ s. record { rings = s.rings.items; failing = s.failing.items; calls = s.calls; faults = s.faults; volumes = s.volumes } };
+    ghost view = { λ s. record { rings = s.rings.items; failing = s.failing.items; calls = s.calls; faults = s.faults; parts = s.parts } };
 }
 
 impl MemStores {
-    /// Stores with these rings and volumes. The calls of `ring` and `start` whose numbers, counted from 0 over both, are in `failing` fail,
+    /// Stores with these rings, volumes and keepers. The calls of `ring` and `start` whose numbers, counted from 0 over both, are in `failing` fail,
     /// and so does each that asks for a ring that isn't there.
-    pub fn new(rings: Vec<RingText>, failing: Vec<u64>, volumes: VolumeShelf) -> MemStores
+    pub fn new(
+        rings: Vec<RingText>,
+        failing: Vec<u64>,
+        parts: PartShelf<(MemVolume, MemKeeper)>,
+    ) -> MemStores
         ensures rings { result.rings ≡ rings.items }
         ensures failing { result.failing ≡ failing.items }
-        ensures volumes { result.volumes ≡ volumes }
+        ensures parts { result.parts ≡ parts }
         ensures counts { (result.calls ≡ 0) × (result.faults ≡ 0) }
     {
         MemStores {
@@ -55,15 +60,15 @@ impl MemStores {
             failing,
             calls: 0,
             faults: 0,
-            volumes,
+            parts,
         }
     }
 
-    /// Ends the stores, and gives their volumes. It takes no memory.
-    pub fn into_volumes(self) -> VolumeShelf
-        ensures { result ≡ self.volumes }
+    /// Ends the stores, and gives their volumes and keepers. It takes no memory.
+    pub fn into_parts(self) -> PartShelf<(MemVolume, MemKeeper)>
+        ensures { result ≡ self.parts }
     {
-        self.volumes
+        self.parts
     }
 
     /// Counts a call, and answers whether it is to fail.
@@ -89,28 +94,30 @@ impl MemStores {
 impl Stores for MemStores {
     type V = MemVolume;
 
+    type K = MemKeeper;
+
     ghost text = { λ s name. Some (text_in s.rings name) };
 
     ghost faults = { λ s. s.faults };
 
     ghost calls = { λ s. s.calls };
 
-    ghost rests = { λ s. rests_in s.volumes };
+    ghost rests = { λ s. rests_in s.parts };
 
-    ghost out = { λ s. is_out s.volumes };
+    ghost out = { λ s. is_out s.parts };
 
     ghost first = { IsFresh };
 
     fn ring(&mut self, alloc: Global, name: &str) -> Result<Bytes, StoreError>
         ensures text { IfOk result (λ bytes. IsKept (Some (text_in self.old.rings name.now)) bytes) }
         ensures kept { (other : List ℕ) → Some (text_in self.new.rings other) ≡ Some (text_in self.old.rings other) }
-        ensures rests { IsAsItWas (rests_in self.old.volumes) (rests_in self.new.volumes) }
-        ensures out { IsAsItWas (is_out self.old.volumes) (is_out self.new.volumes) }
+        ensures rests { IsAsItWas (rests_in self.old.parts) (rests_in self.new.parts) }
+        ensures out { IsAsItWas (is_out self.old.parts) (is_out self.new.parts) }
         ensures cause { self.new.faults ≡ faults_after self.old.faults result }
         ensures calls { self.new.calls ≡ raised self.old.calls }
         ensures given { IsGiven self.old name.now result }
         ensures plan { (self.new.rings ≡ self.old.rings) × (self.new.failing ≡ self.old.failing) }
-        ensures volumes { self.new.volumes ≡ self.old.volumes }
+        ensures parts { self.new.parts ≡ self.old.parts }
     {
         if self.begin() {
             return Err(self.fail());
@@ -121,37 +128,48 @@ impl Stores for MemStores {
         }
     }
 
-    fn start(&mut self, alloc: Global, device: u8, stripe: u8) -> Result<MemVolume, StoreError>
-        requires { is_out self.old.volumes device stripe ≡ false }
-        ensures volume { IfOk result (StartsFrom IsFresh (rests_in self.old.volumes device stripe)) }
-        ensures out { OnOk result (GoOut (is_pair device stripe) (is_out self.old.volumes) (is_out self.new.volumes)) }
-        ensures others { OnOk result (IsSameBut (is_pair device stripe) (rests_in self.old.volumes) (rests_in self.new.volumes)) }
-        ensures not_out { OnErr result (IsAsItWas (is_out self.old.volumes) (is_out self.new.volumes)) }
-        ensures rests { OnErr result (IsAsItWas (rests_in self.old.volumes) (rests_in self.new.volumes)) }
+    fn start(
+        &mut self,
+        alloc: Global,
+        device: u8,
+        stripe: u8,
+    ) -> Result<(MemVolume, MemKeeper), StoreError>
+        requires { is_out self.old.parts device stripe ≡ false }
+        ensures part { IfOk result (StartsFrom IsFresh (rests_in self.old.parts device stripe)) }
+        ensures out { OnOk result (GoOut (is_pair device stripe) (is_out self.old.parts) (is_out self.new.parts)) }
+        ensures others { OnOk result (IsSameBut (is_pair device stripe) (rests_in self.old.parts) (rests_in self.new.parts)) }
+        ensures not_out { OnErr result (IsAsItWas (is_out self.old.parts) (is_out self.new.parts)) }
+        ensures rests { OnErr result (IsAsItWas (rests_in self.old.parts) (rests_in self.new.parts)) }
         ensures kept { (other : List ℕ) → Some (text_in self.new.rings other) ≡ Some (text_in self.old.rings other) }
         ensures cause { self.new.faults ≡ faults_after self.old.faults result }
         ensures calls { self.new.calls ≡ raised self.old.calls }
         ensures given { IsStart self.old device stripe result }
         ensures plan { (self.new.rings ≡ self.old.rings) × (self.new.failing ≡ self.old.failing) }
-        ensures volumes { OnErr result (self.new.volumes ≡ self.old.volumes) }
+        ensures parts { OnErr result (self.new.parts ≡ self.old.parts) }
     {
         if self.begin() {
             return Err(self.fail());
         }
-        Ok(self.volumes.start(alloc, device, stripe)?)
+        match self.parts.take(device, stripe)? {
+            Some(part) => Ok(part),
+            None => Ok((
+                MemVolume::new(alloc, Vec::new(alloc)),
+                MemKeeper::new(alloc, Vec::new(alloc)),
+            )),
+        }
     }
 
-    fn give_back(&mut self, device: u8, stripe: u8, volume: MemVolume)
-        requires { is_out self.old.volumes device stripe ≡ true }
-        ensures rests { rests_in self.new.volumes device stripe ≡ Some volume }
-        ensures others { IsSameBut (is_pair device stripe) (rests_in self.old.volumes) (rests_in self.new.volumes) }
-        ensures home { ComeHome (is_pair device stripe) (is_out self.old.volumes) (is_out self.new.volumes) }
+    fn give_back(&mut self, device: u8, stripe: u8, volume: MemVolume, keeper: MemKeeper)
+        requires { is_out self.old.parts device stripe ≡ true }
+        ensures rests { rests_in self.new.parts device stripe ≡ Some (volume, keeper) }
+        ensures others { IsSameBut (is_pair device stripe) (rests_in self.old.parts) (rests_in self.new.parts) }
+        ensures home { ComeHome (is_pair device stripe) (is_out self.old.parts) (is_out self.new.parts) }
         ensures kept { (other : List ℕ) → Some (text_in self.new.rings other) ≡ Some (text_in self.old.rings other) }
         ensures faults { self.new.faults ≡ self.old.faults }
         ensures calls { self.new.calls ≡ self.old.calls }
         ensures plan { (self.new.rings ≡ self.old.rings) × (self.new.failing ≡ self.old.failing) }
     {
-        self.volumes.give_back(device, stripe, volume);
+        self.parts.give_back(device, stripe, (volume, keeper));
     }
 }
 

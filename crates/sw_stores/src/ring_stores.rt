@@ -1,36 +1,37 @@
 ghost use Rattle.std.specs.Prelude.{◌≡◌, [], None};
 ghost use Rattle.sw_stores.specs.Shelf.{is_out, IsFresh, rests_in};
 
+use crate::part_shelf::PartShelf;
 use crate::stores::Stores;
-use crate::volume_shelf::VolumeShelf;
 use std::alloc::Global;
 use std::fs;
 use std::io::ErrorKind;
 use std::rt::Files;
+use sw_keeper::SoundKeeper;
 use sw_outside::{Bytes, StoreError};
 use sw_volume::MemVolume;
 
-/// Stores whose rings are files of the host, by their paths, and whose volumes are kept in memory. They tell nothing of the rings, and count
-/// the reads that failed. No start fails.
+/// Stores whose rings are files of the host, by their paths, and whose volumes and keepers are kept in memory. They tell nothing of the rings, and count
+/// the reads that failed. No start fails, and no call of a keeper.
 #[derive(Drop)]
 pub struct RingStores<'a, R: Files + AllocGlobal> {
     rt: &'a R,
     faults: u64,
     calls: u64,
-    volumes: VolumeShelf,
+    parts: PartShelf<(MemVolume, SoundKeeper)>,
 }
 
 impl<'a, R: Files + AllocGlobal> RingStores<'a, R> {
-    /// No call was made, no volume rests, and none is out.
+    /// No call was made, nothing rests, and nothing is out.
     pub fn new(rt: &'a R) -> RingStores<'a, R>
-        ensures volumes { result.volumes ≡ [] }
+        ensures parts { result.parts ≡ [] }
         ensures counts { (result.calls ≡ 0) × (result.faults ≡ 0) }
     {
         RingStores {
             rt,
             faults: 0,
             calls: 0,
-            volumes: VolumeShelf::new(rt.alloc()),
+            parts: PartShelf::new(rt.alloc()),
         }
     }
 }
@@ -38,15 +39,17 @@ impl<'a, R: Files + AllocGlobal> RingStores<'a, R> {
 impl<R: Files + AllocGlobal> Stores for RingStores<'_, R> {
     type V = MemVolume;
 
+    type K = SoundKeeper;
+
     ghost text = { λ _ _. None };
 
     ghost faults = { λ s. s.faults };
 
     ghost calls = { λ s. s.calls };
 
-    ghost rests = { λ s. rests_in s.volumes };
+    ghost rests = { λ s. rests_in s.parts };
 
-    ghost out = { λ s. is_out s.volumes };
+    ghost out = { λ s. is_out s.parts };
 
     ghost first = { IsFresh };
 
@@ -59,13 +62,24 @@ impl<R: Files + AllocGlobal> Stores for RingStores<'_, R> {
         text
     }
 
-    fn start(&mut self, alloc: Global, device: u8, stripe: u8) -> Result<MemVolume, StoreError> {
+    fn start(
+        &mut self,
+        alloc: Global,
+        device: u8,
+        stripe: u8,
+    ) -> Result<(MemVolume, SoundKeeper), StoreError> {
         self.calls = self.calls.saturating_add(1);
-        Ok(self.volumes.start(alloc, device, stripe)?)
+        match self.parts.take(device, stripe)? {
+            Some(part) => Ok(part),
+            None => Ok((
+                MemVolume::new(alloc, Vec::new(alloc)),
+                SoundKeeper::new(alloc),
+            )),
+        }
     }
 
-    fn give_back(&mut self, device: u8, stripe: u8, volume: MemVolume) {
-        self.volumes.give_back(device, stripe, volume);
+    fn give_back(&mut self, device: u8, stripe: u8, volume: MemVolume, keeper: SoundKeeper) {
+        self.parts.give_back(device, stripe, (volume, keeper));
     }
 }
 

@@ -1,11 +1,11 @@
 -- The volumes of a range of places, started from the front and given back from the end.
 use Rattle.std.proofs.Common.{◌≡◌, ◌∙◌, ℕ, suc, ◌+◌, ◌/◌, ◌%◌, ◌<◌, ◌≤◌, inl, inr, Bool, true, false, not, List, [], ◌∷◌, ◌++◌, length, Option, None, Some}
-use Rattle.std.proofs.Common.{refl, sym, ap, subst, arith, ⊎_elim, append_assoc, length-append, Result, Ok, Err, IfOk, OnErr, Vec, Global}
+use Rattle.std.proofs.Common.{refl, sym, ap, subst, arith, ⊎_elim, append_assoc, length-append, Result, Ok, Err, IfOk, OnErr}
 use Rattle.std.proofs.lemmas.List.{append-nil}
 use Rattle.std.specs.Prelude.{◌&&◌, ◌||◌}
 use Rattle.std.proofs.lemmas.Bool.{cases_Bool, false_from_ne_true, or_cases, or_parts, or_right}
 use Rattle.sw_stores.specs.Places.{at_place, AreHome, AreOut, ComeHome, GoOut, is_among, is_pair, IsAsItWas, IsSameBut}
-use Rattle.sw_stores.specs.Volumes.{AllRestAgain, AreResting, AreStarted, RestsAgain, StartsFrom}
+use Rattle.sw_stores.specs.Starting.{AllRestAgain, AreResting, AreStarted, RestsAgain, StartsFrom}
 use Rattle.sw_stores.proofs.Places.{among-back, among-front, among-more, among-none, among-place, not-among, pairs-apart}
 use Rattle.sw_stores.proofs.Slots.{pair-is}
 
@@ -338,12 +338,12 @@ module _ {V : Type 0} where
 
   -- so it is of all volumes that are restarted
   pub restarted-same : {E : Type 0} (first_is : V → Type 0) (mid : ℕ → ℕ → Option V) (stripes place count : ℕ) (volumes : List V)
-      (result : Result (Vec V Global) E) → count ≡ length volumes
-      → AreResting mid stripes place volumes → IfOk result (λ anew. length anew.items ≡ count) →
-      IfOk result (λ anew. AreStarted first_is mid stripes place anew.items)
-      → IfOk result (λ anew. anew.items ≡ volumes)
+      (result : Result (List V) E) → count ≡ length volumes
+      → AreResting mid stripes place volumes → IfOk result (λ anew. length anew ≡ count) →
+      IfOk result (λ anew. AreStarted first_is mid stripes place anew)
+      → IfOk result (λ anew. anew ≡ volumes)
   restarted-same first_is mid stripes place count volumes (Ok anew) same resting long started =
-      started-same first_is mid stripes place volumes anew.items (long ∙ same) resting started
+      started-same first_is mid stripes place volumes anew (long ∙ same) resting started
   restarted-same first_is mid stripes place count volumes (Err _) same resting long started = tt
 
   pub restarted-rests : {T E : Type 0} (first_is : V → Type 0) (mid new : ℕ → ℕ → Option V) (stripes place count : ℕ) (volumes : List V) (result : Result T E) →
