@@ -7,3 +7,4 @@ pub mod Telling
 pub mod Opening
 pub mod Making
 pub mod Loading
+pub mod Naming

@@ -31,6 +31,17 @@ module _ {D : Type 0} where
   abbrev pub without : List (OpenDatabase D) → Place → List (OpenDatabase D)
   without list place = but list (position (is_of place) list)
 
+  -- whether it is that of the container whose hash this is
+  abbrev pub is_hashed : List ℕ → OpenDatabase D → Bool
+  is_hashed hash entry = bytes_eq entry.place.hash hash
+
+  -- the same of the container whose hash this is
+  abbrev pub found_hashed : List (OpenDatabase D) → List ℕ → Option (OpenDatabase D)
+  found_hashed list hash = found_by list (position (is_hashed hash) list)
+
+  abbrev pub without_hashed : List (OpenDatabase D) → List ℕ → List (OpenDatabase D)
+  without_hashed list hash = but list (position (is_hashed hash) list)
+
   -- those that stay where one more is to be opened: of 16 the first is closed
   abbrev pub after_room : List (OpenDatabase D) → List (OpenDatabase D)
   after_room list = if nat_le 16 (length list) then drop 1 list else list

@@ -33,7 +33,8 @@ module _ {H D : Type 0} where
 
   -- a database that is found: that of the place is reached, and where it isn't open it was looked for before, once, and is there
   pub record IsFound (Finds : H → List ℕ → Bool → H → Type 0) (Opens : H → List ℕ → H → D → Type 0)
-      (Shows : Query → SqlRow → D → D → List SqlRow → Type 0) (old new : H) (list : List (OpenDatabase D)) (place : Place) (entry : OpenDatabase D) : Type 0 where
-    pub mid : H
-    pub found : MatchOption (found_at list place) (Finds old place.hash true mid) (λ _. mid ≡ old)
-    pub reached : IsReached Finds Opens Shows mid new list place entry
+      (Shows : Query → SqlRow → D → D → List SqlRow → Type 0) (old new : H) (list : List (OpenDatabase D)) (place : Place) (entry : OpenDatabase D) : Type 0
+    where
+      pub mid : H
+      pub found : MatchOption (found_at list place) (Finds old place.hash true mid) (λ _. mid ≡ old)
+      pub reached : IsReached Finds Opens Shows mid new list place entry

@@ -1,6 +1,8 @@
 -- What a database tells of itself, over any database. (This project's own.)
 use Rattle.std.specs.Prelude.{◌≡◌, ◌-◌, ◌<◌, ◌≤◌, ℕ, ℤ, true, pos, length, map, List, [], ◌∷◌, ◌++◌, Option, None, Some, IfSome, slice_get}
 use Rattle.std.specs.List.{flat_map}
+use Rattle.std.specs.Option.{option_map}
+use Rattle.std.specs.Str.{bytes_eq}
 use Rattle.sqlite_value.specs.Order.{Row as SqlRow, column}
 use Rattle.sqlite_value.specs.declared.value.Value.TheVariants.{Int}
 use Rattle.sw_hashpath.specs.declared.place.Place.{Place}
@@ -48,6 +50,13 @@ module _ {D : Type 0} where
     pub rows : List SqlRow
     pub shown : Shows Top [] old new rows
     pub number : IsTop rows top
+
+  -- it was asked of itself, once, and told that it is the database of this place, which has this hash, or that nothing was kept in it
+  pub record TellsPlace (Shows : Query → SqlRow → D → D → List SqlRow → Type 0) (hash : List ℕ) (old new : D) (place : Option Place) : Type 0 where
+    pub info : Option Info
+    pub told : TellsInfo Shows old new info
+    pub its : place ≡ option_map (λ i. i.place) info
+    pub own : IfSome place (λ p. bytes_eq p.hash hash ≡ true)
 
   -- full pages of rows, each of which was asked once, behind the last number of the page before it: the first behind this number, and the last ends at that one
   unfoldable pub ShowsPages : (Query → SqlRow → D → D → List SqlRow → Type 0) → List (List SqlRow) → ℤ → ℤ → D → D → Type 0

@@ -1,15 +1,20 @@
-ghost use Rattle.std.specs.Prelude.{◌≡◌, ◌<◌, [], if◌then◌else◌, length, is_some, true, false, None, Ok, IfNone, IfOk, IsErr, MatchOption, OnErr, OnOk, OnSome};
+ghost use Rattle.std.specs.Prelude.{◌≡◌, ◌<◌, ◌++◌, [], if◌then◌else◌, length, is_some, true, false, None, Ok, IfNone, IfOk, IsErr, MatchOption, Option, OnErr};
+ghost use Rattle.std.specs.Prelude.{OnOk, OnSome};
 ghost use Rattle.sw_container_store.specs.Loading.{IsLeft, IsLoaded};
 ghost use Rattle.sw_container_store.specs.Making.{IsMade};
+ghost use Rattle.sw_container_store.specs.Naming.{IsNamed, IsPlaceOf, listed};
 ghost use Rattle.sw_container_store.specs.OpenList.{after_room, beside, found_at, without};
 ghost use Rattle.sw_container_store.specs.Opening.{IsAbsent, IsFound, IsOpened, IsReached, IsTaken};
+ghost use Rattle.sw_container_store.specs.Telling.{TellsFormat, TellsPlace};
+ghost use Rattle.sw_hashpath.specs.declared.place.Place.{Place as NamedPlace};
 ghost use Rattle.sw_keeper.specs.Changes.{IsBatch};
-ghost use Rattle.sw_keeper.specs.Keeping.{Changes, HasCause, IsSame, MayChange, OnFailed, OnNoMemory};
+ghost use Rattle.sw_keeper.specs.Keeping.{Changes, HasCause, IsSame, ListsPlaces, MayChange, OnFailed, OnNoMemory};
+ghost use Rattle.sw_keeper.specs.Places.{place_cmp};
 ghost use Rattle.sw_outside.specs.Counts.{raised};
 
 use crate::database::{Damage, Database, Databases};
 use crate::open_list::{OpenDatabase, OpenList};
-use crate::reading::{check, check_format, info_in, tables_in};
+use crate::reading::{check, check_format, place_in, tables_in};
 use crate::writing::make;
 use std::alloc::Global;
 use std::cmp::Ordering;
@@ -34,7 +39,8 @@ pub struct ContainerStore<H: Databases> {
 impl<H: Databases> ContainerStore<H> {
     /// The keeper over these databases, none of which is open.
     pub fn new(alloc: Global, databases: H) -> Result<ContainerStore<H>, NoMemory>
-        ensures { IfOk result (λ store. (store.calls ≡ 0) × (store.faults ≡ 0) × (store.opened ≡ [])) }
+        ensures untouched { IfOk result (λ store. (store.calls ≡ 0) × (store.faults ≡ 0) × (store.opened ≡ [])) }
+        ensures databases { IfOk result (λ store. store.databases ≡ databases) }
     {
         Ok(ContainerStore {
             databases,
@@ -169,49 +175,81 @@ impl<H: Databases> ContainerStore<H> {
 
     /// The places of all containers in whose databases something is, in byte order of account, container and hash.
     fn places(&mut self, alloc: Global) -> Result<Vec<Place>, StoreError>
+        ensures named { IfOk result (λ places. IsNamed H.lists H.finds H.opens H.Open.shows self.old.databases self.new.databases
+            self.old.opened self.new.opened places.items) }
         ensures counts { (self.new.calls ≡ self.old.calls) × (self.new.faults ≡ self.old.faults) }
     {
         let hashes = self.databases.hashes(alloc)?;
-        let mut places = Vec::with_capacity(alloc, hashes.len()).map_err(NoMemory::from)?;
+        let mut places = Vec::new(alloc);
         for hash in &hashes {
-            if let Some(place) = self.place_of(alloc, hash)? {
-                places.push(place).map_err(NoMemory::from)?;
-            }
+            self.add_place(alloc, &mut places, hash)?;
         }
         places.sort_unstable_by(compare);
         Ok(places)
     }
 
-    /// The place of the container whose hash this is, unless nothing is in its database.
-    fn place_of(&mut self, alloc: Global, hash: &[u8; 16]) -> Result<Option<Place>, StoreError>
+    /// Adds the place of the container whose hash this is, unless nothing is in its database.
+    fn add_place(
+        &mut self,
+        alloc: Global,
+        places: &mut Vec<Place>,
+        hash: &[u8; 16],
+    ) -> Result<(), StoreError>
+        ensures added { OnOk result ((place : Option NamedPlace) × IsPlaceOf H.finds H.opens H.Open.shows self.old.databases self.new.databases
+            self.old.opened self.new.opened hash.now place × (places.new.items ≡ places.old.items ++ listed place)) }
         ensures counts { (self.new.calls ≡ self.old.calls) × (self.new.faults ≡ self.old.faults) }
     {
-        if let Some(mut entry) = self.opened.take_by_hash(hash) {
-            if !self.databases.is_there(hash)? {
-                return Err(entry.database.refuse(Damage::Gone));
+        if let Some(place) = self.place_of(alloc, hash)? {
+            places.push(place).map_err(NoMemory::from)?;
+        }
+        Ok(())
+    }
+
+    /// The place of the container whose hash this is, unless nothing is in its database.
+    fn place_of(&mut self, alloc: Global, hash: &[u8; 16]) -> Result<Option<Place>, StoreError>
+        ensures told { IfOk result (λ place. IsPlaceOf H.finds H.opens H.Open.shows self.old.databases self.new.databases
+            self.old.opened self.new.opened hash.now place) }
+        ensures counts { (self.new.calls ≡ self.old.calls) × (self.new.faults ≡ self.old.faults) }
+    {
+        let taken = self.opened.take_by_hash(hash);
+        let is_there = self.databases.is_there(hash)?;
+        match taken {
+            Some(entry) if !is_there => Err(entry.database.refuse(Damage::Gone)),
+            Some(mut entry) => {
+                let place = place_in(alloc, &mut entry.database, hash)?;
+                self.opened.put(entry);
+                Ok(place)
             }
-            let info = info_in(alloc, &mut entry.database)?;
-            self.opened.put(entry);
-            return Ok(info.map(|info| info.place));
+            None if !is_there => Ok(None),
+            None => self.place_of_closed(alloc, hash),
         }
-        if !self.databases.is_there(hash)? {
-            return Ok(None);
-        }
+    }
+
+    /// The same, where its database isn't open, and is there.
+    fn place_of_closed(
+        &mut self,
+        alloc: Global,
+        hash: &[u8; 16],
+    ) -> Result<Option<Place>, StoreError>
+        ensures told { IfOk result (λ place. (opened : H.Open) × (checked : H.Open) × (asked : H.Open)
+            × H.opens self.old.databases hash.now self.new.databases opened × TellsFormat H.Open.shows opened checked
+            × TellsPlace H.Open.shows hash.now checked asked place) }
+        ensures rest { self.new.opened ≡ after_room self.old.opened }
+        ensures counts { (self.new.calls ≡ self.old.calls) × (self.new.faults ≡ self.old.faults) }
+    {
         self.opened.make_room();
         let mut database = self.databases.open(alloc, hash)?;
         check_format(&mut database)?;
-        let info = info_in(alloc, &mut database)?;
-        let found = info.map(|info| info.place);
-        if found.as_ref().is_some_and(|place| place.hash != *hash) {
-            return Err(database.refuse(Damage::Container));
-        }
+        let place = place_in(alloc, &mut database, hash)?;
         database.close();
-        Ok(found)
+        Ok(place)
     }
 }
 
 /// Places in byte order of account, container and hash.
-fn compare(one: &Place, other: &Place) -> Ordering {
+fn compare(one: &Place, other: &Place) -> Ordering
+    ensures { result ≡ place_cmp one.now other.now }
+{
     one.account
         .as_slice()
         .cmp(other.account.as_slice())
@@ -228,7 +266,15 @@ impl<H: Databases> Keeper for ContainerStore<H> {
 
     ghost calls = { λ s. s.calls };
 
-    fn names(&mut self, alloc: Global) -> Result<Vec<Place>, KeeperError> {
+    fn names(&mut self, alloc: Global) -> Result<Vec<Place>, KeeperError>
+        ensures places { IfOk result (λ places. false ≡ true → ListsPlaces places.items (λ _. ⊥)) }
+        ensures same { false ≡ true → IsSame (λ _. None) (λ _. None) }
+        ensures told { false ≡ false }
+        ensures cause { HasCause self.old.faults self.new.faults result }
+        ensures calls { self.new.calls ≡ raised self.old.calls }
+        ensures named { IfOk result (λ places. IsNamed H.lists H.finds H.opens H.Open.shows self.old.databases self.new.databases
+            self.old.opened self.new.opened places.items) }
+    {
         self.calls = self.calls.saturating_add(1);
         let names = self.places(alloc);
         self.told(names)

@@ -85,6 +85,9 @@ pub trait Databases: Drop {
     /// They may give this database where that of this hash is opened, and go from the one to the other.
     ghost opens: { Self → List ℕ → Self → Self.Open → Type 0 };
 
+    /// They may tell that these are the hashes of all.
+    ghost lists: { Self → List (List ℕ) → Type 0 };
+
     /// Whether there is one.
     fn is_there(&mut self, hash: &[u8; 16]) -> Result<bool, StoreError>
         ensures finds { IfOk result (λ is_there. finds self.old hash.now is_there self.new) };
@@ -95,7 +98,8 @@ pub trait Databases: Drop {
         ensures key { IfOk result (λ database. Self.Open.key database ≡ key self.old hash.now) };
 
     /// The hashes of all containers that have one, each once.
-    fn hashes(&self, alloc: Global) -> Result<Vec<[u8; 16]>, StoreError>;
+    fn hashes(&self, alloc: Global) -> Result<Vec<[u8; 16]>, StoreError>
+        ensures { IfOk result (λ hashes. lists self.now hashes.items) };
 
     /// Has the reason of the last failure told.
     fn tell(&self);

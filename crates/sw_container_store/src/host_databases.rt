@@ -1,4 +1,4 @@
-ghost use Rattle.std.specs.Prelude.{◌≡◌, ◌≤◌, ◌++◌, codes, drop, length, decimal, IfOk, OnOk, string_bytes};
+ghost use Rattle.std.specs.Prelude.{◌≡◌, ◌≤◌, ◌++◌, ⊤, codes, drop, length, decimal, IfOk, OnOk, string_bytes};
 ghost use Rattle.hex.specs.Hex.{encode_lower};
 ghost use Rattle.sw_container_store.specs.Paths.{database_path, segment};
 
@@ -87,6 +87,8 @@ impl<'a, N: Notes> Databases for HostDatabases<'a, N> {
     ghost finds = { λ old _ _ new. (new.root ≡ old.root) × (new.power ≡ old.power) };
 
     ghost opens = { λ old _ new _. (new.root ≡ old.root) × (new.power ≡ old.power) };
+
+    ghost lists = { λ _ _. ⊤ };
 
     fn is_there(&mut self, hash: &[u8; 16]) -> Result<bool, StoreError> {
         let path = self.path(self.host.rt.alloc(), hash)?;

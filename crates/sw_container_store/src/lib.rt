@@ -5,7 +5,7 @@
 //! where OpenStack Swift keeps a container's; its databases are connections of `sqlite`. What SQLite promises of a database (that a transaction is made whole
 //! or not at all, also over a crash) is trusted; which statements are asked of it, and how its rows are read, is proved.
 //!
-//! No command uses it yet.
+//! The next layer up is `sw_store`, whose stores start such a keeper beside the volume of each lock. No command asks it for anything yet.
 #![tactic(auto)]
 
 mod container_store;

@@ -1,5 +1,6 @@
 ghost use Rattle.std.specs.Prelude.{◌≡◌, ◌<◌, ◌++◌, ◌∷◌, [], length, position, IfNone, IfOk, OnSome};
-ghost use Rattle.sw_container_store.specs.OpenList.{after_room, found_at, is_of, is_same, without};
+ghost use Rattle.std.specs.Str.{bytes_eq};
+ghost use Rattle.sw_container_store.specs.OpenList.{after_room, found_at, found_hashed, is_hashed, is_of, is_same, without, without_hashed};
 
 use crate::database::Database;
 use std::alloc::Global;
@@ -57,12 +58,12 @@ impl<D: Database> OpenList<D> {
 
     /// Takes the database of the place of this hash out, where it is open.
     pub(crate) fn take_by_hash(&mut self, hash: &[u8; 16]) -> Option<OpenDatabase<D>>
+        ensures found { result ≡ found_hashed self.old hash.now }
+        ensures rest { self.new ≡ without_hashed self.old hash.now }
+        ensures same { IfNone result (self.new ≡ self.old) }
         ensures room { OnSome result (length self.new < 16) }
     {
-        let at = self
-            .databases
-            .iter()
-            .position(|entry| entry.place.hash == *hash)?;
+        let at = find_by_hash(&self.databases, hash)?;
         Some(self.databases.remove(at))
     }
 
@@ -96,6 +97,22 @@ fn find<D>(entries: &[OpenDatabase<D>], place: &Place) -> Option<usize>
     entries
         .iter()
         .position(|entry| is_same(&entry.place, place))
+}
+
+/// Where the database of the place of this hash stands.
+fn find_by_hash<D>(entries: &[OpenDatabase<D>], hash: &[u8; 16]) -> Option<usize>
+    ensures { result ≡ position (is_hashed hash.now) entries.now }
+{
+    entries
+        .iter()
+        .position(|entry| has_hash(&entry.place, hash))
+}
+
+/// Whether this is the hash of a place.
+pub(crate) fn has_hash(place: &Place, hash: &[u8; 16]) -> bool
+    ensures { result ≡ bytes_eq place.now.hash hash.now }
+{
+    place.hash == *hash
 }
 
 /// Whether two places are one.

@@ -2,12 +2,12 @@ ghost use Rattle.std.specs.Prelude.{◌≡◌, ◌++◌, ◌∷◌, [], pos, map
 ghost use Rattle.std.specs.Str.{is_utf8 as is_utf8_text};
 ghost use Rattle.sqlite_value.specs.declared.value.Value.TheVariants as value;
 ghost use Rattle.sqlite_value.specs.Order.{column};
-ghost use Rattle.sw_container_store.specs.Telling.{EndsAt, IsChecked, TellsFormat, TellsInfo, TellsRows, TellsTables, TellsTop};
+ghost use Rattle.sw_container_store.specs.Telling.{EndsAt, IsChecked, TellsFormat, TellsInfo, TellsPlace, TellsRows, TellsTables, TellsTop};
 ghost use Rattle.sw_container_store.specs.Values.{info_values, numbered_values, time_value};
 ghost use Rattle.sw_timestamp.specs.TimeText.{text_of};
 
 use crate::database::{Damage, Database};
-use crate::open_list::is_same;
+use crate::open_list::{has_hash, is_same};
 use crate::statements::Query;
 use sqlite::Row;
 use sqlite::types::ValueRef;
@@ -96,6 +96,22 @@ pub(crate) fn info_in<D: Database>(
             None => Err(database.refuse(Damage::Row)),
         },
         _ => Err(database.refuse(Damage::Row)),
+    }
+}
+
+/// Whose the database of this hash is, unless nothing was kept in it yet.
+pub(crate) fn place_in<D: Database>(
+    alloc: Global,
+    database: &mut D,
+    hash: &[u8; 16],
+) -> Result<Option<Place>, StoreError>
+    ensures told { IfOk result (λ place. TellsPlace D.shows hash.now database.old database.new place) }
+    ensures key { D.key database.new ≡ D.key database.old }
+{
+    match info_in(alloc, database)? {
+        None => Ok(None),
+        Some(info) if has_hash(&info.place, hash) => Ok(Some(info.place)),
+        Some(_) => Err(database.refuse(Damage::Container)),
     }
 }
 

@@ -1,4 +1,5 @@
--- The rows are those of full pages, each of which was asked behind the last number of the page before it, since the greatest number was asked; that is the same.
+-- The rows are those of full pages, each of which was asked behind the last number of the page before it, since the greatest number was asked; that is the
+-- same.
 use Rattle.std.proofs.Common.{◌≡◌, pos, map, List}
 use Rattle.std.specs.List.{flat_map}
 use Rattle.sqlite_value.specs.Order.{Row as SqlRow}

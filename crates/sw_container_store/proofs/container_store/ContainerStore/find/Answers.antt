@@ -16,7 +16,8 @@ returns-in-Some-clause-found g c =
     c.in_ok-entry.ensures.taken in
     record {
       mid = old;
-      found = subst (λ (o : Option (OpenDatabase g.row.H-Open.Denot)). MatchOption o (g.H.Databases.finds old place.hash true old) (λ _. old ≡ old)) (sym is-open) refl;
+      found = subst (λ (o : Option (OpenDatabase g.row.H-Open.Denot)). MatchOption o (g.H.Databases.finds old place.hash true old) (λ _. old ≡ old))
+          (sym is-open) refl;
       reached = subst (λ (o : Option (OpenDatabase g.row.H-Open.Denot)). MatchOption o
           (IsOpened g.H.Databases.opens g.H.Open.Database.shows old new place entry)
           (λ (e : OpenDatabase g.row.H-Open.Denot). (entry ≡ e) × g.H.Databases.finds old place.hash true new)) (sym is-open) (refl, finds);
@@ -36,7 +37,8 @@ returns-clause-found g c =
     (λ _. g.H.Databases.finds old place.hash true c.take.new.self.databases)) c.in_default.is c.in_ok-entry.ensures.taken in
     record {
       mid = mid;
-      found = subst (λ (o : Option (OpenDatabase g.row.H-Open.Denot)). MatchOption o (g.H.Databases.finds old place.hash true mid) (λ _. mid ≡ old)) (sym closed)
+      found = subst (λ (o : Option (OpenDatabase g.row.H-Open.Denot)). MatchOption o (g.H.Databases.finds old place.hash true mid) (λ _. mid ≡ old))
+          (sym closed)
           (subst (λ (h : g.row.H.Denot). g.H.Databases.finds h place.hash true mid) same
           (subst (λ (there : Bool). g.H.Databases.finds c.take.new.self.databases place.hash there mid) c.if-not-branch.false
           c.in_ok-is_there.ensures.finds));
