@@ -13,7 +13,6 @@ use Rattle.std.proofs.lemmas.Option.{get_or_from_slice_get, slice_get-map, slice
 use Rattle.sw_hashpath.specs.HashParts.{partition_of}
 use Rattle.sw_hashpath.specs.declared.secrets.Secrets.{Secrets}
 use Rattle.sw_container_locks.specs.declared.cont_slot.ContSlot.{ContSlot}
-use Rattle.sw_keeper.specs.MemState.{MemState}
 use Rattle.sw_objdir.specs.Directories.{Kept, started, steps_of}
 use Rattle.sw_outside.specs.Faults.{HasRisen}
 use Rattle.sw_object_steps.specs.Rules.{ObjHistory}
@@ -24,13 +23,14 @@ use Rattle.sw_peer.specs.declared.line.Event.TheVariants.{Listed}
 use Rattle.sw_peer.specs.declared.line.Line.{Line}
 use Rattle.sw_peer.specs.declared.link.Link.TheVariants.{Local}
 use Rattle.sw_volume.specs.Tree.{Folders}
-use Rattle.sw_core.proofs.Anew.{apart-from}
+use Rattle.sw_core.proofs.Apart.{apart-from}
 use Rattle.sw_core.proofs.Placed.{stripe-below}
 use Rattle.sw_core.proofs.Slots.{same-some}
 use Rattle.sw_core.proofs.Wholes.{none-some, open-at}
 use Rattle.sw_core.specs.Limits.{journal_entries}
 use Rattle.sw_core.specs.Listing.{AreLookedAt, IsLookedAt}
-use Rattle.sw_core.specs.Worlds.{AllNodes, AreLifted, AreSetDown, HasRoom, IsSlot, IsWorld, first_of, held_of, is_out, lock_of, past_of, seen_of, sight_of}
+use Rattle.sw_core.specs.Worlds.{AllNodes, KeeperSeen, AreLifted, AreSetDown, HasRoom, IsSlot, IsWorld, first_of, held_of, is_out, lock_of, past_of, seen_of}
+use Rattle.sw_core.specs.Worlds.{sight_of}
 use Rattle.sw_core.specs.Worlds.{stripe_at}
 use Rattle.sw_core.specs.declared.slot.Slot.{Slot}
 use Rattle.sw_core.specs.declared.slot.Slot.TheVariants as slots
@@ -48,7 +48,7 @@ same-places (x ∷ xs) (y ∷ ys) same at =
     cc
 
 -- an index within a list has something
-there-is : {X : Type 0} (xs : List X) (i : ℕ) → i < length xs → (x : X) × (slice_get xs i ≡ Some x)
+pub there-is : {X : Type 0} (xs : List X) (i : ℕ) → i < length xs → (x : X) × (slice_get xs i ≡ Some x)
 there-is [] i within = absurd (omega arith)
 there-is (x ∷ xs) zero within = (x, refl)
 there-is (x ∷ xs) (suc i) within = there-is xs i (omega arith)
@@ -101,7 +101,7 @@ module _ {V : Type 0} (secrets : Secrets) (power max_bytes : ℕ) (volumes : Lis
           let v = there-is volumes l below in
           begun-at l v.0 v.1 ∙ (sym (slice_get-map begun volumes l ∙ ap (option_map begun) v.1) ∙ is)
 
-  pub opened-world : (devices bits : ℕ) (lines : List Line) (asks : ℕ) (containers : List (ContSlot MemState)) → devices ≤ 256 → bits ≤ 4 → bits ≤ power →
+  pub opened-world : (devices bits : ℕ) (lines : List Line) (asks : ℕ) {K : Type 0} (containers : List (ContSlot K)) → devices ≤ 256 → bits ≤ 4 → bits ≤ power →
       1 ≤ power → power ≤ 32 → length volumes ≡ devices * 2 ^ bits
       → IsWorld (record {
         devices = devices;
@@ -115,7 +115,7 @@ module _ {V : Type 0} (secrets : Secrets) (power max_bytes : ℕ) (volumes : Lis
         lifted = None;
         containers = containers;
       })
-  opened-world devices bits lines asks containers few narrow fine least greatest amount = record {
+  opened-world devices bits lines asks {K} containers few narrow fine least greatest amount = record {
     devices = few;
     lock_bits = narrow;
     least = least;
@@ -130,7 +130,7 @@ module _ {V : Type 0} (secrets : Secrets) (power max_bytes : ℕ) (volumes : Lis
 
 -- ---- lifted and set down
 
-module _ {V : Type 0} (w : AllNodes V) (is : IsWorld w) (device : ℕ) where
+module _ {V K : Type 0} (w : AllNodes V K) (is : IsWorld w) (device : ℕ) where
   -- the locks of the device have open directories
   pub open-among : w.lifted ≡ None → device < w.devices → (l : ℕ) → first_of w.lock_bits device ≤ l → l < past_of w.lock_bits device
       → (k : Kept V) × (slice_get w.slots l ≡ Some (slots.Open k))
@@ -141,10 +141,10 @@ module _ {V : Type 0} (w : AllNodes V) (is : IsWorld w) (device : ℕ) where
       let there = open-at w is whole l (omega (arith, is.count, to, further, past)) in
       (there.0, there.1)
 
-  pub lifted-world : (new : List (Slot V)) (given : List V) (lines : List Line) → w.lifted ≡ None → device < w.devices
+  pub lifted-world : (new : List (Slot V)) (given : List V) (lines : List Line) (containers : List (ContSlot K)) → w.lifted ≡ None → device < w.devices
       → AreLifted (first_of w.lock_bits device) (past_of w.lock_bits device) w.slots new given
-      → IsWorld (record w { slots = new; lines = lines; lifted = Some device })
-  lifted-world new given lines whole below up = record {
+      → IsWorld (record w { slots = new; lines = lines; lifted = Some device; containers = containers })
+  lifted-world new given lines containers whole below up = record {
     devices = is.devices;
     lock_bits = is.lock_bits;
     least = is.least;
@@ -167,7 +167,7 @@ module _ {V : Type 0} (w : AllNodes V) (is : IsWorld w) (device : ℕ) where
           subst (λ (b : Bool). IsSlot w.secrets w.power w.max_bytes b (slice_get new l)) (sym apart.0)
           (there.0, up.outside l apart.1 ∙ there.1, there.2, there.3, there.4)
 
-  pub set-world : (new : List (Slot V)) (volumes : List V) (lines : List Line) (containers : List (ContSlot MemState)) → w.lifted ≡ Some device →
+  pub set-world : (new : List (Slot V)) (volumes : List V) (lines : List Line) (containers : List (ContSlot K)) → w.lifted ≡ Some device →
       length volumes ≡ 2 ^ w.lock_bits
       → AreSetDown w.power w.max_bytes (first_of w.lock_bits device) volumes w.slots new
       → IsWorld (record w { slots = new; lines = lines; lifted = None; containers = containers })
@@ -237,7 +237,8 @@ roomy-in old new room lines lines_now spare spare_now lifted same has = record {
 
 -- ---- looked at
 
-module _ {V : Type 0} (tells : V → Bool) (files : V → Folders) (faults : V → ℕ) (w : AllNodes V) (is : IsWorld w) (whole : w.lifted ≡ None) (device : ℕ)
+module _ {V K : Type 0} (tells : V → Bool) (files : V → Folders) (faults : V → ℕ) (keeps : KeeperSeen K) (w : AllNodes V K) (is : IsWorld w)
+    (whole : w.lifted ≡ None) (device : ℕ)
     (new : List (Slot V)) (lines : List Line)
     (looked : AreLookedAt tells files faults (first_of w.lock_bits device) (past_of w.lock_bits device) w.slots new) where
   pub looked-world : IsWorld (record w { slots = new; lines = lines })
@@ -307,7 +308,7 @@ module _ {V : Type 0} (tells : V → Bool) (files : V → Folders) (faults : V �
 
   pub listed : (failed : Bool) → lines ≡ w.lines ++ record { device = device; link = Local; event = Listed failed; added = [] } ∷ []
       → (failed ≡ true → (l : ℕ) × HasRisen (old-seen l).faults (new-seen l).faults)
-      → IsListed device failed (sight_of tells files faults w) (sight_of tells files faults (record w { slots = new; lines = lines }))
+      → IsListed device failed (sight_of tells files faults keeps w) (sight_of tells files faults keeps (record w { slots = new; lines = lines }))
   listed failed items risen = record {
     nodes = refl;
     same = λ l. (seen-looked l).0;

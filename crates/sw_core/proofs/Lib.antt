@@ -1,4 +1,5 @@
 pub mod Anew
+pub mod Apart
 pub mod Keeping
 pub mod Listed
 pub mod Placed

@@ -39,7 +39,7 @@ use Rattle.sw_core.specs.Making.{IsChangedIn, IsGotIn, IsPartIn}
 use Rattle.sw_volume.specs.Tree.{Folders}
 use Rattle.sw_core.specs.declared.slot.Slot.{Slot}
 use Rattle.sw_core.specs.declared.slot.Slot.TheVariants as slots
-use Rattle.sw_core.specs.Worlds.{AllNodes, held_of, lock_of, part_lock_of, seen_of, sight_of, stripe_at}
+use Rattle.sw_core.specs.Worlds.{AllNodes, KeeperSeen, held_of, lock_of, part_lock_of, seen_of, sight_of, stripe_at}
 
 pub slice_get-set_same : {X : Type 0} (xs : List X) (i : ℕ) (x : X) → i < length xs → slice_get (slice_set xs i x) i ≡ Some x
 slice_get-set_same xs i x h =
@@ -145,9 +145,9 @@ module _ {V : Type 0} (tells : V → Bool) (files : V → Folders) (faults : V �
 -- ---- all nodes
 
 -- one directory has made a step, and the others none
-module _ {V : Type 0} (tells : V → Bool) (files : V → Folders) (faults : V → ℕ) (w : AllNodes V) (place : ℕ) (d x : Kept V)
+module _ {V K : Type 0} (tells : V → Bool) (files : V → Folders) (faults : V → ℕ) (keeps : KeeperSeen K) (w : AllNodes V K) (place : ℕ) (d x : Kept V)
     (there : slice_get w.slots place ≡ Some (slots.Open d)) (lines : List Line) (asks : ℕ) where
-  abbrev pub stepped : AllNodes V
+  abbrev pub stepped : AllNodes V K
   stepped = record w { slots = slice_set w.slots place (slots.Open x); lines = lines; asks = asks }
 
   pub now : slice_get (slice_set w.slots place (slots.Open x)) place ≡ Some (slots.Open x)
@@ -185,7 +185,7 @@ module _ {V : Type 0} (tells : V → Bool) (files : V → Folders) (faults : V �
   pub moves : (at : ℕ → Hash → Type 0) (e : ℕ) (h : Hash) → at e h → lock_of w.lock_bits w.power e h ≡ place
       → GrowsOf (steps_of tells files faults d) (steps_of tells files faults x)
       → ((e : ℕ) (h : Hash) → (at e h → ⊥) → lock_of w.lock_bits w.power e h ≡ place → held tells files faults x h ≡ held tells files faults d h)
-      → Moves at (sight_of tells files faults w) (sight_of tells files faults stepped)
+      → Moves at (sight_of tells files faults keeps w) (sight_of tells files faults keeps stepped)
   moves at e h is here up same = record {
     nodes = refl;
     objects = record {
@@ -199,29 +199,30 @@ module _ {V : Type 0} (tells : V → Bool) (files : V → Folders) (faults : V �
   }
 
 -- a step at the lock of a name
-module _ {V : Type 0} (tells : V → Bool) (files : V → Folders) (faults : V → ℕ) (w : AllNodes V) (device : ℕ) (name : Name) (d x : Kept V)
+module _ {V K : Type 0} (tells : V → Bool) (files : V → Folders) (faults : V → ℕ) (keeps : KeeperSeen K) (w : AllNodes V K) (device : ℕ) (name : Name)
+    (d x : Kept V)
     (at : slice_get w.slots (lock_of w.lock_bits w.power device name.hash) ≡ Some (slots.Open d)) (link : Link) (line : Line) (lines : List Line)
     (items : lines ≡ w.lines ++ line ∷ []) where
   abbrev place : ℕ
   place = lock_of w.lock_bits w.power device name.hash
 
-  abbrev after : AllNodes V
-  after = stepped tells files faults w place d x at lines w.asks
+  abbrev after : AllNodes V K
+  after = stepped tells files faults keeps w place d x at lines w.asks
 
   abbrev before_sight : Sight
-  before_sight = sight_of tells files faults w
+  before_sight = sight_of tells files faults keeps w
 
   abbrev after_sight : Sight
-  after_sight = sight_of tells files faults (record w { slots = slice_set w.slots place (slots.Open x); lines = lines })
+  after_sight = sight_of tells files faults keeps (record w { slots = slice_set w.slots place (slots.Open x); lines = lines })
 
   moved : GrowsOf (steps_of tells files faults d) (steps_of tells files faults x) →
       ((h : Hash) → h ≢ name.hash → held tells files faults x h ≡ held tells files faults d h)
       → Moves (IsAt device name.hash) before_sight after_sight
-  moved up same = moves tells files faults w place d x at lines w.asks (IsAt device name.hash) device name.hash (refl, refl) refl up
+  moved up same = moves tells files faults keeps w place d x at lines w.asks (IsAt device name.hash) device name.hash (refl, refl) refl up
       (λ e h away equal. same h (λ it. away (device-of w.lock_bits w.power e device (partition_of h w.power) (partition_of name.hash w.power) equal, it)))
 
   abbrev now_at : slice_get (slice_set w.slots place (slots.Open x)) place ≡ Some (slots.Open x)
-  now_at = now tells files faults w place d x at lines w.asks
+  now_at = now tells files faults keeps w place d x at lines w.asks
 
   -- what a device holds under the name's hash is what stands at this lock
   own-holds : (all : List (Slot V)) (key : Hash) → bytes_eq key name.hash ≡ true
@@ -229,8 +230,8 @@ module _ {V : Type 0} (tells : V → Bool) (files : V → Folders) (faults : V �
   own-holds all key is = ap (λ (h : Hash). held_of tells files faults (slice_get all (lock_of w.lock_bits w.power device h)) key) (hash-same key name.hash is)
 
   pub world-made : (change : Change) (answer : Answer) → IsChangedIn tells files faults d link device name change answer x line
-      → Calls (IsMade link device name change) (sight_of tells files faults w) link (Ok answer)
-      (sight_of tells files faults (record w { slots = slice_set w.slots (lock_of w.lock_bits w.power device name.hash) (slots.Open x); lines = lines }))
+      → Calls (IsMade link device name change) (sight_of tells files faults keeps w) link (Ok answer)
+      (sight_of tells files faults keeps (record w { slots = slice_set w.slots (lock_of w.lock_bits w.power device name.hash) (slots.Open x); lines = lines }))
   world-made change answer made =
       let changes = made.step.changes in
       let step = change-at tells files faults d x name change answer changes (before_sight.objects.holds device) (slice_get w.slots place)
@@ -246,8 +247,8 @@ module _ {V : Type 0} (tells : V → Bool) (files : V → Folders) (faults : V �
       })
 
   pub world-read : (got : Got) → IsGotIn tells files faults d link device name got x line
-      → Calls (IsRead link device name) (sight_of tells files faults w) link (Ok got)
-      (sight_of tells files faults (record w { slots = slice_set w.slots (lock_of w.lock_bits w.power device name.hash) (slots.Open x); lines = lines }))
+      → Calls (IsRead link device name) (sight_of tells files faults keeps w) link (Ok got)
+      (sight_of tells files faults keeps (record w { slots = slice_set w.slots (lock_of w.lock_bits w.power device name.hash) (slots.Open x); lines = lines }))
   world-read got read =
       let step = read-at tells files faults d x (λ key. bytes_eq key name.hash) got_look (λ told stood front y. Shows told (stood name.hash).state front y) got
       read.step.reads (after_sight.objects.holds device) (slice_get w.slots place) (slice_get (slice_set w.slots place (slots.Open x)) place) at now_at
@@ -256,44 +257,45 @@ module _ {V : Type 0} (tells : V → Bool) (files : V → Folders) (faults : V �
       (faithful-once link)
       (record {
         moves = moved read.step.reads.follows (λ h away. read.step.all h);
-        holds_all = λ alone e h. held_same tells files faults w place d x at lines w.asks e h (λ equal. read.step.all h);
+        holds_all = λ alone e h. held_same tells files faults keeps w place d x at lines w.asks e h (λ equal. read.step.all h);
         step = step.0;
         trail = inl (ap Some (items ∙ ap (λ (l : Line). w.lines ++ l ∷ []) (read.line_is
             ∙ ap (λ (es : List ObjEntry). record { device = device; link = link; event = Read name got; added = es }) step.1)));
       })
 
 -- a read of a partition, at its lock
-module _ {V A : Type 0} (tells : V → Bool) (files : V → Folders) (faults : V → ℕ) (w : AllNodes V) (device part : ℕ) (d x : Kept V)
+module _ {V K A : Type 0} (tells : V → Bool) (files : V → Folders) (faults : V → ℕ) (keeps : KeeperSeen K) (w : AllNodes V K) (device part : ℕ) (d x : Kept V)
     (there : slice_get w.slots (part_lock_of w.lock_bits w.power device part) ≡ Some (slots.Open d)) (link : Link) (line : Line) (lines : List Line)
     (items : lines ≡ w.lines ++ line ∷ []) (asks : ℕ) (at : Nodes → Hash → Bool) (damages : Bool) (reading : Nodes → Bool → (Hash → State) → A → Type 0)
     (read : Result A DirFault → PartRead) where
   abbrev part_place : ℕ
   part_place = part_lock_of w.lock_bits w.power device part
 
-  abbrev pub part_after : AllNodes V
+  abbrev pub part_after : AllNodes V K
   part_after = record w { slots = slice_set w.slots (part_lock_of w.lock_bits w.power device part) (slots.Open x); lines = lines; asks = asks }
 
   abbrev pub nodes_in : Nodes
-  nodes_in = (sight_of tells files faults w).nodes
+  nodes_in = (sight_of tells files faults keeps w).nodes
 
   -- all these hashes are of the partition, and there is one
   pub world-part : (got : Result A DirFault) (h : Hash) → IsOfPart w.power part h → at nodes_in h ≡ true
       → ((k : Hash) → at nodes_in k ≡ true → partition_of k w.power ≡ part)
       → IsPartIn tells files faults d link device (at nodes_in) damages (reading nodes_in) read got x line
-      → Calls (IsPartRead link device part at damages reading read) (sight_of tells files faults w) link (Ok got) (sight_of tells files faults part_after)
+      → Calls (IsPartRead link device part at damages reading read) (sight_of tells files faults keeps w) link (Ok got)
+      (sight_of tells files faults keeps part_after)
   world-part got h of_part is inside made =
       let reads = made.step.reads in
       let step = read-at tells files faults d x (at nodes_in) part_look (λ told stood front y. IsGiven (reading nodes_in told) stood y) got reads
-      ((sight_of tells files faults part_after).objects.holds device) (slice_get w.slots part_place)
+      ((sight_of tells files faults keeps part_after).objects.holds device) (slice_get w.slots part_place)
       (slice_get (slice_set w.slots part_place (slots.Open x)) part_place) there now_at
       (λ key own. ap (λ (p : ℕ). held_of tells files faults (slice_get (slice_set w.slots part_place (slots.Open x))
       (part_lock_of w.lock_bits w.power device p)) key) (inside key own)) in
       calls-once (PartFrame device part at) (IsPartRead link device part at damages reading read) (part-step link device part at damages reading read)
-      (sight_of tells files faults w) (sight_of tells files faults part_after) link got (faithful-once link)
+      (sight_of tells files faults keeps w) (sight_of tells files faults keeps part_after) link got (faithful-once link)
       (record {
-        moves = moves tells files faults w part_place d x there lines asks (IsInPart w.power device part (at nodes_in)) device h (refl, of_part, is)
+        moves = moves tells files faults keeps w part_place d x there lines asks (IsInPart w.power device part (at nodes_in)) device h (refl, of_part, is)
             (ap (part_lock_of w.lock_bits w.power device) of_part.part_is) reads.follows (λ e k away equal. made.step.all k);
-        holds_all = λ alone e k. held_same tells files faults w part_place d x there lines asks e k (λ equal. made.step.all k);
+        holds_all = λ alone e k. held_same tells files faults keeps w part_place d x there lines asks e k (λ equal. made.step.all k);
         step = step.0;
         sound = made.step.sound;
         trail = inl (ap Some (items ∙ ap (λ (l : Line). w.lines ++ l ∷ []) (made.line_is
@@ -301,4 +303,4 @@ module _ {V A : Type 0} (tells : V → Bool) (files : V → Folders) (faults : V
       })
     where
       now_at : slice_get (slice_set w.slots part_place (slots.Open x)) part_place ≡ Some (slots.Open x)
-      now_at = now tells files faults w part_place d x there lines asks
+      now_at = now tells files faults keeps w part_place d x there lines asks

@@ -26,7 +26,7 @@ use Rattle.sw_peer.specs.declared.link.Link.{Link}
 use Rattle.sw_volume.specs.Tree.{Folders}
 use Rattle.sw_core.proofs.Wholes.{found}
 use Rattle.sw_core.specs.declared.slot.Slot.{Slot}
-use Rattle.sw_core.specs.Worlds.{AllMayStand, AllNodes, held_of, lock_of, part_lock_of, seen_of, sight_of}
+use Rattle.sw_core.specs.Worlds.{AllMayStand, AllNodes, KeeperSeen, held_of, lock_of, part_lock_of, seen_of, sight_of}
 
 tells : IsWanting ≡ Tells → ⊥
 tells is = cc
@@ -90,36 +90,37 @@ wanting-part link device part at damages reading read s asks may = record {
 }
 
 -- what a lock tells of each hash, its device holds
-pub own-stands : {V : Type 0} (tells : V → Bool) (files : V → Folders) (faults : V → ℕ) (w : AllNodes V) (device : ℕ) (hash : Hash)
-    → AllMayStand tells files faults (slice_get w.slots (lock_of w.lock_bits w.power device hash)) → MayStand device hash (sight_of tells files faults w)
-own-stands tells files faults w device hash may alone told = may told hash
+pub own-stands : {V K : Type 0} (tells : V → Bool) (files : V → Folders) (faults : V → ℕ) (keeps : KeeperSeen K) (w : AllNodes V K) (device : ℕ) (hash : Hash)
+    → AllMayStand tells files faults (slice_get w.slots (lock_of w.lock_bits w.power device hash)) → MayStand device hash (sight_of tells files faults keeps w)
+own-stands tells files faults keeps w device hash may alone told = may told hash
 
-module _ {V : Type 0} (tells : V → Bool) (files : V → Folders) (faults : V → ℕ) (w : AllNodes V) (lines : List Line) (same : lines ≡ w.lines) (link : Link)
+module _ {V K : Type 0} (tells : V → Bool) (files : V → Folders) (faults : V → ℕ) (keeps : KeeperSeen K) (w : AllNodes V K) (lines : List Line)
+    (same : lines ≡ w.lines) (link : Link)
     (device : ℕ) where
   module _ (name : Name) (may : AllMayStand tells files faults (slice_get w.slots (lock_of w.lock_bits w.power device name.hash))) where
-    pub wants : (change : Change) → Calls (IsMade link device name change) (sight_of tells files faults w) link (Ok answers.NoMemory)
-        (sight_of tells files faults (record w { lines = lines }))
+    pub wants : (change : Change) → Calls (IsMade link device name change) (sight_of tells files faults keeps w) link (Ok answers.NoMemory)
+        (sight_of tells files faults keeps (record w { lines = lines }))
     wants change = rw same (calls-once (Moves (IsAt device name.hash)) (IsMade link device name change) (made-step link device name change)
-        (sight_of tells files faults w) (sight_of tells files faults w) link answers.NoMemory (faithful-once link)
-        (wanting link device name change (sight_of tells files faults w) (own-stands tells files faults w device name.hash may)))
+        (sight_of tells files faults keeps w) (sight_of tells files faults keeps w) link answers.NoMemory (faithful-once link)
+        (wanting link device name change (sight_of tells files faults keeps w) (own-stands tells files faults keeps w device name.hash may)))
 
-    pub wants-read : Calls (IsRead link device name) (sight_of tells files faults w) link (Ok gots.NoMemory)
-        (sight_of tells files faults (record w { lines = lines }))
+    pub wants-read : Calls (IsRead link device name) (sight_of tells files faults keeps w) link (Ok gots.NoMemory)
+        (sight_of tells files faults keeps (record w { lines = lines }))
     wants-read = rw same (calls-once (Moves (IsAt device name.hash)) (IsRead link device name) (read-step link device name)
-        (sight_of tells files faults w) (sight_of tells files faults w) link gots.NoMemory (faithful-once link)
-        (wanting-read link device name (sight_of tells files faults w) (own-stands tells files faults w device name.hash may)))
+        (sight_of tells files faults keeps w) (sight_of tells files faults keeps w) link gots.NoMemory (faithful-once link)
+        (wanting-read link device name (sight_of tells files faults keeps w) (own-stands tells files faults keeps w device name.hash may)))
 
   -- a read of a partition that wants memory for its line
   module _ {A : Type 0} (part asks : ℕ) (at : Nodes → Hash → Bool) (damages : Bool) (reading : Nodes → Bool → (Hash → State) → A → Type 0)
       (read : Result A DirFault → PartRead) where
     pub wants-part : AllMayStand tells files faults (slice_get w.slots (part_lock_of w.lock_bits w.power device part))
-        → ((key : Hash) → at (sight_of tells files faults w).nodes key ≡ true → partition_of key w.power ≡ part)
-        → Calls (IsPartRead link device part at damages reading read) (sight_of tells files faults w) link (Ok (Err dir_faults.NoMemory))
-        (sight_of tells files faults (record w { lines = lines; asks = asks }))
+        → ((key : Hash) → at (sight_of tells files faults keeps w).nodes key ≡ true → partition_of key w.power ≡ part)
+        → Calls (IsPartRead link device part at damages reading read) (sight_of tells files faults keeps w) link (Ok (Err dir_faults.NoMemory))
+        (sight_of tells files faults keeps (record w { lines = lines; asks = asks }))
     wants-part may inside = rw same (calls-once (PartFrame device part at) (IsPartRead link device part at damages reading read)
         (part-step link device part at damages reading read)
-        (sight_of tells files faults w) (sight_of tells files faults (record w { asks = asks })) link (Err dir_faults.NoMemory)
-        (faithful-once link) (wanting-part link device part at damages reading read (sight_of tells files faults w) asks
+        (sight_of tells files faults keeps w) (sight_of tells files faults keeps (record w { asks = asks })) link (Err dir_faults.NoMemory)
+        (faithful-once link) (wanting-part link device part at damages reading read (sight_of tells files faults keeps w) asks
         (λ told key is. subst (λ (p : ℕ). CanStand obj_rules (seen_of tells files faults (slice_get w.slots (part_lock_of w.lock_bits w.power device part))) key
         (held_of tells files faults (slice_get w.slots (part_lock_of w.lock_bits w.power device p)) key)) (sym (inside key is)) (may told key))))
 

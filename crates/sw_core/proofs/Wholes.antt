@@ -14,7 +14,6 @@ use Rattle.sw_hashpath.specs.declared.bad_name.BadName.{BadName}
 use Rattle.sw_hashpath.specs.declared.name.Name.{Name}
 use Rattle.sw_hashpath.specs.declared.secrets.Secrets.{Secrets}
 use Rattle.sw_container_locks.specs.declared.cont_slot.ContSlot.{ContSlot}
-use Rattle.sw_keeper.specs.MemState.{MemState}
 use Rattle.sw_objdir.specs.Directories.{Kept}
 use Rattle.sw_object_steps.proofs.Hashes.{hash-same}
 use Rattle.sw_peer.specs.declared.line.Line.{Line}
@@ -77,7 +76,7 @@ roomy old new room lines lines_now spare lifted whole same has = record {
   line = λ out. none-some lifted whole out;
 }
 
-module _ {V : Type 0} (w : AllNodes V) (is : IsWorld w) where
+module _ {V K : Type 0} (w : AllNodes V K) (is : IsWorld w) where
   -- the same with other lines, and another count
   pub lined : (lines : List Line) (asks : ℕ) → IsWorld (record w { lines = lines; asks = asks })
   lined lines asks =
@@ -93,7 +92,7 @@ module _ {V : Type 0} (w : AllNodes V) (is : IsWorld w) where
       }
 
   -- or with other containers
-  pub contained : (lines : List Line) (containers : List (ContSlot MemState)) → IsWorld (record w { lines = lines; containers = containers })
+  pub contained : (lines : List Line) (containers : List (ContSlot K)) → IsWorld (record w { lines = lines; containers = containers })
   contained lines containers =
       record {
         devices = is.devices;

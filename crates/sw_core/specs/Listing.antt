@@ -29,7 +29,7 @@ IsPathAmong {V} files first past old path =
     (l : ℕ) × (k : Kept V) × (first ≤ l) × (l < past) × (slice_get old l ≡ Some (slots.Open k)) × IsPathBelow (contents (files k.volume)) path
 
 -- the paths are those of all files of the device's volumes, in byte order, each once
-abbrev pub ListsFiles : {V : Type 0} → (V → Bool) → (V → Folders) → AllNodes V → ℕ → List (List ℕ) → Type 0
+abbrev pub ListsFiles : {V K : Type 0} → (V → Bool) → (V → Folders) → AllNodes V K → ℕ → List (List ℕ) → Type 0
 ListsFiles tells files w device paths =
     AllTell tells (first_of w.lock_bits device) (past_of w.lock_bits device) w.slots
     → ListsAll paths (IsPathAmong files (first_of w.lock_bits device) (past_of w.lock_bits device) w.slots)

@@ -1,6 +1,8 @@
 -- What nodes that are stopped give back. (This project's own.)
 use Rattle.std.specs.Prelude.{◌≡◌, ℕ, ◌+◌, ◌*◌, ◌^◌, ◌<◌, List, ◌++◌, length, Option, None, Some}
 use Rattle.std.specs.List.{slice_get}
+use Rattle.sw_container_db.specs.ContDirs.{ContKept}
+use Rattle.sw_container_locks.specs.declared.cont_slot.ContSlot.TheVariants as cont_slots
 use Rattle.sw_core.specs.Worlds.{AllNodes, first_of, past_of}
 use Rattle.sw_core.specs.declared.slot.Slot.TheVariants as slots
 use Rattle.sw_objdir.specs.Directories.{Kept}
@@ -14,12 +16,14 @@ abbrev pub gap_past : ℕ → Option ℕ → ℕ
 gap_past lock_bits None = 0
 gap_past lock_bits (Some device) = past_of lock_bits device
 
--- the volumes of all locks, those before the device that is out and those behind it
-pub record Gives {V : Type 0} (lifted : Option ℕ) (w : AllNodes V) (volumes : List V) : Type 0 where
-  pub before : List V
-  pub behind : List V
-  pub all : volumes ≡ before ++ behind
+-- the volume and the keeper of each lock, those before the device that is out and those behind it
+pub record Gives {V K : Type 0} (lifted : Option ℕ) (w : AllNodes V K) (parts : List (V × K)) : Type 0 where
+  pub before : List (V × K)
+  pub behind : List (V × K)
+  pub all : parts ≡ before ++ behind
   pub low : length before ≡ gap_first w.lock_bits lifted
   pub high : gap_past w.lock_bits lifted + length behind ≡ w.devices * 2 ^ w.lock_bits
-  pub first : (l : ℕ) (k : Kept V) → l < gap_first w.lock_bits lifted → slice_get w.slots l ≡ Some (slots.Open k) → slice_get before l ≡ Some k.volume
-  pub then : (l : ℕ) (k : Kept V) → slice_get w.slots (gap_past w.lock_bits lifted + l) ≡ Some (slots.Open k) → slice_get behind l ≡ Some k.volume
+  pub first : (l : ℕ) (k : Kept V) (c : ContKept K) → l < gap_first w.lock_bits lifted → slice_get w.slots l ≡ Some (slots.Open k)
+      → slice_get w.containers l ≡ Some (cont_slots.Open c) → slice_get before l ≡ Some (k.volume, c.keeper)
+  pub then : (l : ℕ) (k : Kept V) (c : ContKept K) → slice_get w.slots (gap_past w.lock_bits lifted + l) ≡ Some (slots.Open k)
+      → slice_get w.containers (gap_past w.lock_bits lifted + l) ≡ Some (cont_slots.Open c) → slice_get behind l ≡ Some (k.volume, c.keeper)

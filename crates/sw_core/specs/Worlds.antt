@@ -1,6 +1,6 @@
 -- What a world is, and what its user knows of its nodes. (This project's own.)
 use Rattle.std.specs.Prelude.{◌≡◌, refl, ℕ, ◌+◌, ◌-◌, ◌*◌, ◌/◌, ◌%◌, ◌^◌, ◌<◌, ◌≤◌, ◌⊎◌, Bool, true, false, ◌&&◌, nat_le, nat_lt, List, [], ◌∷◌, ◌++◌, length}
-use Rattle.std.specs.Prelude.{map, Option, ⊤}
+use Rattle.std.specs.Prelude.{map, zip, Option, ⊤}
 use Rattle.std.specs.Prelude.{Some, None, is_none, IsSome}
 use Rattle.std.specs.List.{All, flat_map, slice_get}
 use Rattle.std.specs.Str.{bytes_eq}
@@ -10,7 +10,8 @@ use Rattle.sw_core.specs.Limits.{empty_journal, journal_entries}
 use Rattle.sw_core.specs.declared.slot.Slot.{Slot}
 use Rattle.sw_core.specs.declared.slot.Slot.TheVariants as slots
 use Rattle.sw_container_locks.specs.Halves.{half_of}
-use Rattle.sw_container_locks.specs.Slots.{IsOpen, begun, opened as opened_locks}
+use Rattle.sw_container_db.specs.ContDirs.{ContKept}
+use Rattle.sw_container_locks.specs.Slots.{AreSetDown as LocksAreSetDown, Lifts as LiftsLocks, keepers_of, opened as opened_locks}
 use Rattle.sw_container_locks.specs.declared.cont_slot.ContSlot.{ContSlot}
 use Rattle.sw_container_locks.specs.declared.cont_slot.ContSlot.TheVariants as cont_slots
 use Rattle.sw_container_steps.specs.Halves.{ContHalf}
@@ -21,9 +22,6 @@ use Rattle.sw_hashpath.specs.declared.place.Place.{Place}
 use Rattle.sw_hashpath.specs.declared.secrets.Secrets.{Secrets}
 use Rattle.sw_hashdir.specs.Places.{in_order}
 use Rattle.sw_hashdir.specs.Steps.{is_hashed}
-use Rattle.sw_history.specs.Halves.{HalfRestarts}
-use Rattle.sw_keeper.specs.MemState.{MemState}
-use Rattle.sw_keeper.specs.Places.{at}
 use Rattle.sw_objdir.specs.Directories.{Kept, is_told, started, steps_of, values_of}
 use Rattle.sw_peer.specs.Carriage.{faithful}
 use Rattle.sw_object_steps.specs.Journals.{Hash}
@@ -39,7 +37,7 @@ use Rattle.sw_state.specs.States.{state_of}
 use Rattle.sw_step.specs.Rules.{CanStand}
 use Rattle.sw_volume.specs.Tree.{Folders}
 
-pub record AllNodes (V : Type 0) : Type 0 where
+pub record AllNodes (V K : Type 0) : Type 0 where
   pub devices : ℕ
   pub lock_bits : ℕ
   pub power : ℕ
@@ -49,7 +47,7 @@ pub record AllNodes (V : Type 0) : Type 0 where
   pub max_bytes : ℕ  -- how many bytes the bodies in the journal of an object lock have at most, together
   pub asks : ℕ  -- how many messages asked for hashes or files
   pub lifted : Option ℕ  -- the device whose volumes are out
-  pub containers : List (ContSlot MemState)  -- the container locks, one beside each object lock
+  pub containers : List (ContSlot K)  -- the container locks, one beside each object lock
 
 -- ---- places
 
@@ -88,7 +86,7 @@ IsSlot {V} secrets power max_bytes false slot =
 IsSlot secrets power max_bytes true slot = slot ≡ Some (slots.Lifted secrets)
 
 -- so many devices, of which each has so many locks
-pub record IsWorld {V : Type 0} (w : AllNodes V) : Type 0 where
+pub record IsWorld {V K : Type 0} (w : AllNodes V K) : Type 0 where
   pub devices : w.devices ≤ 256
   pub lock_bits : w.lock_bits ≤ 4
   pub fine : w.lock_bits ≤ w.power  -- so that a partition is under one lock
@@ -124,41 +122,34 @@ abbrev pub shown : Option ℕ → ℕ → ℕ
 shown None devices = devices
 shown (Some device) devices = 0
 
--- ---- containers: their tables are kept in memory, by keepers no call of which fails
+-- ---- containers
 
-abbrev pub mem_tells : MemState → Bool
-mem_tells k = true
+-- what a keeper lets be known: whether it tells what it holds, that, and its count of faults
+pub record KeeperSeen (K : Type 0) : Type 0 where
+  pub tells : K → Bool
+  pub holds : K → Place → Option Tables
+  pub faults : K → ℕ
 
-abbrev pub mem_holds : MemState → Place → Option Tables
-mem_holds k = at k.shelves
-
-abbrev pub mem_faults : MemState → ℕ
-mem_faults k = 0
-
--- a keeper that holds nothing
-abbrev pub empty_keeper : MemState
-empty_keeper = record { shelves = []; failing = []; calls = 0; faults = 0 }
+abbrev pub keeper_seen : {K : Type 0} → (K → Bool) → (K → Place → Option Tables) → (K → ℕ) → KeeperSeen K
+keeper_seen tells holds faults = record { tells = tells; holds = holds; faults = faults }
 
 -- the lock of a container at a device is numbered as that of an object
 abbrev pub place_lock : ℕ → ℕ → ℕ → Place → ℕ
 place_lock lock_bits power device place = lock_of lock_bits power device place.hash
 
 -- what is known of these locks
-abbrev pub containers_at : ℕ → ℕ → List (ContSlot MemState) → ContHalf
-containers_at lock_bits power locks = half_of mem_tells mem_holds mem_faults (place_lock lock_bits power) locks
+abbrev pub containers_at : {K : Type 0} → KeeperSeen K → ℕ → ℕ → List (ContSlot K) → ContHalf
+containers_at keeps lock_bits power locks = half_of keeps.tells keeps.holds keeps.faults (place_lock lock_bits power) locks
 
--- the locks beside those of these volumes, under which no container was ever created
-abbrev pub empty_locks : {V : Type 0} → List V → List (ContSlot MemState)
-empty_locks volumes = map (λ v. cont_slots.Open (begun empty_keeper)) volumes
+-- what stands at a container lock: it is open, or its keeper is out
+abbrev pub IsContSlot : {K : Type 0} → Bool → Option (ContSlot K) → Type 0
+IsContSlot {K} false slot = (k : ContKept K) × (slot ≡ Some (cont_slots.Open k))
+IsContSlot true slot = slot ≡ Some cont_slots.Lifted
 
--- so many of them
-abbrev pub AreEmpty : ℕ → List (ContSlot MemState) → Type 0
-AreEmpty count locks = (keepers : List MemState) × (length keepers ≡ count) × All (λ keeper. keeper ≡ empty_keeper) keepers × (locks ≡ opened_locks keepers)
-
--- there is a container lock for each stripe of each device, and all are open
-pub record AreContainers (devices lock_bits : ℕ) (locks : List (ContSlot MemState)) : Type 0 where
+-- there is a container lock for each stripe of each device, and those of a device that is out are
+pub record AreContainers {K : Type 0} (devices lock_bits : ℕ) (lifted : Option ℕ) (locks : List (ContSlot K)) : Type 0 where
   pub count : length locks ≡ devices * 2 ^ lock_bits
-  pub are_open : (l : ℕ) → l < length locks → IsOpen locks l
+  pub slots : (l : ℕ) → l < length locks → IsContSlot (is_out lock_bits lifted l) (slice_get locks l)
 
 -- ---- objects
 
@@ -189,14 +180,16 @@ module _ {V : Type 0} (tells : V → Bool) (files : V → Folders) (faults : V �
   abbrev pub AllMayStand : Option (Slot V) → Type 0
   AllMayStand slot = (seen_of slot).told ≡ true → (hash : Hash) → CanStand obj_rules (seen_of slot) hash (held_of slot hash)
 
-  abbrev pub sight_of : AllNodes V → Sight
+-- what the user of all nodes knows of them
+module _ {V K : Type 0} (tells : V → Bool) (files : V → Folders) (faults : V → ℕ) (keeps : KeeperSeen K) where
+  abbrev pub sight_of : AllNodes V K → Sight
   sight_of w = record {
     nodes = nodes_of (shown w.lifted w.devices) w.lock_bits w.power w.secrets;
     objects = record {
-      seen = λ l. seen_of (slice_get w.slots l);
-      holds = λ d hash. held_of (slice_get w.slots (lock_of w.lock_bits w.power d hash)) hash;
+      seen = λ l. seen_of tells files faults (slice_get w.slots l);
+      holds = λ d hash. held_of tells files faults (slice_get w.slots (lock_of w.lock_bits w.power d hash)) hash;
     };
-    containers = containers_at w.lock_bits w.power w.containers;
+    containers = containers_at keeps w.lock_bits w.power w.containers;
     alone = true;
     faults = 0;
     asks = w.asks;
@@ -206,19 +199,26 @@ module _ {V : Type 0} (tells : V → Bool) (files : V → Folders) (faults : V �
 
 -- ---- beginning and ending
 
--- the nodes of a ring over these volumes, in which nothing has happened
-abbrev pub opened : {V : Type 0} → ℕ → Ring → List V → AllNodes V
-opened max_bytes ring volumes = record {
+-- the volumes among these parts, and the keepers
+abbrev pub volumes_in : {V K : Type 0} → List (V × K) → List V
+volumes_in parts = map (λ part. part.0) parts
+
+abbrev pub keepers_in : {V K : Type 0} → List (V × K) → List K
+keepers_in parts = map (λ part. part.1) parts
+
+-- the nodes of a ring over these parts, a volume and a keeper for each lock, in which nothing has happened
+abbrev pub opened : {V K : Type 0} → ℕ → Ring → List (V × K) → AllNodes V K
+opened max_bytes ring parts = record {
   devices = length ring.devices;
   lock_bits = ring.lock_bits;
   power = ring.power;
   secrets = ring.secrets;
-  slots = map (λ v. slots.Open (started v ring.secrets ring.power journal_entries max_bytes)) volumes;
+  slots = map (λ v. slots.Open (started v ring.secrets ring.power journal_entries max_bytes)) (volumes_in parts);
   lines = [];
   max_bytes = max_bytes;
   asks = 0;
   lifted = None;
-  containers = empty_locks volumes;
+  containers = opened_locks (keepers_in parts);
 }
 
 -- the volume of a lock, where it is there
@@ -227,16 +227,16 @@ volume_in (slots.Open k) = k.volume ∷ []
 volume_in (slots.Lifted secrets) = []
 volume_in slots.Empty = []
 
--- the volumes that are there, in the order of their locks
-abbrev pub volumes_of : {V : Type 0} → AllNodes V → List V
-volumes_of w = flat_map volume_in w.slots
+-- the volumes and the keepers that are there, in the order of their locks
+abbrev pub parts_of : {V K : Type 0} → AllNodes V K → List (V × K)
+parts_of w = zip (flat_map volume_in w.slots) (keepers_of w.containers)
 
 -- the same nodes, with no lines
-abbrev pub without_lines : {V : Type 0} → AllNodes V → AllNodes V
+abbrev pub without_lines : {V K : Type 0} → AllNodes V K → AllNodes V K
 without_lines w = record w { lines = [] }
 
 -- of the same devices, secrets and places, none of which is out that wasn't
-pub record IsSameWorld {V : Type 0} (old new : AllNodes V) : Type 0 where
+pub record IsSameWorld {V K : Type 0} (old new : AllNodes V K) : Type 0 where
   pub devices : new.devices ≡ old.devices
   pub lock_bits : new.lock_bits ≡ old.lock_bits
   pub power : new.power ≡ old.power
@@ -278,25 +278,25 @@ pub record AreSetDown {V : Type 0} (power max_bytes first : ℕ) (volumes : List
   pub outside : (l : ℕ) → (l < first) ⊎ (first + length volumes ≤ l) → slice_get new l ≡ slice_get old l
   pub count : length new ≡ length old
 
--- a device of a world was lifted, and these are the volumes of its locks
-pub record Lifts {V : Type 0} (tells : V → Bool) (files : V → Folders) (faults : V → ℕ) (old : AllNodes V) (device : ℕ) (given : List V) (new : AllNodes V)
-    : Type 0 where
+-- a device of a world was lifted, and these are the volumes and the keepers of its locks
+pub record Lifts {V K : Type 0} (tells : V → Bool) (files : V → Folders) (faults : V → ℕ) (keeps : KeeperSeen K) (old : AllNodes V K) (device : ℕ)
+    (given : List (V × K)) (new : AllNodes V K) : Type 0 where
   pub world : IsWorld old
   pub whole : old.lifted ≡ None
   pub is_device : device < old.devices
-  pub lifted : AreLifted (first_of old.lock_bits device) (past_of old.lock_bits device) old.slots new.slots given
+  pub lifted : AreLifted (first_of old.lock_bits device) (past_of old.lock_bits device) old.slots new.slots (volumes_in given)
   pub told : (l : ℕ) (k : Kept V) → first_of old.lock_bits device ≤ l → l < past_of old.lock_bits device → slice_get old.slots l ≡ Some (slots.Open k)
       → TellsOn tells files faults k
-  pub rest : new ≡ record old { slots = new.slots; lifted = Some device }
+  pub containers : LiftsLocks keeps.tells (first_of old.lock_bits device) (past_of old.lock_bits device) old.containers new.containers (keepers_in given)
+  pub rest : new ≡ record old { slots = new.slots; containers = new.containers; lifted = Some device }
 
 abbrev pub restart_line : ℕ → Line
 restart_line device = record { device = device; link = Local; event = Restarted; added = [] }
 
--- it was set down over these volumes, and its container locks began anew over what they held
-pub record SetsDown {V : Type 0} (old : AllNodes V) (device : ℕ) (volumes : List V) (new : AllNodes V) : Type 0 where
-  pub down : AreSetDown old.power old.max_bytes (first_of old.lock_bits device) volumes old.slots new.slots
-  pub containers : HalfRestarts (place_lock old.lock_bits old.power) true device (containers_at old.lock_bits old.power old.containers)
-      (containers_at old.lock_bits old.power new.containers)
+-- it was set down over these parts: each of its locks begins anew
+pub record SetsDown {V K : Type 0} (old : AllNodes V K) (device : ℕ) (parts : List (V × K)) (new : AllNodes V K) : Type 0 where
+  pub down : AreSetDown old.power old.max_bytes (first_of old.lock_bits device) (volumes_in parts) old.slots new.slots
+  pub containers : LocksAreSetDown (first_of old.lock_bits device) (keepers_in parts) old.containers new.containers
   pub rest : new ≡ record old { slots = new.slots; lines = old.lines ++ restart_line device ∷ []; lifted = None; containers = new.containers }
 
 -- there is room for the volumes of all locks, and, while a device is out, for the line of its restart

@@ -1,11 +1,17 @@
 -- What a call is over a door that keeps a trail, it is over one that keeps none.
-use Rattle.std.proofs.Common.{◌≡◌, ℕ, Bool, true, false, List, [], ◌∷◌, ◌++◌, refl, sym, ap, subst, inl, None, Result, Ok, Err}
+use Rattle.std.proofs.Common.{◌≡◌, ℕ, Bool, true, false, List, [], ◌∷◌, ◌++◌, refl, sym, ap, subst, inl, None, Option, Result, Ok, Err}
 use Rattle.sw_core.proofs.Anew.{restarts}
-use Rattle.sw_core.specs.Worlds.{AllNodes, SetsDown, restart_line, sight_of}
+use Rattle.sw_core.specs.Worlds.{KeeperSeen, AllNodes, SetsDown, restart_line, sight_of}
+use Rattle.sw_container_steps.specs.declared.cont_answer.ContAnswer.{ContAnswer}
+use Rattle.sw_container_steps.specs.declared.cont_change.ContChange.{ContChange}
 use Rattle.sw_diskfile.specs.declared.file_name.FileName.{FileName}
 use Rattle.sw_hashpath.specs.declared.name.Name.{Name}
+use Rattle.sw_hashpath.specs.declared.place.Place.{Place}
+use Rattle.sw_keeper.specs.declared.tables.Tables.{Tables}
 use Rattle.sw_object_steps.specs.Journals.{Hash}
 use Rattle.sw_object_steps.specs.Parts.{AreHashes, AreLines, IsFile}
+use Rattle.sw_peer.specs.ContSights.{ContMoves, IsContMade, IsIn, IsLooked}
+use Rattle.sw_peer.specs.declared.cont_event.ContEvent.{ContEvent}
 use Rattle.sw_peer.specs.Sights.{Calls, Comes, IsAt, IsFilesRead, IsHashesRead, IsInPart, IsMade, IsPartRead, IsRead, IsSame, IsWriteRead}
 use Rattle.sw_peer.specs.Sights.{Moves, Nodes, Restarts, Sight, in_part, in_suffix, is_one}
 use Rattle.sw_object_steps.specs.declared.change.Change.{Change}
@@ -74,6 +80,23 @@ module _ {A : Type 0} (step : Sight → A → Sight → Type 0) (blind : IsBlind
   calls-quiet s link (Ok x) t p = (p.0, p.1, comes-quiet s (p.0 ++ x ∷ []) t p.2, p.3)
   calls-quiet s link (Err lost) t p = (p.0, p.1, (p.2.0, comes-quiet s p.2.0 t p.2.1, p.2.2))
 
+-- ---- steps at containers
+
+cont-moves-quiet : (at : ℕ → Place → Type 0) (s t : Sight) → ContMoves at s t → ContMoves at (without_trail s) (without_trail t)
+cont-moves-quiet at s t p = record { nodes = p.nodes; objects = p.objects; containers = p.containers; alone = p.alone; faults = p.faults }
+
+pub cont-made-blind : (link : Link) (device : ℕ) (place : Place) (change : ContChange) → IsBlind (IsContMade link device place change)
+cont-made-blind link device place change s t x step = record { moves = cont-moves-quiet (IsIn device place) s t step.moves; step = step.step; trail = inl refl }
+
+pub looked-blind : {A : Type 0} (link : Link) (device : ℕ) (place : Place) (reading : Option Tables → ℕ → Result A ContAnswer)
+    (event : Result A ContAnswer → ContEvent) → IsBlind (IsLooked link device place reading event)
+looked-blind link device place reading event s t x step = record {
+  moves = cont-moves-quiet (IsIn device place) s t step.moves;
+  holds_all = step.holds_all;
+  step = step.step;
+  trail = inl refl;
+}
+
 -- ---- lifting and setting down
 
 restarts-blind : (device : ℕ) (s t : Sight) → Restarts device s t → Restarts device (without_trail s) (without_trail t)
@@ -87,17 +110,17 @@ restarts-blind device s t r = record {
 }
 
 -- what was set down, and its line let go
-pub sets-quietly : {V : Type 0} (old : AllNodes V) (device : ℕ) (volumes : List V) (mid new : AllNodes V) → SetsDown old device volumes mid
-    → new ≡ record mid { lines = [] } → SetsDownQuietly old device volumes new
-sets-quietly {V} old device volumes mid new sets gone =
-    subst (λ (w : AllNodes V). SetsDownQuietly old device volumes w) (sym gone)
-    (record { down = sets.down; containers = sets.containers; rest = ap (λ (w : AllNodes V). record w { lines = [] }) sets.rest })
+pub sets-quietly : {V K : Type 0} (old : AllNodes V K) (device : ℕ) (parts : List (V × K)) (mid new : AllNodes V K) → SetsDown old device parts mid
+    → new ≡ record mid { lines = [] } → SetsDownQuietly old device parts new
+sets-quietly {V} {K} old device parts mid new sets gone =
+    subst (λ (w : AllNodes V K). SetsDownQuietly old device parts w) (sym gone)
+    (record { down = sets.down; containers = sets.containers; rest = ap (λ (w : AllNodes V K). record w { lines = [] }) sets.rest })
 
-module _ {V : Type 0} (tells : V → Bool) (files : V → Folders) (faults : V → ℕ) where
-  pub lifting-restarts : LiftingRestartsQuietly tells files faults
+module _ {V K : Type 0} (tells : V → Bool) (files : V → Folders) (faults : V → ℕ) (keeps : KeeperSeen K) where
+  pub lifting-restarts : LiftingRestartsQuietly tells files faults keeps
   lifting-restarts old mid new device given up sets =
-      let kept : AllNodes V = record mid { slots = new.slots; lines = mid.lines ++ restart_line device ∷ []; lifted = None; containers = new.containers } in
+      let kept : AllNodes V K = record mid { slots = new.slots; lines = mid.lines ++ restart_line device ∷ []; lifted = None; containers = new.containers } in
       let down : SetsDown mid device given kept = record { down = sets.down; containers = sets.containers; rest = refl } in
-      let plain = restarts tells files faults old mid kept device given up.whole up.is_device up down in
-      subst (λ (w : AllNodes V). Restarts device (quiet_sight_of tells files faults old) (quiet_sight_of tells files faults w)) (sym sets.rest)
-      (restarts-blind device (sight_of tells files faults old) (sight_of tells files faults kept) plain)
+      let plain = restarts tells files faults keeps old mid kept device given up.whole up.is_device up down in
+      subst (λ (w : AllNodes V K). Restarts device (quiet_sight_of tells files faults keeps old) (quiet_sight_of tells files faults keeps w)) (sym sets.rest)
+      (restarts-blind device (sight_of tells files faults keeps old) (sight_of tells files faults keeps kept) plain)

@@ -1,45 +1,16 @@
-ghost use Rattle.std.specs.Prelude.{◌≡◌, length, All, IfOk};
-ghost use Rattle.sw_container_locks.specs.Slots.{opened};
-ghost use Rattle.sw_core.specs.Worlds.{AreEmpty, empty_keeper};
-
 use crate::world::World;
 use std::alloc::Global;
-use sw_container_locks::ContLocks;
 use sw_container_steps::{ContAnswer, ContChange, Info};
 use sw_hashpath::Place;
-use sw_keeper::SoundKeeper;
+use sw_keeper::Keeper;
 use sw_listing::{Entries, Query};
-use sw_outside::NoMemory;
 use sw_peer::{ContainerDoor, Link, Lost};
 use sw_timestamp::Timestamp;
 use sw_volume::Volume;
 
-/// So many container locks, under which no container was ever created.
-pub(crate) fn empty_locks(alloc: Global, count: usize) -> Result<ContLocks<SoundKeeper>, NoMemory>
-    ensures { IfOk result (AreEmpty count) }
-{
-    let keepers = empty_keepers(alloc, count)?;
-    match ContLocks::open(alloc, keepers) {
-        Ok(locks) => Ok(locks),
-        Err(_) => Err(NoMemory),
-    }
-}
-
-/// So many keepers that hold nothing.
-fn empty_keepers(alloc: Global, count: usize) -> Result<Vec<SoundKeeper>, NoMemory>
-    ensures count { IfOk result (λ made. length made.items ≡ count) }
-    ensures empty { IfOk result (λ made. All (λ keeper. keeper ≡ empty_keeper) made.items) }
-{
-    let mut made = Vec::with_capacity(alloc, count)?;
-    for _ in 0..count {
-        made.push(SoundKeeper::new(alloc))?;
-    }
-    Ok(made)
-}
-
 /// A step at a container comes to the lock of its place, and its line is kept, as those of objects are. A step that wants memory for its line, before it
 /// is made, is no step and has no line.
-impl<V: Volume + Drop> ContainerDoor for World<V> {
+impl<V: Volume + Drop, K: Keeper + Drop> ContainerDoor for World<V, K> {
     fn change_container(
         &mut self,
         alloc: Global,

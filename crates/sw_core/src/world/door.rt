@@ -1,6 +1,6 @@
 ghost use Rattle.std.specs.Prelude.{◌≡◌, ◌<◌, Some, true};
 ghost use Rattle.std.specs.List.{slice_get};
-ghost use Rattle.sw_core.specs.Worlds.{sight_of};
+ghost use Rattle.sw_core.specs.Worlds.{keeper_seen, sight_of};
 ghost use Rattle.sw_peer.specs.Sights.{asked};
 
 use crate::making::{change_in, doubted_in, files_in, get_in, hashes_in, write_in};
@@ -9,6 +9,7 @@ use crate::world::World;
 use std::alloc::Global;
 use sw_diskfile::FileName;
 use sw_hashpath::Name;
+use sw_keeper::Keeper;
 use sw_object_steps::{Answer, Change, DirFault, Got, Stored};
 use sw_peer::{Door, FaithfulDoor, Link, Lost, ObjectDoor, ReplicaDoor};
 use sw_suffix::{DirLine, SuffixHash};
@@ -16,17 +17,17 @@ use sw_volume::Volume;
 
 /// All nodes, of which nobody else changes one. No message is lost. A step that wants memory for its line, before it is made, is no step
 /// and has no line: each hash holds what it may stand for, as before.
-impl<V: Volume + Drop> Door for World<V> {
-    ghost sight = { sight_of V.tells V.holds V.faults };
+impl<V: Volume + Drop, K: Keeper + Drop> Door for World<V, K> {
+    ghost sight = { sight_of V.tells V.holds V.faults (keeper_seen K.tells K.holds K.faults) };
 }
 
-impl<V: Volume + Drop> FaithfulDoor for World<V> {
+impl<V: Volume + Drop, K: Keeper + Drop> FaithfulDoor for World<V, K> {
     ghost use Rattle.std.specs.Prelude.{refl};
 
     ghost carries = { λ w. refl };
 }
 
-impl<V: Volume + Drop> ObjectDoor for World<V> {
+impl<V: Volume + Drop, K: Keeper + Drop> ObjectDoor for World<V, K> {
     fn may_stand(&self, device: u8, hash: &[u8; 16]) {
         let place = self.lock(device, hash);
         self.slots[place].may_stand();
@@ -77,7 +78,7 @@ impl<V: Volume + Drop> ObjectDoor for World<V> {
     }
 }
 
-impl<V: Volume + Drop> ReplicaDoor for World<V> {
+impl<V: Volume + Drop, K: Keeper + Drop> ReplicaDoor for World<V, K> {
     fn hashes(
         &mut self,
         alloc: Global,

@@ -1,26 +1,28 @@
+ghost use Rattle.sw_core.specs.Worlds.{keeper_seen};
 ghost use Rattle.sw_quiet.specs.Quiet.{quiet_sight_of};
 
 use crate::quiet_world::QuietWorld;
 use std::alloc::Global;
 use sw_diskfile::FileName;
 use sw_hashpath::Name;
+use sw_keeper::Keeper;
 use sw_object_steps::{Answer, Change, DirFault, Got, Stored};
 use sw_peer::{Door, FaithfulDoor, Link, Lost, ObjectDoor, ReplicaDoor};
 use sw_suffix::{DirLine, SuffixHash};
 use sw_volume::Volume;
 
 /// All nodes, of which nobody else changes one, with no trail. No message is lost.
-impl<V: Volume + Drop> Door for QuietWorld<V> {
-    ghost sight = { quiet_sight_of V.tells V.holds V.faults };
+impl<V: Volume + Drop, K: Keeper + Drop> Door for QuietWorld<V, K> {
+    ghost sight = { quiet_sight_of V.tells V.holds V.faults (keeper_seen K.tells K.holds K.faults) };
 }
 
-impl<V: Volume + Drop> FaithfulDoor for QuietWorld<V> {
+impl<V: Volume + Drop, K: Keeper + Drop> FaithfulDoor for QuietWorld<V, K> {
     ghost use Rattle.std.specs.Prelude.{refl};
 
     ghost carries = { λ w. refl };
 }
 
-impl<V: Volume + Drop> ObjectDoor for QuietWorld<V> {
+impl<V: Volume + Drop, K: Keeper + Drop> ObjectDoor for QuietWorld<V, K> {
     fn may_stand(&self, device: u8, hash: &[u8; 16]) {
         self.world.may_stand(device, hash)
     }
@@ -45,7 +47,7 @@ impl<V: Volume + Drop> ObjectDoor for QuietWorld<V> {
     }
 }
 
-impl<V: Volume + Drop> ReplicaDoor for QuietWorld<V> {
+impl<V: Volume + Drop, K: Keeper + Drop> ReplicaDoor for QuietWorld<V, K> {
     fn hashes(
         &mut self,
         alloc: Global,

@@ -1,15 +1,16 @@
-use Rattle.std.proofs.Common.{◌≡◌, [], ◌∷◌, ◌++◌, None, refl, sym, ◌∙◌}
-use Rattle.sw_core.proofs.Containing.{still-there, wants-change, world-change}
+use Rattle.std.proofs.Common.{◌≡◌, ◌<◌, ℕ, [], ◌∷◌, ◌++◌, None, refl, sym, subst, ◌∙◌}
+use Rattle.sw_core.proofs.Containing.{open-there, still-there, wants-change, world-change}
 use Rattle.sw_core.proofs.Wanting.{reserved}
 use Rattle.sw_core.proofs.Wholes.{contained, none-out, roomy}
-use Rattle.sw_core.specs.Worlds.{AllNodes}
+use Rattle.sw_core.specs.Worlds.{AllNodes, keeper_seen}
 use Rattle.sw_core.proofs.world.containers.WorldContainerDoor.change_container.Goals as goal
 
 pub returns-then-is_err-clause-made : goal.returns-then-is_err-clause-made
 returns-then-is_err-clause-made g c =
     let v = g.V.Volume in
+    let k = g.K.Keeper in
     let i = c.self.inside in
-    let w : AllNodes _ = record {
+    let w : AllNodes _ _ = record {
       devices = i.devices;
       lock_bits = i.lock_bits;
       power = i.power;
@@ -22,7 +23,8 @@ returns-then-is_err-clause-made g c =
       containers = i.containers;
     } in
     let lock = rw (sym c.self.view_is) at c.lock-lock.ensures.lock in
-    rw (sym c.self.view_is) (wants-change v.tells v.holds v.faults w c.args.link c.args.device c.args.place.now c.args.change.now c.reserve.new.self.items
+    rw (sym c.self.view_is) (wants-change v.tells v.holds v.faults (keeper_seen k.tells k.holds k.faults) w c.args.link c.args.device c.args.place.now
+    c.args.change.now c.reserve.new.self.items
     c.reserve.ensures.items (rw lock at c.may_stand.ensures))
 
 pub push_reserved-requires : goal.push_reserved-requires
@@ -31,7 +33,7 @@ push_reserved-requires g c = reserved c.reserve.result _ _ (sym c.is_err.ensures
 pub invariant_of-self : goal.invariant_of-self
 invariant_of-self g c =
     let i = c.self.inside in
-    let w : AllNodes _ = record {
+    let w : AllNodes _ _ = record {
       devices = i.devices;
       lock_bits = i.lock_bits;
       power = i.power;
@@ -52,7 +54,7 @@ invariant_of-self g c =
 pub invariant_of-self-2 : goal.invariant_of-self-2
 invariant_of-self-2 g c =
     let i = c.self.inside in
-    let w : AllNodes _ = record {
+    let w : AllNodes _ _ = record {
       devices = i.devices;
       lock_bits = i.lock_bits;
       power = i.power;
@@ -67,14 +69,16 @@ invariant_of-self-2 g c =
     let whole : i.lifted ≡ None = none-out i.lifted c.args.device i.devices (rw (sym c.self.view_is) at c.requires.device) in (
       contained w c.self.invariant.0 c.push_reserved.new.self.items c.change-answer.new.self,
       roomy i.slots.items i.slots.items i.room i.lines c.push_reserved.new.self i.spare i.lifted whole refl c.self.invariant.1,
-      rw c.change-answer.ensures.rest (still-there i.devices i.lock_bits c.lock-lock.result i.containers c.change-answer.ensures.after c.self.invariant.2),
+      rw c.change-answer.ensures.rest (still-there i.devices i.lock_bits i.containers i.lifted c.lock-lock.result c.change-answer.ensures.after
+          c.self.invariant.2 whole),
     )
 
 pub returns-clause-made : goal.returns-clause-made
 returns-clause-made g c =
     let v = g.V.Volume in
+    let k = g.K.Keeper in
     let i = c.self.inside in
-    let w : AllNodes _ = record {
+    let w : AllNodes _ _ = record {
       devices = i.devices;
       lock_bits = i.lock_bits;
       power = i.power;
@@ -89,6 +93,27 @@ returns-clause-made g c =
     let lock = rw (sym c.self.view_is) at c.lock-lock.ensures.lock in
     let items : c.push_reserved.new.self.items ≡ w.lines ++ c.change-answer.result.1 ∷ [] = c.push_reserved.ensures.items ∙ rw c.reserve.ensures.items refl in
     rw (sym c.self.view_is)
-    (world-change v.tells v.holds v.faults w c.args.link c.args.device c.args.place.now c.args.change.now c.change-answer.result.0 c.change-answer.new.self
+    (world-change v.tells v.holds v.faults (keeper_seen k.tells k.holds k.faults) w c.args.link c.args.device c.args.place.now c.args.change.now k.calls
+    c.change-answer.result.0 c.change-answer.new.self
     c.change-answer.result.1 c.push_reserved.new.self.items
     (rw lock at c.change-answer.ensures) items)
+
+pub may_stand-requires : goal.may_stand-requires
+may_stand-requires g c =
+    let i = c.self.inside in
+    let whole : i.lifted ≡ None = none-out i.lifted c.args.device i.devices (rw (sym c.self.view_is) at c.requires.device) in
+    let within = rw (sym c.self.view_is) at c.lock-lock.ensures.within in
+    record {
+      is_open = open-there i.devices i.lock_bits i.containers i.lifted c.self.invariant.2 whole c.lock-lock.result
+          (subst (λ (n : ℕ). c.lock-lock.result < n) (c.self.invariant.0.count ∙ sym c.self.invariant.2.count) within);
+    }
+
+pub change-answer-requires : goal.change-answer-requires
+change-answer-requires g c =
+    let i = c.self.inside in
+    let whole : i.lifted ≡ None = none-out i.lifted c.args.device i.devices (rw (sym c.self.view_is) at c.requires.device) in
+    let within = rw (sym c.self.view_is) at c.lock-lock.ensures.within in
+    record {
+      is_open = open-there i.devices i.lock_bits i.containers i.lifted c.self.invariant.2 whole c.lock-lock.result
+          (subst (λ (n : ℕ). c.lock-lock.result < n) (c.self.invariant.0.count ∙ sym c.self.invariant.2.count) within);
+    }

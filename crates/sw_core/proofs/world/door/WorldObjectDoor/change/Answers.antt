@@ -2,6 +2,7 @@ use Rattle.std.proofs.Common.{◌≡◌, true, [], ◌∷◌, ◌++◌, Some, No
 use Rattle.std.proofs.lemmas.List.{length-set}
 use Rattle.std.specs.List.{slice_get}
 use Rattle.sw_objdir.specs.Directories.{Kept}
+use Rattle.sw_core.specs.Worlds.{keeper_seen}
 use Rattle.sw_core.proofs.Placed.{world-made}
 use Rattle.sw_core.proofs.Wanting.{lock-stands, reserved, wants}
 use Rattle.sw_core.proofs.Wholes.{found, hashed, lined, none-out, open-at, open-is, roomy, some-same, stepped}
@@ -13,7 +14,7 @@ use Rattle.sw_core.proofs.world.door.WorldObjectDoor.change.Goals as goal
 pub returns-then-is_err-clause-made : goal.returns-then-is_err-clause-made
 returns-then-is_err-clause-made g c =
     let v = g.V.Volume in let i = c.self.inside in
-    let w : AllNodes _ = record {
+    let w : AllNodes _ _ = record {
       devices = i.devices;
       lock_bits = i.lock_bits;
       power = i.power;
@@ -27,14 +28,15 @@ returns-then-is_err-clause-made g c =
     } in
     let lock = rw (sym c.self.view_is) at c.lock-place.ensures.lock in
     let within = rw (sym c.self.view_is) at c.lock-place.ensures.within in
-    rw (sym c.self.view_is) (wants v.tells v.holds v.faults w c.reserve.new.self.items c.reserve.ensures.items c.args.link c.args.device c.args.name.now
+    rw (sym c.self.view_is) (wants v.tells v.holds v.faults (keeper_seen g.K.Keeper.tells g.K.Keeper.holds g.K.Keeper.faults) w c.reserve.new.self.items
+    c.reserve.ensures.items c.args.link c.args.device c.args.name.now
     (lock-stands v.tells v.holds v.faults i.slots.items (lock_of i.lock_bits i.power c.args.device c.args.name.now.hash) c.lock-place.result
     c.index.result.now lock within c.index.ensures c.may_stand.ensures) c.args.change)
 
 pub returns-in_default-clause-made : goal.returns-in_default-clause-made
 returns-in_default-clause-made g c =
     let v = g.V.Volume in let i = c.self.inside in
-    let w : AllNodes _ = record {
+    let w : AllNodes _ _ = record {
       devices = i.devices;
       lock_bits = i.lock_bits;
       power = i.power;
@@ -48,14 +50,15 @@ returns-in_default-clause-made g c =
     } in
     let lock = rw (sym c.self.view_is) at c.lock-place.ensures.lock in
     let within = rw (sym c.self.view_is) at c.lock-place.ensures.within in
-    rw (sym c.self.view_is) (wants v.tells v.holds v.faults w c.reserve.new.self.items c.reserve.ensures.items c.args.link c.args.device c.args.name.now
+    rw (sym c.self.view_is) (wants v.tells v.holds v.faults (keeper_seen g.K.Keeper.tells g.K.Keeper.holds g.K.Keeper.faults) w c.reserve.new.self.items
+    c.reserve.ensures.items c.args.link c.args.device c.args.name.now
     (lock-stands v.tells v.holds v.faults i.slots.items (lock_of i.lock_bits i.power c.args.device c.args.name.now.hash) c.lock-place.result
     c.index.result.now lock within c.index.ensures c.may_stand.ensures) c.args.change)
 
 pub invariant_of-self : goal.invariant_of-self
 invariant_of-self g c =
     let i = c.self.inside in
-    let w : AllNodes _ = record {
+    let w : AllNodes _ _ = record {
       devices = i.devices;
       lock_bits = i.lock_bits;
       power = i.power;
@@ -77,7 +80,7 @@ invariant_of-self g c =
 pub invariant_of-self-in_default : goal.invariant_of-self-in_default
 invariant_of-self-in_default g c =
     let i = c.self.inside in
-    let w : AllNodes _ = record {
+    let w : AllNodes _ _ = record {
       devices = i.devices;
       lock_bits = i.lock_bits;
       power = i.power;
@@ -99,7 +102,7 @@ invariant_of-self-in_default g c =
 pub invariant_of-self-in_default-doubted_in : goal.invariant_of-self-in_default-doubted_in
 invariant_of-self-in_default-doubted_in g c =
     let i = c.self.inside in
-    let w : AllNodes _ = record {
+    let w : AllNodes _ _ = record {
       devices = i.devices;
       lock_bits = i.lock_bits;
       power = i.power;
@@ -121,7 +124,7 @@ invariant_of-self-in_default-doubted_in g c =
 pub returns-in_default-doubted_in-clause-made : goal.returns-in_default-doubted_in-clause-made
 returns-in_default-doubted_in-clause-made g c =
     let v = g.V.Volume in let i = c.self.inside in
-    let w : AllNodes _ = record {
+    let w : AllNodes _ _ = record {
       devices = i.devices;
       lock_bits = i.lock_bits;
       power = i.power;
@@ -135,14 +138,15 @@ returns-in_default-doubted_in-clause-made g c =
     } in
     let lock = rw (sym c.self.view_is) at c.lock-place.ensures.lock in
     let within = rw (sym c.self.view_is) at c.lock-place.ensures.within in
-    rw (sym c.self.view_is) (wants v.tells v.holds v.faults w c.reserve.new.self.items c.reserve.ensures.items c.args.link c.args.device c.args.name.now
+    rw (sym c.self.view_is) (wants v.tells v.holds v.faults (keeper_seen g.K.Keeper.tells g.K.Keeper.holds g.K.Keeper.faults) w c.reserve.new.self.items
+    c.reserve.ensures.items c.args.link c.args.device c.args.name.now
     (lock-stands v.tells v.holds v.faults i.slots.items (lock_of i.lock_bits i.power c.args.device c.args.name.now.hash) c.lock-place.result
     c.index.result.now lock within c.index.ensures c.may_stand.ensures) c.args.change)
 
 pub unreachable-requires : goal.unreachable-requires
 unreachable-requires g c =
     let i = c.self.inside in
-    let w : AllNodes _ = record {
+    let w : AllNodes _ _ = record {
       devices = i.devices;
       lock_bits = i.lock_bits;
       power = i.power;
@@ -163,7 +167,7 @@ unreachable-requires g c =
 pub change_in-answer-requires-clause-hashed : goal.change_in-answer-requires-clause-hashed
 change_in-answer-requires-clause-hashed g c =
     let i = c.self.inside in
-    let w : AllNodes _ = record {
+    let w : AllNodes _ _ = record {
       devices = i.devices;
       lock_bits = i.lock_bits;
       power = i.power;
@@ -185,7 +189,7 @@ change_in-answer-requires-clause-hashed g c =
 pub invariant_of-self-2 : goal.invariant_of-self-2
 invariant_of-self-2 g c =
     let i = c.self.inside in
-    let w : AllNodes _ = record {
+    let w : AllNodes _ _ = record {
       devices = i.devices;
       lock_bits = i.lock_bits;
       power = i.power;
@@ -213,7 +217,7 @@ invariant_of-self-2 g c =
 pub returns-clause-made : goal.returns-clause-made
 returns-clause-made g c =
     let v = g.V.Volume in let i = c.self.inside in
-    let w : AllNodes _ = record {
+    let w : AllNodes _ _ = record {
       devices = i.devices;
       lock_bits = i.lock_bits;
       power = i.power;
@@ -236,7 +240,8 @@ returns-clause-made g c =
     let items : c.push_reserved.new.self.items ≡ w.lines ++ c.change_in-answer.result.1 ∷ [] =
     c.push_reserved.ensures.items ∙ rw c.reserve.ensures.items refl in
     rw (sym c.self.view_is, lock)
-    (world-made v.tells v.holds v.faults w c.args.device c.args.name.now d x at c.args.link c.change_in-answer.result.1 c.push_reserved.new.self.items items
+    (world-made v.tells v.holds v.faults (keeper_seen g.K.Keeper.tells g.K.Keeper.holds g.K.Keeper.faults) w c.args.device c.args.name.now d x at c.args.link
+    c.change_in-answer.result.1 c.push_reserved.new.self.items items
     c.args.change c.change_in-answer.result.0 c.change_in-answer.ensures)
 
 pub push_reserved-requires : goal.push_reserved-requires

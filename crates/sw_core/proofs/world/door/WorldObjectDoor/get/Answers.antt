@@ -2,6 +2,7 @@ use Rattle.std.proofs.Common.{◌≡◌, true, [], ◌∷◌, ◌++◌, Some, No
 use Rattle.std.proofs.lemmas.List.{length-set}
 use Rattle.std.specs.List.{slice_get}
 use Rattle.sw_objdir.specs.Directories.{Kept}
+use Rattle.sw_core.specs.Worlds.{keeper_seen}
 use Rattle.sw_core.proofs.Placed.{world-read}
 use Rattle.sw_core.proofs.Wanting.{lock-stands, reserved, wants-read}
 use Rattle.sw_core.proofs.Wholes.{found, hashed, lined, none-out, open-at, open-is, roomy, some-same, stepped}
@@ -13,7 +14,7 @@ use Rattle.sw_core.proofs.world.door.WorldObjectDoor.get.Goals as goal
 pub returns-then-is_err-clause-read : goal.returns-then-is_err-clause-read
 returns-then-is_err-clause-read g c =
     let v = g.V.Volume in let i = c.self.inside in
-    let w : AllNodes _ = record {
+    let w : AllNodes _ _ = record {
       devices = i.devices;
       lock_bits = i.lock_bits;
       power = i.power;
@@ -27,14 +28,15 @@ returns-then-is_err-clause-read g c =
     } in
     let lock = rw (sym c.self.view_is) at c.lock-place.ensures.lock in
     let within = rw (sym c.self.view_is) at c.lock-place.ensures.within in
-    rw (sym c.self.view_is) (wants-read v.tells v.holds v.faults w c.reserve.new.self.items c.reserve.ensures.items c.args.link c.args.device c.args.name.now
+    rw (sym c.self.view_is) (wants-read v.tells v.holds v.faults (keeper_seen g.K.Keeper.tells g.K.Keeper.holds g.K.Keeper.faults) w c.reserve.new.self.items
+    c.reserve.ensures.items c.args.link c.args.device c.args.name.now
     (lock-stands v.tells v.holds v.faults i.slots.items (lock_of i.lock_bits i.power c.args.device c.args.name.now.hash) c.lock-place.result
     c.index.result.now lock within c.index.ensures c.may_stand.ensures))
 
 pub invariant_of-self : goal.invariant_of-self
 invariant_of-self g c =
     let i = c.self.inside in
-    let w : AllNodes _ = record {
+    let w : AllNodes _ _ = record {
       devices = i.devices;
       lock_bits = i.lock_bits;
       power = i.power;
@@ -56,7 +58,7 @@ invariant_of-self g c =
 pub invariant_of-self-in_default : goal.invariant_of-self-in_default
 invariant_of-self-in_default g c =
     let i = c.self.inside in
-    let w : AllNodes _ = record {
+    let w : AllNodes _ _ = record {
       devices = i.devices;
       lock_bits = i.lock_bits;
       power = i.power;
@@ -78,7 +80,7 @@ invariant_of-self-in_default g c =
 pub returns-in_default-clause-read : goal.returns-in_default-clause-read
 returns-in_default-clause-read g c =
     let v = g.V.Volume in let i = c.self.inside in
-    let w : AllNodes _ = record {
+    let w : AllNodes _ _ = record {
       devices = i.devices;
       lock_bits = i.lock_bits;
       power = i.power;
@@ -92,14 +94,15 @@ returns-in_default-clause-read g c =
     } in
     let lock = rw (sym c.self.view_is) at c.lock-place.ensures.lock in
     let within = rw (sym c.self.view_is) at c.lock-place.ensures.within in
-    rw (sym c.self.view_is) (wants-read v.tells v.holds v.faults w c.reserve.new.self.items c.reserve.ensures.items c.args.link c.args.device c.args.name.now
+    rw (sym c.self.view_is) (wants-read v.tells v.holds v.faults (keeper_seen g.K.Keeper.tells g.K.Keeper.holds g.K.Keeper.faults) w c.reserve.new.self.items
+    c.reserve.ensures.items c.args.link c.args.device c.args.name.now
     (lock-stands v.tells v.holds v.faults i.slots.items (lock_of i.lock_bits i.power c.args.device c.args.name.now.hash) c.lock-place.result
     c.index.result.now lock within c.index.ensures c.may_stand.ensures))
 
 pub unreachable-requires : goal.unreachable-requires
 unreachable-requires g c =
     let i = c.self.inside in
-    let w : AllNodes _ = record {
+    let w : AllNodes _ _ = record {
       devices = i.devices;
       lock_bits = i.lock_bits;
       power = i.power;
@@ -120,7 +123,7 @@ unreachable-requires g c =
 pub get_in-got-requires-clause-hashed : goal.get_in-got-requires-clause-hashed
 get_in-got-requires-clause-hashed g c =
     let i = c.self.inside in
-    let w : AllNodes _ = record {
+    let w : AllNodes _ _ = record {
       devices = i.devices;
       lock_bits = i.lock_bits;
       power = i.power;
@@ -142,7 +145,7 @@ get_in-got-requires-clause-hashed g c =
 pub invariant_of-self-2 : goal.invariant_of-self-2
 invariant_of-self-2 g c =
     let i = c.self.inside in
-    let w : AllNodes _ = record {
+    let w : AllNodes _ _ = record {
       devices = i.devices;
       lock_bits = i.lock_bits;
       power = i.power;
@@ -169,7 +172,7 @@ invariant_of-self-2 g c =
 pub returns-clause-read : goal.returns-clause-read
 returns-clause-read g c =
     let v = g.V.Volume in let i = c.self.inside in
-    let w : AllNodes _ = record {
+    let w : AllNodes _ _ = record {
       devices = i.devices;
       lock_bits = i.lock_bits;
       power = i.power;
@@ -191,7 +194,8 @@ returns-clause-read g c =
     ap (slice_get w.slots) (sym lock) ∙ there in
     let items : c.push_reserved.new.self.items ≡ w.lines ++ c.get_in-got.result.1 ∷ [] = c.push_reserved.ensures.items ∙ rw c.reserve.ensures.items refl in
     rw (sym c.self.view_is, lock)
-    (world-read v.tells v.holds v.faults w c.args.device c.args.name.now d x at c.args.link c.get_in-got.result.1 c.push_reserved.new.self.items items
+    (world-read v.tells v.holds v.faults (keeper_seen g.K.Keeper.tells g.K.Keeper.holds g.K.Keeper.faults) w c.args.device c.args.name.now d x at c.args.link
+    c.get_in-got.result.1 c.push_reserved.new.self.items items
     c.get_in-got.result.0 c.get_in-got.ensures)
 
 pub push_reserved-requires : goal.push_reserved-requires

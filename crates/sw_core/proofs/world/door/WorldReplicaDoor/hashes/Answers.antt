@@ -4,6 +4,7 @@ use Rattle.std.specs.List.{slice_get}
 use Rattle.sw_objdir.specs.Directories.{Kept}
 use Rattle.sw_object_steps.specs.Journals.{Hash}
 use Rattle.sw_object_steps.specs.Parts.{AreHashes, IsOfPart}
+use Rattle.sw_core.specs.Worlds.{keeper_seen}
 use Rattle.sw_core.proofs.Witness.{hash_with, of-part}
 use Rattle.sw_core.proofs.Placed.{world-part}
 use Rattle.sw_core.proofs.Wanting.{lock-stands, wants-part}
@@ -21,7 +22,7 @@ use Rattle.sw_core.proofs.world.door.WorldReplicaDoor.hashes.Goals as goal
 pub returns-then-is_err-clause-read : goal.returns-then-is_err-clause-read
 returns-then-is_err-clause-read g c =
     let v = g.V.Volume in let i = c.self.inside in
-    let w : AllNodes _ = record {
+    let w : AllNodes _ _ = record {
       devices = i.devices;
       lock_bits = i.lock_bits;
       power = i.power;
@@ -35,7 +36,8 @@ returns-then-is_err-clause-read g c =
     } in
     let lock = rw (sym c.self.view_is) at c.lock_of_part-place.ensures.lock in
     let within = rw (sym c.self.view_is) at c.lock_of_part-place.ensures.within in
-    rw (sym c.self.view_is) (wants-part v.tells v.holds v.faults w c.reserve.new.self.items c.reserve.ensures.items c.args.link c.args.device c.args.part
+    rw (sym c.self.view_is) (wants-part v.tells v.holds v.faults (keeper_seen g.K.Keeper.tells g.K.Keeper.holds g.K.Keeper.faults) w c.reserve.new.self.items
+    c.reserve.ensures.items c.args.link c.args.device c.args.part
     c.asked_after-self-inside.result (in_part c.args.part) false (λ nodes told s got. AreHashes nodes.power c.args.part told s got.items)
     (λ got. Hashes c.args.part got)
     (lock-stands v.tells v.holds v.faults i.slots.items (part_lock_of i.lock_bits i.power c.args.device c.args.part) c.lock_of_part-place.result
@@ -45,7 +47,7 @@ returns-then-is_err-clause-read g c =
 pub unreachable-requires : goal.unreachable-requires
 unreachable-requires g c =
     let i = c.self.inside in
-    let w : AllNodes _ = record {
+    let w : AllNodes _ _ = record {
       devices = i.devices;
       lock_bits = i.lock_bits;
       power = i.power;
@@ -66,7 +68,7 @@ unreachable-requires g c =
 pub hashes_in-got-requires : goal.hashes_in-got-requires
 hashes_in-got-requires g c =
     let i = c.self.inside in
-    let w : AllNodes _ = record {
+    let w : AllNodes _ _ = record {
       devices = i.devices;
       lock_bits = i.lock_bits;
       power = i.power;
@@ -89,7 +91,7 @@ hashes_in-got-requires g c =
 pub invariant_of-self-2 : goal.invariant_of-self-2
 invariant_of-self-2 g c =
     let i = c.self.inside in
-    let w : AllNodes _ = record {
+    let w : AllNodes _ _ = record {
       devices = i.devices;
       lock_bits = i.lock_bits;
       power = i.power;
@@ -117,7 +119,7 @@ invariant_of-self-2 g c =
 pub returns-clause-read : goal.returns-clause-read
 returns-clause-read g c =
     let v = g.V.Volume in let i = c.self.inside in
-    let w : AllNodes _ = record {
+    let w : AllNodes _ _ = record {
       devices = i.devices;
       lock_bits = i.lock_bits;
       power = i.power;
@@ -149,7 +151,8 @@ returns-clause-read g c =
     let of : IsOfPart i.power c.args.part hash = of-part i.power c.args.part 0 c.self.invariant.0.greatest below in
     let own : (partition_of hash i.power == c.args.part) ≡ true = eq-eqb _ _ of.part_is in
     rw (sym c.self.view_is, lock)
-    (world-part v.tells v.holds v.faults w c.args.device c.args.part d x here c.args.link c.hashes_in-got.result.1 c.push_reserved.new.self.items items
+    (world-part v.tells v.holds v.faults (keeper_seen g.K.Keeper.tells g.K.Keeper.holds g.K.Keeper.faults) w c.args.device c.args.part d x here c.args.link
+    c.hashes_in-got.result.1 c.push_reserved.new.self.items items
     c.asked_after-self-inside.result (in_part c.args.part) false (λ nodes told s got. AreHashes nodes.power c.args.part told s got.items)
     (λ got. Hashes c.args.part got) c.hashes_in-got.result.0 hash of own
     (λ key is. eqb-true (partition_of key i.power) c.args.part is) made)

@@ -5,6 +5,7 @@ use Rattle.sw_hashdir.specs.Steps.{is_hashed}
 use Rattle.sw_objdir.specs.Directories.{Kept}
 use Rattle.sw_object_steps.specs.Journals.{Hash}
 use Rattle.sw_object_steps.specs.Parts.{IsFile, IsOfPart}
+use Rattle.sw_core.specs.Worlds.{keeper_seen}
 use Rattle.sw_core.proofs.Placed.{world-part}
 use Rattle.sw_core.proofs.Wanting.{lock-stands, reserved, wants-part}
 use Rattle.sw_core.proofs.Wholes.{found, lined, none-out, open-at, open-is, roomy, some-same, stepped}
@@ -22,7 +23,7 @@ use Rattle.sw_core.proofs.world.door.WorldReplicaDoor.read_write.Goals as goal
 pub returns-then-is_err-clause-read : goal.returns-then-is_err-clause-read
 returns-then-is_err-clause-read g c =
     let v = g.V.Volume in let i = c.self.inside in
-    let w : AllNodes _ = record {
+    let w : AllNodes _ _ = record {
       devices = i.devices;
       lock_bits = i.lock_bits;
       power = i.power;
@@ -37,7 +38,8 @@ returns-then-is_err-clause-read g c =
     let lock = rw (sym c.self.view_is) at c.lock_of_part-place.ensures.lock in
     let within = rw (sym c.self.view_is) at c.lock_of_part-place.ensures.within in
     let of : IsOfPart i.power c.args.part c.args.hash.now = rw (sym c.self.view_is) at c.requires.within in
-    rw (sym c.self.view_is) (wants-part v.tells v.holds v.faults w c.reserve.new.self.items c.reserve.ensures.items c.args.link c.args.device c.args.part
+    rw (sym c.self.view_is) (wants-part v.tells v.holds v.faults (keeper_seen g.K.Keeper.tells g.K.Keeper.holds g.K.Keeper.faults) w c.reserve.new.self.items
+    c.reserve.ensures.items c.args.link c.args.device c.args.part
     i.asks (is_one c.args.hash.now) true (λ nodes told s got. IsFile nodes.fits c.args.hash.now c.args.file.now told s got)
     (λ got. Write c.args.part c.args.hash.now c.args.file.now got)
     (lock-stands v.tells v.holds v.faults i.slots.items (part_lock_of i.lock_bits i.power c.args.device c.args.part) c.lock_of_part-place.result
@@ -47,7 +49,7 @@ returns-then-is_err-clause-read g c =
 pub unreachable-requires : goal.unreachable-requires
 unreachable-requires g c =
     let i = c.self.inside in
-    let w : AllNodes _ = record {
+    let w : AllNodes _ _ = record {
       devices = i.devices;
       lock_bits = i.lock_bits;
       power = i.power;
@@ -68,7 +70,7 @@ unreachable-requires g c =
 pub write_in-got-requires : goal.write_in-got-requires
 write_in-got-requires g c =
     let i = c.self.inside in
-    let w : AllNodes _ = record {
+    let w : AllNodes _ _ = record {
       devices = i.devices;
       lock_bits = i.lock_bits;
       power = i.power;
@@ -91,7 +93,7 @@ write_in-got-requires g c =
 pub invariant_of-self-2 : goal.invariant_of-self-2
 invariant_of-self-2 g c =
     let i = c.self.inside in
-    let w : AllNodes _ = record {
+    let w : AllNodes _ _ = record {
       devices = i.devices;
       lock_bits = i.lock_bits;
       power = i.power;
@@ -119,7 +121,7 @@ invariant_of-self-2 g c =
 pub returns-clause-read : goal.returns-clause-read
 returns-clause-read g c =
     let v = g.V.Volume in let i = c.self.inside in
-    let w : AllNodes _ = record {
+    let w : AllNodes _ _ = record {
       devices = i.devices;
       lock_bits = i.lock_bits;
       power = i.power;
@@ -149,7 +151,8 @@ returns-clause-read g c =
     (λ told s got. IsFile (is_hashed q) c.args.hash.now c.args.file.now told s got) (λ got. Write c.args.part c.args.hash.now c.args.file.now got)
     c.write_in-got.result.0 x c.write_in-got.result.1) secrets c.write_in-got.ensures in
     rw (sym c.self.view_is, lock)
-    (world-part v.tells v.holds v.faults w c.args.device c.args.part d x here c.args.link c.write_in-got.result.1 c.push_reserved.new.self.items items
+    (world-part v.tells v.holds v.faults (keeper_seen g.K.Keeper.tells g.K.Keeper.holds g.K.Keeper.faults) w c.args.device c.args.part d x here c.args.link
+    c.write_in-got.result.1 c.push_reserved.new.self.items items
     i.asks (is_one c.args.hash.now) true (λ nodes told s got. IsFile nodes.fits c.args.hash.now c.args.file.now told s got)
     (λ got. Write c.args.part c.args.hash.now c.args.file.now got) c.write_in-got.result.0 c.args.hash.now of (hash-self c.args.hash.now)
     (λ key is. ap (λ (h : Hash). partition_of h i.power) (sym (hash-same c.args.hash.now key is)) ∙ of.part_is) made)
@@ -157,7 +160,7 @@ returns-clause-read g c =
 pub invariant_of-self : goal.invariant_of-self
 invariant_of-self g c =
     let i = c.self.inside in
-    let w : AllNodes _ = record {
+    let w : AllNodes _ _ = record {
       devices = i.devices;
       lock_bits = i.lock_bits;
       power = i.power;
