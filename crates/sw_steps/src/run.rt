@@ -1,5 +1,5 @@
 ghost use Rattle.std.specs.Prelude.{◌≡◌, ◌≢◌, ◌<◌, ◌^◌, true, false, All, None, OnOk, OnErr};
-ghost use Rattle.sw_core.specs.Worlds.{sight_of};
+ghost use Rattle.sw_core.specs.Worlds.{keeper_seen, sight_of};
 ghost use Rattle.sw_hashdir.specs.Steps.{is_hashed};
 ghost use Rattle.sw_machine.specs.Doors.{RunsOn};
 ghost use Rattle.sw_peer.specs.Sights.{is_wanting, is_wanting_read};
@@ -12,6 +12,7 @@ use crate::step::Step;
 use std::alloc::Global;
 use sw_core::World;
 use sw_hashpath::Name;
+use sw_keeper::Keeper;
 use sw_lossy::{Acts, Lossy};
 use sw_object_steps::{Answer, Change, Got};
 use sw_outside::NoMemory;
@@ -25,18 +26,18 @@ use sw_volume::{Volume, VolumeError};
 /// in between.
 ///
 /// After [`NoMemory`] the steps before the one that wanted memory were made, and that one as far as it came.
-pub fn run_steps<V: Volume + Drop>(
+pub fn run_steps<V: Volume + Drop, K: Keeper + Drop>(
     alloc: Global,
-    door: &mut Lossy<World<V>>,
+    door: &mut Lossy<World<V, K>>,
     steps: &[Step],
 ) -> Result<(), NoMemory>
     requires whole { door.old.door.lifted ≡ None }
     requires may { All (MayBeMade door.old.door.devices door.old.door.power door.old.door.secrets) steps.now }
     ensures whole { door.new.door.lifted ≡ None }
-    ensures all { OnOk result (AreMade steps.now (sight_of V.tells V.holds V.faults door.old.door) (sight_of V.tells V.holds V.faults door.new.door)) }
-    ensures some { OnErr result (AreMadeUpTo steps.now (sight_of V.tells V.holds V.faults door.old.door) (sight_of V.tells V.holds V.faults door.new.door)) }
-    ensures runs { RunsOn (sight_of V.tells V.holds V.faults door.old.door) (sight_of V.tells V.holds V.faults door.new.door) }
-    ensures met { OnOk result (AreMet steps.now (sight_of V.tells V.holds V.faults door.old.door) (sight_of V.tells V.holds V.faults door.new.door)) }
+    ensures all { OnOk result (AreMade steps.now (sight_of V.tells V.holds V.faults (keeper_seen K.tells K.holds K.faults) door.old.door) (sight_of V.tells V.holds V.faults (keeper_seen K.tells K.holds K.faults) door.new.door)) }
+    ensures some { OnErr result (AreMadeUpTo steps.now (sight_of V.tells V.holds V.faults (keeper_seen K.tells K.holds K.faults) door.old.door) (sight_of V.tells V.holds V.faults (keeper_seen K.tells K.holds K.faults) door.new.door)) }
+    ensures runs { RunsOn (sight_of V.tells V.holds V.faults (keeper_seen K.tells K.holds K.faults) door.old.door) (sight_of V.tells V.holds V.faults (keeper_seen K.tells K.holds K.faults) door.new.door) }
+    ensures met { OnOk result (AreMet steps.now (sight_of V.tells V.holds V.faults (keeper_seen K.tells K.holds K.faults) door.old.door) (sight_of V.tells V.holds V.faults (keeper_seen K.tells K.holds K.faults) door.new.door)) }
 {
     for step in steps {
         make(alloc, door, step)?;
@@ -45,17 +46,17 @@ pub fn run_steps<V: Volume + Drop>(
 }
 
 /// Makes a step.
-fn make<V: Volume + Drop>(
+fn make<V: Volume + Drop, K: Keeper + Drop>(
     alloc: Global,
-    door: &mut Lossy<World<V>>,
+    door: &mut Lossy<World<V, K>>,
     step: &Step,
 ) -> Result<(), NoMemory>
     requires whole { door.old.door.lifted ≡ None }
     requires may { MayBeMade door.old.door.devices door.old.door.power door.old.door.secrets step.now }
     ensures whole { door.new.door.lifted ≡ None }
-    ensures made { OnOk result (IsStepMade step.now (sight_of V.tells V.holds V.faults door.old.door) (sight_of V.tells V.holds V.faults door.new.door)) }
-    ensures tried { OnErr result (IsStepTried step.now (sight_of V.tells V.holds V.faults door.old.door) (sight_of V.tells V.holds V.faults door.new.door)) }
-    ensures runs { RunsOn (sight_of V.tells V.holds V.faults door.old.door) (sight_of V.tells V.holds V.faults door.new.door) }
+    ensures made { OnOk result (IsStepMade step.now (sight_of V.tells V.holds V.faults (keeper_seen K.tells K.holds K.faults) door.old.door) (sight_of V.tells V.holds V.faults (keeper_seen K.tells K.holds K.faults) door.new.door)) }
+    ensures tried { OnErr result (IsStepTried step.now (sight_of V.tells V.holds V.faults (keeper_seen K.tells K.holds K.faults) door.old.door) (sight_of V.tells V.holds V.faults (keeper_seen K.tells K.holds K.faults) door.new.door)) }
+    ensures runs { RunsOn (sight_of V.tells V.holds V.faults (keeper_seen K.tells K.holds K.faults) door.old.door) (sight_of V.tells V.holds V.faults (keeper_seen K.tells K.holds K.faults) door.new.door) }
 {
     match step {
         Step::Change {
@@ -75,9 +76,9 @@ fn make<V: Volume + Drop>(
     }
 }
 
-fn change_at<V: Volume + Drop>(
+fn change_at<V: Volume + Drop, K: Keeper + Drop>(
     alloc: Global,
-    world: &mut World<V>,
+    world: &mut World<V, K>,
     device: u8,
     name: &Name,
     change: &Change,
@@ -87,10 +88,10 @@ fn change_at<V: Volume + Drop>(
     requires fits { is_hashed world.old.secrets name.now ≡ true }
     ensures whole { world.new.lifted ≡ None }
     ensures made { OnOk result (IsStepMade (step_kinds.Change device name.now change.now)
-        (sight_of V.tells V.holds V.faults world.old) (sight_of V.tells V.holds V.faults world.new)) }
+        (sight_of V.tells V.holds V.faults (keeper_seen K.tells K.holds K.faults) world.old) (sight_of V.tells V.holds V.faults (keeper_seen K.tells K.holds K.faults) world.new)) }
     ensures tried { OnErr result (IsStepTried (step_kinds.Change device name.now change.now)
-        (sight_of V.tells V.holds V.faults world.old) (sight_of V.tells V.holds V.faults world.new)) }
-    ensures runs { RunsOn (sight_of V.tells V.holds V.faults world.old) (sight_of V.tells V.holds V.faults world.new) }
+        (sight_of V.tells V.holds V.faults (keeper_seen K.tells K.holds K.faults) world.old) (sight_of V.tells V.holds V.faults (keeper_seen K.tells K.holds K.faults) world.new)) }
+    ensures runs { RunsOn (sight_of V.tells V.holds V.faults (keeper_seen K.tells K.holds K.faults) world.old) (sight_of V.tells V.holds V.faults (keeper_seen K.tells K.holds K.faults) world.new) }
 {
     let change = change.copy(alloc)?;
     match world.change(alloc, Link::Local, device, name, change) {
@@ -99,9 +100,9 @@ fn change_at<V: Volume + Drop>(
     }
 }
 
-fn read_at<V: Volume + Drop>(
+fn read_at<V: Volume + Drop, K: Keeper + Drop>(
     alloc: Global,
-    world: &mut World<V>,
+    world: &mut World<V, K>,
     device: u8,
     name: &Name,
 ) -> Result<(), NoMemory>
@@ -110,10 +111,10 @@ fn read_at<V: Volume + Drop>(
     requires fits { is_hashed world.old.secrets name.now ≡ true }
     ensures whole { world.new.lifted ≡ None }
     ensures made { OnOk result (IsStepMade (step_kinds.Read device name.now)
-        (sight_of V.tells V.holds V.faults world.old) (sight_of V.tells V.holds V.faults world.new)) }
+        (sight_of V.tells V.holds V.faults (keeper_seen K.tells K.holds K.faults) world.old) (sight_of V.tells V.holds V.faults (keeper_seen K.tells K.holds K.faults) world.new)) }
     ensures tried { OnErr result (IsStepTried (step_kinds.Read device name.now)
-        (sight_of V.tells V.holds V.faults world.old) (sight_of V.tells V.holds V.faults world.new)) }
-    ensures runs { RunsOn (sight_of V.tells V.holds V.faults world.old) (sight_of V.tells V.holds V.faults world.new) }
+        (sight_of V.tells V.holds V.faults (keeper_seen K.tells K.holds K.faults) world.old) (sight_of V.tells V.holds V.faults (keeper_seen K.tells K.holds K.faults) world.new)) }
+    ensures runs { RunsOn (sight_of V.tells V.holds V.faults (keeper_seen K.tells K.holds K.faults) world.old) (sight_of V.tells V.holds V.faults (keeper_seen K.tells K.holds K.faults) world.new) }
 {
     match world.get(alloc, Link::Local, device, name) {
         Ok(got) => unless_wanting_read(got),
@@ -121,19 +122,19 @@ fn read_at<V: Volume + Drop>(
     }
 }
 
-fn list_at<V: Volume + Drop>(
+fn list_at<V: Volume + Drop, K: Keeper + Drop>(
     alloc: Global,
-    world: &mut World<V>,
+    world: &mut World<V, K>,
     device: u8,
 ) -> Result<(), NoMemory>
     requires whole { world.old.lifted ≡ None }
     requires device { device < world.old.devices }
     ensures whole { world.new.lifted ≡ None }
     ensures made { OnOk result (IsStepMade (step_kinds.List device)
-        (sight_of V.tells V.holds V.faults world.old) (sight_of V.tells V.holds V.faults world.new)) }
+        (sight_of V.tells V.holds V.faults (keeper_seen K.tells K.holds K.faults) world.old) (sight_of V.tells V.holds V.faults (keeper_seen K.tells K.holds K.faults) world.new)) }
     ensures tried { OnErr result (IsStepTried (step_kinds.List device)
-        (sight_of V.tells V.holds V.faults world.old) (sight_of V.tells V.holds V.faults world.new)) }
-    ensures runs { RunsOn (sight_of V.tells V.holds V.faults world.old) (sight_of V.tells V.holds V.faults world.new) }
+        (sight_of V.tells V.holds V.faults (keeper_seen K.tells K.holds K.faults) world.old) (sight_of V.tells V.holds V.faults (keeper_seen K.tells K.holds K.faults) world.new)) }
+    ensures runs { RunsOn (sight_of V.tells V.holds V.faults (keeper_seen K.tells K.holds K.faults) world.old) (sight_of V.tells V.holds V.faults (keeper_seen K.tells K.holds K.faults) world.new) }
 {
     match world.files(alloc, device) {
         Ok(_) => Ok(()),
@@ -142,29 +143,29 @@ fn list_at<V: Volume + Drop>(
     }
 }
 
-/// Takes the device's volumes out, and sets it down over them again.
-fn restart_at<V: Volume + Drop>(
+/// Takes the device's volumes and keepers out, and sets it down over them again.
+fn restart_at<V: Volume + Drop, K: Keeper + Drop>(
     alloc: Global,
-    world: &mut World<V>,
+    world: &mut World<V, K>,
     device: u8,
 ) -> Result<(), NoMemory>
     requires whole { world.old.lifted ≡ None }
     requires device { device < world.old.devices }
     ensures whole { world.new.lifted ≡ None }
     ensures made { OnOk result (IsStepMade (step_kinds.Restart device)
-        (sight_of V.tells V.holds V.faults world.old) (sight_of V.tells V.holds V.faults world.new)) }
+        (sight_of V.tells V.holds V.faults (keeper_seen K.tells K.holds K.faults) world.old) (sight_of V.tells V.holds V.faults (keeper_seen K.tells K.holds K.faults) world.new)) }
     ensures tried { OnErr result (IsStepTried (step_kinds.Restart device)
-        (sight_of V.tells V.holds V.faults world.old) (sight_of V.tells V.holds V.faults world.new)) }
-    ensures runs { RunsOn (sight_of V.tells V.holds V.faults world.old) (sight_of V.tells V.holds V.faults world.new) }
+        (sight_of V.tells V.holds V.faults (keeper_seen K.tells K.holds K.faults) world.old) (sight_of V.tells V.holds V.faults (keeper_seen K.tells K.holds K.faults) world.new)) }
+    ensures runs { RunsOn (sight_of V.tells V.holds V.faults (keeper_seen K.tells K.holds K.faults) world.old) (sight_of V.tells V.holds V.faults (keeper_seen K.tells K.holds K.faults) world.new) }
 {
     let parts = world.lift(alloc, device)?;
     world.set_down(alloc, device, parts);
     Ok(())
 }
 
-fn push_at<V: Volume + Drop>(
+fn push_at<V: Volume + Drop, K: Keeper + Drop>(
     alloc: Global,
-    door: &mut Lossy<World<V>>,
+    door: &mut Lossy<World<V, K>>,
     from: u8,
     to: u8,
     part: u32,
@@ -177,10 +178,10 @@ fn push_at<V: Volume + Drop>(
     requires part { part < 2 ^ door.old.door.power }
     ensures whole { door.new.door.lifted ≡ None }
     ensures made { OnOk result (IsStepMade (step_kinds.Push from to part acts)
-        (sight_of V.tells V.holds V.faults door.old.door) (sight_of V.tells V.holds V.faults door.new.door)) }
+        (sight_of V.tells V.holds V.faults (keeper_seen K.tells K.holds K.faults) door.old.door) (sight_of V.tells V.holds V.faults (keeper_seen K.tells K.holds K.faults) door.new.door)) }
     ensures tried { OnErr result (IsStepTried (step_kinds.Push from to part acts)
-        (sight_of V.tells V.holds V.faults door.old.door) (sight_of V.tells V.holds V.faults door.new.door)) }
-    ensures runs { RunsOn (sight_of V.tells V.holds V.faults door.old.door) (sight_of V.tells V.holds V.faults door.new.door) }
+        (sight_of V.tells V.holds V.faults (keeper_seen K.tells K.holds K.faults) door.old.door) (sight_of V.tells V.holds V.faults (keeper_seen K.tells K.holds K.faults) door.new.door)) }
+    ensures runs { RunsOn (sight_of V.tells V.holds V.faults (keeper_seen K.tells K.holds K.faults) door.old.door) (sight_of V.tells V.holds V.faults (keeper_seen K.tells K.holds K.faults) door.new.door) }
 {
     match push_over(alloc, door, from, to, part, acts) {
         Ok(_) => Ok(()),

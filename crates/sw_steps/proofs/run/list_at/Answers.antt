@@ -1,6 +1,6 @@
 use Rattle.std.proofs.Common.{Bool, Err, inl, inr, ap, subst, ◌∙◌}
 use Rattle.sw_core.specs.Listing.{is_failed}
-use Rattle.sw_core.specs.Worlds.{sight_of}
+use Rattle.sw_core.specs.Worlds.{keeper_seen, sight_of}
 use Rattle.sw_peer.specs.Sights.{IsListed}
 use Rattle.sw_steps.proofs.Stepping.{listed-runs, same-runs}
 use Rattle.sw_steps.proofs.run.list_at.Goals as goal
@@ -21,7 +21,7 @@ returns-clause-made g c = elim c.match-files.branch [
 
 pub returns-clause-tried : goal.returns-clause-tried
 returns-clause-tried g c =
-    let v = g.V.Volume in let see = sight_of v.tells v.holds v.faults in
+    let v = g.V.Volume in let k = g.K.Keeper in let see = sight_of v.tells v.holds v.faults (keeper_seen k.tells k.holds k.faults) in
     elim c.match-files.branch [
       | in-Ok w ↦ rw w.result-is tt
       | in-Err-Failed w ↦ rw w.result-is tt
@@ -34,7 +34,7 @@ returns-clause-tried g c =
 
 pub returns-clause-runs : goal.returns-clause-runs
 returns-clause-runs g c =
-    let v = g.V.Volume in let see = sight_of v.tells v.holds v.faults in
+    let v = g.V.Volume in let k = g.K.Keeper in let see = sight_of v.tells v.holds v.faults (keeper_seen k.tells k.holds k.faults) in
     elim c.files.ensures.listed [
       | inl listed ↦ listed-runs c.args.device (is_failed c.files.result) (see c.args.world.now) (see c.files.new.self) listed
       | inr none ↦ same-runs see c.args.world.now c.files.new.self none.1

@@ -1,6 +1,6 @@
 use Rattle.std.proofs.Common.{refl, ap, Ok, inr}
 use Rattle.sw_core.proofs.Wholes.{still-whole}
-use Rattle.sw_core.specs.Worlds.{sight_of}
+use Rattle.sw_core.specs.Worlds.{keeper_seen, sight_of}
 use Rattle.sw_peer.proofs.Calls.{calls-moves, read-step}
 use Rattle.sw_peer.specs.Sights.{IsAt, IsRead, Moves, Nodes}
 use Rattle.sw_peer.specs.declared.link.Link.TheVariants.{Local}
@@ -16,12 +16,12 @@ returns-clause-tried g c =
 
 pub returns-clause-runs : goal.returns-clause-runs
 returns-clause-runs g c =
-    let v = g.V.Volume in let s = sight_of v.tells v.holds v.faults c.args.world.now in let t = sight_of v.tells v.holds v.faults c.get.new.self in
+    let v = g.V.Volume in let k = g.K.Keeper in let s = sight_of v.tells v.holds v.faults (keeper_seen k.tells k.holds k.faults) c.args.world.now in let t = sight_of v.tells v.holds v.faults (keeper_seen k.tells k.holds k.faults) c.get.new.self in
     read-runs c.args.device c.args.name.now s c.in-Ok.got t refl c.in-Ok.ensures.read
 
 pub returns-clause-whole : goal.returns-clause-whole
 returns-clause-whole g c =
-    let v = g.V.Volume in let s = sight_of v.tells v.holds v.faults c.args.world.now in let t = sight_of v.tells v.holds v.faults c.get.new.self in
+    let v = g.V.Volume in let k = g.K.Keeper in let s = sight_of v.tells v.holds v.faults (keeper_seen k.tells k.holds k.faults) c.args.world.now in let t = sight_of v.tells v.holds v.faults (keeper_seen k.tells k.holds k.faults) c.get.new.self in
     let moves = calls-moves (Moves (IsAt c.args.device c.args.name.now.hash)) (IsRead Local c.args.device c.args.name.now)
     (read-step Local c.args.device c.args.name.now) s Local (Ok c.in-Ok.got) t c.in-Ok.ensures.read in
     still-whole c.args.world.now.lifted c.get.new.self.lifted c.args.device c.args.world.now.devices c.get.new.self.devices c.requires.whole c.requires.device
