@@ -1,7 +1,6 @@
 -- The connections that were accepted, and those that were finished: how many, and one more.
 use Rattle.std.proofs.Common.{◌≡◌, ◌∙◌, ℕ, zero, suc, ◌+◌, List, [], ◌∷◌, ◌++◌, length, map, refl, sym, ap, add-one, arith, length-append}
 use Rattle.std.proofs.lemmas.List.{map-append}
-use Rattle.sw_outside.specs.Doors.{Finished}
 use Rattle.sw_store.specs.Connections.{accepts_of, finished_of, fresh, told}
 use Rattle.sw_store.specs.declared.tcp_doors.TcpFinished.{TcpFinished}
 

@@ -1,4 +1,4 @@
--- Where the host keeps the files of an object lock, which is a stripe of a device. (This project's own.)
+-- Where the host keeps the files of a lock, of objects and of containers: a stripe of a device. (This project's own.)
 use Rattle.std.specs.Prelude.{ℕ, ◌/◌, ◌%◌, ◌++◌, List, None, codes}
 use Rattle.std.specs.Fmt.{decimal}
 use Rattle.sw_stores.specs.Telling.{Telling}

@@ -1,11 +1,10 @@
 -- What a ring says of where things are, as the folder of a node keeps it: so a ring that would look for them elsewhere is told from the one for which
 -- the folder was made. The secrets themselves aren't in it. (This project's own.)
-use Rattle.std.specs.Prelude.{◌≡◌, ℕ, ◌+◌, ◌^◌, ◌++◌, List, [], ◌∷◌, length, codes}
+use Rattle.std.specs.Prelude.{ℕ, ◌+◌, ◌++◌, List, [], ◌∷◌, codes}
 use Rattle.std.specs.Fmt.{decimal}
 use Rattle.hex.specs.Hex.{encode_lower}
 use Rattle.md5.specs.Md5.{md5}
 use Rattle.sw_ring.specs.RingData.{RingData}
-use Rattle.sw_store.specs.declared.layout.Layout.{Layout}
 
 -- a line: a word, a blank and a value
 abbrev pub line : List ℕ → List ℕ → List ℕ
@@ -29,9 +28,3 @@ layout_text ring =
     ++ line (codes "hash_prefix_md5") (digest_text ring.secrets.prefix)
     ++ line (codes "hash_suffix_md5") (digest_text ring.secrets.suffix)
     ++ device_lines 0 ring.devices
-
--- a layout is that of this ring
-pub record IsLayout (layout : Layout) (ring : RingData) : Type 0 where
-  pub text : layout.text.items ≡ layout_text ring
-  pub devices : layout.devices ≡ length ring.devices
-  pub stripes : layout.stripes ≡ 2 ^ ring.lock_bits

@@ -1,3 +1,4 @@
 pub mod Connections
 pub mod Folders
+pub mod LayoutOf
 pub mod Layouts

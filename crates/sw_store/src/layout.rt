@@ -1,8 +1,6 @@
-ghost use Rattle.std.specs.Prelude.{◌≡◌, ◌+◌, ◌≤◌, ◌++◌, Ok, codes, length, decimal, IfOk, OnOk, IfSome};
-ghost use Rattle.sw_ring.specs.RingData.{RingData};
+ghost use Rattle.std.specs.Prelude.{◌≡◌, ◌+◌, ◌≤◌, ◌++◌, codes, length, decimal, IfOk, OnOk};
 ghost use Rattle.sw_ring.specs.Tables.{data_of};
-ghost use Rattle.sw_ring.specs.Texts.{ring_text};
-ghost use Rattle.sw_store.specs.Layouts.{IsLayout, device_lines, digest_text, layout_text, line};
+ghost use Rattle.sw_store.specs.Layouts.{device_lines, digest_text, layout_text, line};
 
 use itoa::Buffer;
 use md5::{Digest, Md5};
@@ -10,18 +8,24 @@ use std::alloc::{AllocError, Global};
 use sw_outside::{Bytes, NoMemory};
 use sw_ring::{Ring, RingError};
 
-/// What a ring says of where things are, as the folder of a node keeps it: a text, and how many devices and locks of each there are.
+/// What a ring says of where things are, as the folder of a node keeps it: a text, how many devices and locks of each there are, and that there are 2 to the
+/// `power` partitions.
 #[derive(Debug, Drop)]
 pub struct Layout {
     pub text: Vec<u8>,
     pub devices: u8,
     pub stripes: u8,
+    pub power: u8,
+    pub ghost least_power: { 1 ≤ power },
+    pub ghost greatest_power: { power ≤ 16 },
 }
 
 impl Layout {
+    ghost use Rattle.sw_store.specs.LayoutOf.{IsLayout, IsLayoutIn};
+
     /// That of the ring that a text is, or `None` where it is none.
     pub fn read(alloc: Global, text: &[u8]) -> Result<Option<Layout>, NoMemory>
-        ensures { IfOk result (λ found. IfSome found (λ layout. (ring : RingData) → ring_text text.now ≡ Ok ring → IsLayout layout ring)) }
+        ensures { IfOk result (λ found. IsLayoutIn found text.now) }
     {
         match sw_ring::read(alloc, text) {
             Ok(ring) => Ok(Some(Layout::of(alloc, &ring)?)),
@@ -38,6 +42,7 @@ impl Layout {
             text: text_of(alloc, ring)?,
             devices: ring.devices.as_slice().len() as u8,
             stripes: 1 << ring.lock_bits,
+            power: ring.power,
         })
     }
 }

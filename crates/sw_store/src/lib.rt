@@ -1,8 +1,9 @@
 //! What the host keeps and carries for a node that outlives its process: its files and its connections.
 //!
-//! [`HostVolume`] is a volume over a folder of the host, [`HostStores`] gives one of these to each object lock, and [`TcpDoors`] are the doors
-//! at which clients come, each with an end that is read ([`TcpSource`]) and one that is written ([`TcpSink`]). What a real file holds, and what comes over a
-//! socket, is under no contract: these are adapters, proved to be safe and to count calls and faults as their traits say.
+//! [`HostVolume`] is a volume over a folder of the host, and a [`HostKeeper`] keeps containers below that folder, each in a database. [`HostStores`] gives
+//! one of each to a lock. [`TcpDoors`] are the doors at which clients come, each with an end that is read ([`TcpSource`]) and one that is written
+//! ([`TcpSink`]). What a real file holds, and what comes over a socket, is under no contract: these are adapters, proved to be safe and to count calls and
+//! faults as their traits say.
 //!
 //! Stores make their process the one owner of their folder, and look whether it was made for the ring that they read. [`Notes`] are told which call on the
 //! host failed, and why: that is `sw_host`, the layer below.
@@ -20,7 +21,7 @@ mod tcp_doors;
 mod tcp_sink;
 mod tcp_source;
 
-pub use host_stores::HostStores;
+pub use host_stores::{HostKeeper, HostStores};
 pub use host_volume::HostVolume;
 pub use pace::Patience;
 pub use sw_host::{HostCall, LineNotes, NoNotes, Notes};

@@ -1,5 +1,5 @@
 -- One more is finished, among as many as were accepted.
-use Rattle.std.proofs.Common.{◌≡◌, ◌<◌, [], ◌∷◌, ◌++◌, length, refl, arith, rules}
+use Rattle.std.proofs.Common.{◌≡◌, [], ◌∷◌, ◌++◌, refl, arith, rules}
 use Rattle.std.proofs.lemmas.List.{length-map}
 use Rattle.sw_store.proofs.Accepting.{accepted-count, finishes-more}
 use Rattle.sw_store.specs.Connections.{told}
