@@ -2,6 +2,8 @@
 use Rattle.std.proofs.Common.{◌≡◌, ℕ, Bool, true, false, List, [], ◌∷◌, Option, Some, All, MatchBool, refl, sym, ◌∙◌, ap, subst, inl, inr, ◌⊎◌, MutBor, Result}
 use Rattle.std.specs.Bool.{⊤}
 use Rattle.std.proofs.lemmas.List.Elements.{All-nil, All-cons}
+use Rattle.sw_container_server.specs.Serving as containers
+use Rattle.sw_container_server.specs.Targets.{is_for_containers}
 use Rattle.sw_control.specs.Asking.{is_control}
 use Rattle.sw_message.specs.declared.request.Request.{Request}
 use Rattle.sw_message.specs.declared.response.Response.{Response}
@@ -19,6 +21,7 @@ use Rattle.sw_session.specs.Session.{IsSession}
 use Rattle.sw_session.specs.declared.server.ServerFault.{ServerFault}
 use Rattle.sw_session.specs.declared.session.SessionFault.{SessionFault}
 use Rattle.sw_nodes.proofs.Comparing.{answered-keeps, given_up-keeps}
+use Rattle.sw_nodes.proofs.Contained.{answered-keeps as contained-keeps, given_up-keeps as uncontained-keeps}
 use Rattle.sw_nodes.proofs.Controlling.{on_true}
 use Rattle.sw_nodes.proofs.Keeping.{Keeps, keeps-join, keeps-same}
 use Rattle.sw_nodes.proofs.RunningLemmas.{answered_keeps, left_keeps}
@@ -47,28 +50,39 @@ module _ {D : Type 0} (sight : D → Sight) (ring : Ring) where
   module _ (old new : D) (r : Request) (moment : ℕ) (response : Response) where
     -- what every answer keeps of the nodes
     pub answers-keeps : DoorAnswers sight ring old r moment response new → Keeps (sight old) (sight new)
-    answers-keeps answers = by (is_control r.path) (is_replication_of r) answers
+    answers-keeps answers = by (is_control r.path) (is_replication_of r) (is_for_containers r) answers
       where
-        by : (control replication : Bool) → MatchBool control ((new ≡ old) × ((response ≡ bare 404) ⊎ (response ≡ bare 500)))
+        by : (control replication for_containers : Bool) → MatchBool control ((new ≡ old) × ((response ≡ bare 404) ⊎ (response ≡ bare 500)))
             (MatchBool replication
             (replicas.IsAnswered sight old new ring r response ⊎ ((response ≡ bare 500) × replicas.IsGivenUp sight old new ring r))
-            (objects.IsAnswered sight old new ring r moment response ⊎ ((response ≡ bare 500) × objects.IsGivenUp sight old new ring r moment)))
+            (MatchBool for_containers
+            (containers.IsAnswered sight old new ring r response ⊎ ((response ≡ bare 500) × containers.IsGivenUp sight old new ring r))
+            (objects.IsAnswered sight old new ring r moment response ⊎ ((response ≡ bare 500) × objects.IsGivenUp sight old new ring r moment))))
             → Keeps (sight old) (sight new)
-        by true replication same = keeps-same (sight old) (sight new) (ap sight same.0)
-        by false true (inl answered) = answered-keeps sight ring r old new response answered
-        by false true (inr left) = given_up-keeps sight ring r old new left.1
-        by false false (inl answered) = answered_keeps sight ring old new r moment response answered
-        by false false (inr left) = left_keeps sight ring old new r moment left.1
+        by true replication for_containers same = keeps-same (sight old) (sight new) (ap sight same.0)
+        by false true for_containers (inl answered) = answered-keeps sight ring r old new response answered
+        by false true for_containers (inr left) = given_up-keeps sight ring r old new left.1
+        by false false true (inl answered) = contained-keeps sight ring r old new response answered
+        by false false true (inr left) = uncontained-keeps sight ring r old new left.1
+        by false false false (inl answered) = answered_keeps sight ring old new r moment response answered
+        by false false false (inr left) = left_keeps sight ring old new r moment left.1
 
     pub answers-replicas : is_control r.path ≡ false → is_replication_of r ≡ true
         → replicas.IsAnswered sight old new ring r response ⊎ ((response ≡ bare 500) × replicas.IsGivenUp sight old new ring r)
         → DoorAnswers sight ring old r moment response new
     answers-replicas nodes is said = on_false _ _ (is_control r.path) nodes (on_true _ _ (is_replication_of r) is said)
 
-    pub answers-objects : is_control r.path ≡ false → is_replication_of r ≡ false
+    pub answers-containers : is_control r.path ≡ false → is_replication_of r ≡ false → is_for_containers r ≡ true
+        → containers.IsAnswered sight old new ring r response ⊎ ((response ≡ bare 500) × containers.IsGivenUp sight old new ring r)
+        → DoorAnswers sight ring old r moment response new
+    answers-containers nodes other is said =
+        on_false _ _ (is_control r.path) nodes (on_false _ _ (is_replication_of r) other (on_true _ _ (is_for_containers r) is said))
+
+    pub answers-objects : is_control r.path ≡ false → is_replication_of r ≡ false → is_for_containers r ≡ false
         → objects.IsAnswered sight old new ring r moment response ⊎ ((response ≡ bare 500) × objects.IsGivenUp sight old new ring r moment)
         → DoorAnswers sight ring old r moment response new
-    answers-objects nodes is said = on_false _ _ (is_control r.path) nodes (on_false _ _ (is_replication_of r) is said)
+    answers-objects nodes other is said =
+        on_false _ _ (is_control r.path) nodes (on_false _ _ (is_replication_of r) other (on_false _ _ (is_for_containers r) is said))
 
   module _ (d : D) (r : Request) (moment : ℕ) (response : Response) where
     pub not-found : is_control r.path ≡ true → response ≡ bare 404 → DoorAnswers sight ring d r moment response d
@@ -76,15 +90,18 @@ module _ {D : Type 0} (sight : D → Sight) (ring : Ring) where
 
     -- it was answered by want of memory before anything was done with it
     pub unanswered : response ≡ bare 500 → DoorAnswers sight ring d r moment response d
-    unanswered reply = by (is_control r.path) (is_replication_of r)
+    unanswered reply = by (is_control r.path) (is_replication_of r) (is_for_containers r)
       where
-        by : (control replication : Bool) → MatchBool control ((d ≡ d) × ((response ≡ bare 404) ⊎ (response ≡ bare 500)))
+        by : (control replication for_containers : Bool) → MatchBool control ((d ≡ d) × ((response ≡ bare 404) ⊎ (response ≡ bare 500)))
             (MatchBool replication
             (replicas.IsAnswered sight d d ring r response ⊎ ((response ≡ bare 500) × replicas.IsGivenUp sight d d ring r))
-            (objects.IsAnswered sight d d ring r moment response ⊎ ((response ≡ bare 500) × objects.IsGivenUp sight d d ring r moment)))
-        by true replication = (refl, inr reply)
-        by false true = inr (reply, inl refl)
-        by false false = inr (reply, inl refl)
+            (MatchBool for_containers
+            (containers.IsAnswered sight d d ring r response ⊎ ((response ≡ bare 500) × containers.IsGivenUp sight d d ring r))
+            (objects.IsAnswered sight d d ring r moment response ⊎ ((response ≡ bare 500) × objects.IsGivenUp sight d d ring r moment))))
+        by true replication for_containers = (refl, inr reply)
+        by false true for_containers = inr (reply, inl refl)
+        by false false true = inr (reply, inl refl)
+        by false false false = inr (reply, inl refl)
 
   pub ready-on : (old new : D) (r : Request) (moment : ℕ) (response : Response) → AreNodesOf ring (sight old).nodes
       → DoorAnswers sight ring old r moment response new → AreNodesOf ring (sight new).nodes

@@ -1,4 +1,4 @@
--- Where the volumes of nodes rest once they were given back around the device that is out.
+-- Where the volumes and keepers of nodes rest once they were given back around the device that is out.
 use Rattle.std.proofs.Common.{◌≡◌, ◌∙◌, ℕ, suc, ◌+◌, ◌-◌, ◌*◌, ◌/◌, ◌%◌, ◌^◌, ◌<◌, ◌≤◌, Bool, true, false, not, List, ◌++◌}
 use Rattle.std.proofs.Common.{length, refl, sym, ap, subst, arith, Option, None, Some, ◌⊎◌, inl, inr}
 use Rattle.std.specs.Prelude.{◌&&◌, nat_lt, nat_le}
@@ -7,6 +7,8 @@ use Rattle.std.proofs.lemmas.Bool.{and_from, and_parts, cases_lt, false_from_ne_
 use Rattle.std.proofs.Math.Nat.{mul-le-mul_right, suc-mul}
 use Rattle.std.proofs.lemmas.Nat.{div-add-mod', mod_below}
 use Rattle.std.proofs.lemmas.Option.{slice_get_within}
+use Rattle.sw_container_db.specs.ContDirs.{ContKept}
+use Rattle.sw_container_locks.specs.declared.cont_slot.ContSlot.TheVariants as cont_slots
 use Rattle.sw_core.specs.Stopping.{Gives, gap_first, gap_past}
 use Rattle.sw_core.specs.Worlds.{AllNodes, IsSlot, IsWorld, first_of, is_out, past_of}
 use Rattle.sw_core.specs.declared.slot.Slot.TheVariants as slots
@@ -14,7 +16,7 @@ use Rattle.sw_objdir.specs.Directories.{Kept}
 use Rattle.sw_ring.specs.declared.ring.Ring.{Ring}
 use Rattle.sw_stores.proofs.AtPlaces.{resting-at}
 use Rattle.sw_stores.specs.Places.{ComeHome, IsSameBut, at_place, is_among, is_around}
-use Rattle.sw_stores.specs.Volumes.{AreResting}
+use Rattle.sw_stores.specs.Starting.{AreResting}
 use Rattle.sw_nodes.specs.Nodes.{out_but, places_at, places_of}
 
 -- ---- places
@@ -140,8 +142,8 @@ module _ (ring : Ring) where
 
 -- ---- what rests
 
-module _ {V : Type 0} (w : AllNodes V) (is : IsWorld w) (rests : ℕ → ℕ → Option V) (volumes : List V) (gives : Gives w.lifted w volumes)
-    (given : (before behind : List V) → volumes ≡ before ++ behind → length before ≡ gap_first w.lock_bits w.lifted
+module _ {V K : Type 0} (w : AllNodes V K) (is : IsWorld w) (rests : ℕ → ℕ → Option (V × K)) (parts : List (V × K)) (gives : Gives w.lifted w parts)
+    (given : (before behind : List (V × K)) → parts ≡ before ++ behind → length before ≡ gap_first w.lock_bits w.lifted
     → AreResting rests (2 ^ w.lock_bits) 0 before × AreResting rests (2 ^ w.lock_bits) (gap_past w.lock_bits w.lifted) behind) where
   abbrev resting : AreResting rests (2 ^ w.lock_bits) 0 gives.before × AreResting rests (2 ^ w.lock_bits) (gap_past w.lock_bits w.lifted) gives.behind
   resting = given gives.before gives.behind gives.all gives.low
@@ -160,20 +162,22 @@ module _ {V : Type 0} (w : AllNodes V) (is : IsWorld w) (rests : ℕ → ℕ →
       apart : Some (slots.Open k) ≡ Some (slots.Lifted w.secrets) → ⊥
       apart same = cc
 
-  -- the volume of each open directory rests at its place
-  pub rests-each : (l : ℕ) (k : Kept V) → slice_get w.slots l ≡ Some (slots.Open k) → at_place rests (2 ^ w.lock_bits) l ≡ Some k.volume
-  rests-each l k at = by (cases_lt l (gap_first w.lock_bits w.lifted)) (cases_lt l (gap_past w.lock_bits w.lifted))
+  -- the volume of each open directory rests at its place, with the keeper of the lock beside it
+  pub rests-each : (l : ℕ) (k : Kept V) (c : ContKept K) → slice_get w.slots l ≡ Some (slots.Open k) → slice_get w.containers l ≡ Some (cont_slots.Open c)
+      → at_place rests (2 ^ w.lock_bits) l ≡ Some (k.volume, c.keeper)
+  rests-each l k c at beside = by (cases_lt l (gap_first w.lock_bits w.lifted)) (cases_lt l (gap_past w.lock_bits w.lifted))
     where
       by : (l < gap_first w.lock_bits w.lifted) ⊎ (gap_first w.lock_bits w.lifted ≤ l) → (l < gap_past w.lock_bits w.lifted)
           ⊎ (gap_past w.lock_bits w.lifted ≤ l)
-          → at_place rests (2 ^ w.lock_bits) l ≡ Some k.volume
+          → at_place rests (2 ^ w.lock_bits) l ≡ Some (k.volume, c.keeper)
       by (inl low) any =
           let there : 0 + l ≡ l = omega arith in
-          subst (λ (p : ℕ). at_place rests (2 ^ w.lock_bits) p ≡ Some k.volume) there
-          (resting-at rests (2 ^ w.lock_bits) 0 gives.before l k.volume resting.0 (gives.first l k low at))
+          subst (λ (p : ℕ). at_place rests (2 ^ w.lock_bits) p ≡ Some (k.volume, c.keeper)) there
+          (resting-at rests (2 ^ w.lock_bits) 0 gives.before l (k.volume, c.keeper) resting.0 (gives.first l k c low at beside))
       by (inr from) (inl below) = absurd (none-in-gap w.lifted l k at (is.slots l (slice_get_within w.slots l (slots.Open k) at)) from below)
       by (inr from) (inr behind) =
           let there : gap_past w.lock_bits w.lifted + (l - gap_past w.lock_bits w.lifted) ≡ l = omega (arith, behind) in
-          subst (λ (p : ℕ). at_place rests (2 ^ w.lock_bits) p ≡ Some k.volume) there
-          (resting-at rests (2 ^ w.lock_bits) (gap_past w.lock_bits w.lifted) gives.behind (l - gap_past w.lock_bits w.lifted) k.volume resting.1
-          (gives.then (l - gap_past w.lock_bits w.lifted) k (ap (slice_get w.slots) there ∙ at)))
+          subst (λ (p : ℕ). at_place rests (2 ^ w.lock_bits) p ≡ Some (k.volume, c.keeper)) there
+          (resting-at rests (2 ^ w.lock_bits) (gap_past w.lock_bits w.lifted) gives.behind (l - gap_past w.lock_bits w.lifted) (k.volume, c.keeper)
+          resting.1
+          (gives.then (l - gap_past w.lock_bits w.lifted) k c (ap (slice_get w.slots) there ∙ at) (ap (slice_get w.containers) there ∙ beside)))

@@ -3,7 +3,7 @@ use Rattle.std.proofs.Common.{◌≡◌, ℕ, ◌+◌, ◌*◌, ◌^◌, ◌≤�
 use Rattle.std.proofs.Common.{refl, sym, ◌∙◌, ap, subst, arith, append_assoc, append-nil, length-append, lit<}
 use Rattle.std.proofs.lemmas.List.{length-map, map-append}
 use Rattle.std.proofs.lemmas.Nat.{rows}
-use Rattle.sw_core.specs.Worlds.{AllNodes}
+use Rattle.sw_core.specs.Worlds.{KeeperSeen, AllNodes}
 use Rattle.sw_outside.specs.Counts.{raised}
 use Rattle.sw_outside.specs.Doors.{Accepted, Finished}
 use Rattle.sw_outside.specs.Readings.{TicksEach}
@@ -68,17 +68,18 @@ heard-join first next a b c t u v p q = record {
       (ticks-join t u v (map (λ (r : Round). r.moment) first) (map (λ (r : Round). r.moment) next) p.ticks q.ticks);
 }
 
-module _ {V : Type 0} (tells : V → Bool) (files : V → Folders) (faults : V → ℕ) (ring : Ring) where
-  serves-join : (w mid after : AllNodes V) (first next : List Round) → ServesAll tells files faults ring w first mid
-      → ServesAll tells files faults ring mid next after → ServesAll tells files faults ring w (first ++ next) after
-  serves-join w mid after [] next p q = subst (λ (x : AllNodes V). ServesAll tells files faults ring x next after) p q
+module _ {V K : Type 0} (tells : V → Bool) (files : V → Folders) (faults : V → ℕ) (keeps : KeeperSeen K) (ring : Ring) where
+  serves-join : (w mid after : AllNodes V K) (first next : List Round) → ServesAll tells files faults keeps ring w first mid
+      → ServesAll tells files faults keeps ring mid next after → ServesAll tells files faults keeps ring w (first ++ next) after
+  serves-join w mid after [] next p q = subst (λ (x : AllNodes V K). ServesAll tells files faults keeps ring x next after) p q
   serves-join w mid after (round ∷ first) next p q = (p.0, p.1, p.2, p.3, serves-join p.1 mid after first next p.4 q)
 
   -- ---- some connections, and then more
 
-  module _ (n : ℕ) (began mid after : AllNodes V) (a b c : DoorsTold) (t u v : Option (List ℕ)) (s x y : Counts)
-      (first : AllServed tells files faults ring n began mid a b t u s x) where
-    pub all-join : (m : ℕ) → AllServed tells files faults ring m mid after b c u v x y → AllServed tells files faults ring (n + m) began after a c t v s y
+  module _ (n : ℕ) (began mid after : AllNodes V K) (a b c : DoorsTold) (t u v : Option (List ℕ)) (s x y : Counts)
+      (first : AllServed tells files faults keeps ring n began mid a b t u s x) where
+    pub all-join : (m : ℕ) → AllServed tells files faults keeps ring m mid after b c u v x y → AllServed tells files faults keeps ring (n + m) began after a c t
+        v s y
     all-join m next =
         let count : length (first.rounds ++ next.rounds) ≡ length first.rounds + length next.rounds = length-append first.rounds next.rounds in
         record {
@@ -93,7 +94,8 @@ module _ {V : Type 0} (tells : V → Bool) (files : V → Folders) (faults : V �
           store_faults = next.store_faults ∙ first.store_faults;
         }
 
-    waiting-join : (m : ℕ) → StopsWaiting tells files faults ring m mid after b c u v x y → StopsWaiting tells files faults ring (n + m) began after a c t v s y
+    waiting-join : (m : ℕ) → StopsWaiting tells files faults keeps ring m mid after b c u v x y → StopsWaiting tells files faults keeps ring (n + m) began after
+        a c t v s y
     waiting-join m next =
         let count : length (first.rounds ++ next.rounds) ≡ length first.rounds + length next.rounds = length-append first.rounds next.rounds in
         record {
@@ -107,8 +109,8 @@ module _ {V : Type 0} (tells : V → Bool) (files : V → Folders) (faults : V �
               (sum-of-rows (length next.rounds) (length first.rounds) _ (length ring.devices) (2 ^ ring.lock_bits) count);
         }
 
-    restarting-join : (m : ℕ) → StopsRestarting tells files faults ring m mid after b c u v x y
-        → StopsRestarting tells files faults ring (n + m) began after a c t v s y
+    restarting-join : (m : ℕ) → StopsRestarting tells files faults keeps ring m mid after b c u v x y
+        → StopsRestarting tells files faults keeps ring (n + m) began after a c t v s y
     restarting-join m next =
         let count : length (first.rounds ++ next.rounds) ≡ length first.rounds + length next.rounds = length-append first.rounds next.rounds in
         record {
@@ -132,8 +134,8 @@ module _ {V : Type 0} (tells : V → Bool) (files : V → Folders) (faults : V �
               (sum-with-rest next.tried (length next.rounds) (length first.rounds) _ (length ring.devices) next.device (2 ^ ring.lock_bits) count);
         }
 
-    pub stopped-join : (m : ℕ) (fault : ServeFault) → EndsConnections tells files faults ring m mid after b c u v x y (Err fault)
-        → EndsConnections tells files faults ring (n + m) began after a c t v s y (Err fault)
+    pub stopped-join : (m : ℕ) (fault : ServeFault) → EndsConnections tells files faults keeps ring m mid after b c u v x y (Err fault)
+        → EndsConnections tells files faults keeps ring (n + m) began after a c t v s y (Err fault)
     stopped-join m serve_faults.Door next = (waiting-join m next.0, next.1 ∙ ap raised first.door_faults, next.2 ∙ first.store_faults)
     stopped-join m serve_faults.Store next = (restarting-join m next.0, next.1 ∙ first.door_faults, next.2 ∙ ap raised first.store_faults)
     stopped-join m serve_faults.NoMemory (inl waits, d, e) = (inl (waiting-join m waits), d ∙ first.door_faults, e ∙ first.store_faults)
@@ -142,7 +144,8 @@ module _ {V : Type 0} (tells : V → Bool) (files : V → Folders) (faults : V �
 
   -- ---- none of them yet, and of more of them
 
-  pub none-served : (began : AllNodes V) (a : DoorsTold) (t : Option (List ℕ)) (s : Counts) → AllServed tells files faults ring 0 began began a a t t s s
+  pub none-served : (began : AllNodes V K) (a : DoorsTold) (t : Option (List ℕ)) (s : Counts) → AllServed tells files faults keeps ring 0 began began a a t t s
+      s
   none-served began a t s = record {
     rounds = [];
     serves = refl;
@@ -154,8 +157,8 @@ module _ {V : Type 0} (tells : V → Bool) (files : V → Folders) (faults : V �
     store_faults = refl;
   }
 
-  module _ (n m : ℕ) (more : n ≤ m) (began after : AllNodes V) (a b : DoorsTold) (t u : Option (List ℕ)) (s x : Counts) where
-    waiting-of : StopsWaiting tells files faults ring n began after a b t u s x → StopsWaiting tells files faults ring m began after a b t u s x
+  module _ (n m : ℕ) (more : n ≤ m) (began after : AllNodes V K) (a b : DoorsTold) (t u : Option (List ℕ)) (s x : Counts) where
+    waiting-of : StopsWaiting tells files faults keeps ring n began after a b t u s x → StopsWaiting tells files faults keeps ring m began after a b t u s x
     waiting-of w = record {
       rounds = w.rounds;
       serves = w.serves;
@@ -165,7 +168,8 @@ module _ {V : Type 0} (tells : V → Bool) (files : V → Folders) (faults : V �
       store_calls = w.store_calls;
     }
 
-    restarting-of : StopsRestarting tells files faults ring n began after a b t u s x → StopsRestarting tells files faults ring m began after a b t u s x
+    restarting-of : StopsRestarting tells files faults keeps ring n began after a b t u s x → StopsRestarting tells files faults keeps ring m began after a b t
+        u s x
     restarting-of w = record {
       rounds = w.rounds;
       then = w.then;
@@ -184,8 +188,8 @@ module _ {V : Type 0} (tells : V → Bool) (files : V → Folders) (faults : V �
       store_calls = w.store_calls;
     }
 
-    pub served-of : (fault : ServeFault) → EndsConnections tells files faults ring n began after a b t u s x (Err fault)
-        → EndsConnections tells files faults ring m began after a b t u s x (Err fault)
+    pub served-of : (fault : ServeFault) → EndsConnections tells files faults keeps ring n began after a b t u s x (Err fault)
+        → EndsConnections tells files faults keeps ring m began after a b t u s x (Err fault)
     served-of serve_faults.Door w = (waiting-of w.0, w.1, w.2)
     served-of serve_faults.Store w = (restarting-of w.0, w.1, w.2)
     served-of serve_faults.NoMemory (inl waits, d, e) = (inl (waiting-of waits), d, e)
@@ -194,10 +198,10 @@ module _ {V : Type 0} (tells : V → Bool) (files : V → Folders) (faults : V �
 
   -- ---- the next one
 
-  module _ (old new : AllNodes V) (a b : DoorsTold) (t u : Option (List ℕ)) (s x : Counts) where
+  module _ (old new : AllNodes V K) (a b : DoorsTold) (t u : Option (List ℕ)) (s x : Counts) where
     -- it couldn't be accepted
     pub none-accepted : new ≡ old → AreHeard [] a b t u → b.calls ≡ raised a.calls → x.calls ≡ s.calls →
-        StopsWaiting tells files faults ring 1 old new a b t u s x
+        StopsWaiting tells files faults keeps ring 1 old new a b t u s x
     none-accepted same heard doors stores = record {
       rounds = [];
       serves = same;
@@ -207,12 +211,13 @@ module _ {V : Type 0} (tells : V → Bool) (files : V → Folders) (faults : V �
       store_calls = calls-are s.calls x.calls 0 _ stores (no-rows (length ring.devices) (2 ^ ring.lock_bits));
     }
 
-  module _ (old served : AllNodes V) (a b : DoorsTold) (t u : Option (List ℕ)) (round : Round) (one : ServesOne tells files faults ring old round served)
+  module _ (old served : AllNodes V K) (a b : DoorsTold) (t u : Option (List ℕ)) (round : Round)
+      (one : ServesOne tells files faults keeps ring old round served)
       (heard : AreHeard (round ∷ []) a b t u) (doors : b.calls ≡ raised a.calls) where
     -- it was served, and all devices were restarted
-    pub one-served : (new : AllNodes V) (s x : Counts) → RestartsFirst tells files faults ring (length ring.devices) served new
+    pub one-served : (new : AllNodes V K) (s x : Counts) → RestartsFirst tells files faults keeps ring (length ring.devices) served new
         → x.calls ≡ raised_by (length ring.devices * 2 ^ ring.lock_bits) s.calls → b.faults ≡ a.faults → x.faults ≡ s.faults
-        → AllServed tells files faults ring 1 old new a b t u s x
+        → AllServed tells files faults keeps ring 1 old new a b t u s x
     one-served new s x restarted stores doors_same stores_same = record {
       rounds = round ∷ [];
       serves = (served, new, one, restarted, refl);
@@ -226,11 +231,11 @@ module _ {V : Type 0} (tells : V → Bool) (files : V → Folders) (faults : V �
     }
 
     -- or some first ones of them
-    pub one-stopped : {S : Type 0} (store_calls : S → ℕ) (rests : S → ℕ → ℕ → Option V) (out : S → ℕ → ℕ → Bool) (whole now : AllNodes V)
+    pub one-stopped : {S : Type 0} (store_calls : S → ℕ) (rests : S → ℕ → ℕ → Option (V × K)) (out : S → ℕ → ℕ → Bool) (whole now : AllNodes V K)
         (stores stores_now : S)
         (s x : Counts) → s.calls ≡ store_calls stores → x.calls ≡ store_calls stores_now
-        → StopsAmong tells files faults store_calls rests out ring served whole now stores stores_now
-        → StopsRestarting tells files faults ring 1 old whole a b t u s x
+        → StopsAmong tells files faults keeps store_calls rests out ring served whole now stores stores_now
+        → StopsRestarting tells files faults keeps ring 1 old whole a b t u s x
     one-stopped store_calls rests out whole now stores stores_now s x before after stops = record {
       rounds = [];
       then = old;

@@ -1,28 +1,27 @@
--- What connections that were served leave: a run of the machine, and files that stand for what reached in it.
-use Rattle.std.proofs.Common.{◌≡◌, ℕ, zero, suc, ◌*◌, ◌^◌, ◌<◌, Bool, true, false, not, ◌&&◌, List, [], ◌∷◌, length, Option, None, Some, Result, Ok, Err, inl}
+-- What connections that were served leave: a run of the machine, files that stand for what reached in it, and keepers that have its tables.
+use Rattle.std.proofs.Common.{◌≡◌, ℕ, zero, suc, ◌<◌, Bool, true, false, not, ◌&&◌, List, [], ◌∷◌, length, Option, None, Some, Result, Ok, Err, inl}
 use Rattle.std.proofs.Common.{inr}
 use Rattle.std.proofs.Common.{refl, sym, ◌∙◌, ap, subst}
 use Rattle.std.specs.Bool.{⊤}
-use Rattle.std.specs.List.{All, slice_get}
+use Rattle.std.specs.List.{All}
+use Rattle.sw_container_locks.specs.Slots.{AreLocks}
+use Rattle.sw_hashpath.specs.declared.place.Place.{Place}
 use Rattle.sw_machine.proofs.Going.{runs-join}
-use Rattle.sw_machine.specs.Doors.{RunsOn}
+use Rattle.sw_machine.specs.Doors.{RunsOn, StandsFor}
 use Rattle.sw_machine.specs.Machine.{Machine, RunLine, Runs, machine_of}
-use Rattle.sw_core.specs.Worlds.{AllNodes, IsWorld, SlotTellsOn, nodes_of, opened, sight_of}
-use Rattle.sw_core.specs.declared.slot.Slot.TheVariants as slots
-use Rattle.sw_objdir.specs.Directories.{Kept}
+use Rattle.sw_core.specs.Worlds.{AllNodes, AreContainers, IsWorld, KeeperSeen, SlotTellsOn, nodes_of, opened, sight_of}
 use Rattle.sw_object_steps.specs.Journals.{Hash}
 use Rattle.sw_peer.specs.Sights.{Sight}
 use Rattle.sw_quiet.specs.Quiet.{quiet_sight_of}
 use Rattle.sw_ring.specs.declared.ring.Ring.{Ring}
-use Rattle.sw_stores.specs.Places.{at_place}
 use Rattle.sw_volume.specs.Tree.{Folders}
 use Rattle.sw_quiet.proofs.Trails.{lifting-restarts}
 use Rattle.sw_session.specs.Passages.{Passage}
 use Rattle.sw_cluster.proofs.Connecting.{connection-goes}
 use Rattle.sw_nodes.proofs.Keeping.{restart-runs, runs-itself}
 use Rattle.sw_nodes.proofs.Serving.{goes_on}
-use Rattle.sw_cluster.proofs.Storing.{AllTellOn, all-tell-on, rests-before, stored, tell-before}
-use Rattle.sw_cluster.specs.Ending.{IsStored}
+use Rattle.sw_cluster.proofs.Storing.{AllRest, AllTellOn, all-tell-on, kept, rests-before, stored, tell-before}
+use Rattle.sw_cluster.specs.Ending.{IsKept, IsStored}
 use Rattle.sw_cluster.specs.Connections.{IsConnection}
 use Rattle.sw_cluster.specs.Leaving.{AreLeft, IsOut}
 use Rattle.sw_nodes.specs.Nodes.{IsReady, out_but, places_at, places_of}
@@ -33,38 +32,39 @@ use Rattle.sw_cluster.specs.declared.rounds.ServeFault.{ServeFault}
 use Rattle.sw_cluster.specs.Limits.{serve_bytes}
 use Rattle.sw_cluster.specs.declared.rounds.ServeFault.TheVariants as serve_faults
 
-module _ {V : Type 0} (tells : V → Bool) (files : V → Folders) (faults : V → ℕ) (ring : Ring) where
-  abbrev pub see : AllNodes V → Sight
-  see w = quiet_sight_of tells files faults w
+module _ {V K : Type 0} (tells : V → Bool) (files : V → Folders) (faults : V → ℕ) (keeps : KeeperSeen K) (ring : Ring) where
+  abbrev pub see : AllNodes V K → Sight
+  see w = quiet_sight_of tells files faults keeps w
 
   -- ---- a run goes on
 
   -- the nodes are those that were there, and whatever machine they stood for goes on to them as they are then
-  pub record Goes (w after : AllNodes V) : Type 0 where
+  pub record Goes (w after : AllNodes V K) : Type 0 where
     pub nodes : (see after).nodes ≡ (see w).nodes
     pub runs : RunsOn (see w) (see after)
 
-  goes-same : (w after : AllNodes V) → after ≡ w → Goes w after
+  goes-same : (w after : AllNodes V K) → after ≡ w → Goes w after
   goes-same w after same = subst (Goes w) (sym same) (record { nodes = refl; runs = runs-itself (see w) })
 
-  goes-join : (a b c : AllNodes V) → Goes a b → Goes b c → Goes a c
+  goes-join : (a b c : AllNodes V K) → Goes a b → Goes b c → Goes a c
   goes-join a b c p q = record { nodes = q.nodes ∙ p.nodes; runs = runs-join (see a) (see b) (see c) p.runs q.runs }
 
-  served-one : (w after : AllNodes V) (moment : ℕ) (source sink : Passage) (status : ℕ) → IsConnection see ring moment w source sink after status → Goes w after
+  served-one : (w after : AllNodes V K) (moment : ℕ) (source sink : Passage) (status : ℕ) → IsConnection see ring moment w source sink after status → Goes w
+      after
   served-one w after moment source sink status c =
       let keeps = connection-goes see ring moment w source sink after status c in
       record { nodes = keeps.nodes; runs = keeps.runs refl }
 
-  restarted-goes : (w after : AllNodes V) (device : ℕ) → RestartsDevice tells files faults ring device w after → Goes w after
+  restarted-goes : (w after : AllNodes V K) (device : ℕ) → RestartsDevice tells files faults keeps ring device w after → Goes w after
   restarted-goes w after device again =
-      let restarts = lifting-restarts tells files faults w again.mid after device again.given again.up again.down in
+      let restarts = lifting-restarts tells files faults keeps w again.mid after device again.given again.up again.down in
       record { nodes = restarts.nodes; runs = restart-runs device (see w) (see after) refl restarts }
 
-  first-go : (n : ℕ) (w after : AllNodes V) → RestartsFirst tells files faults ring n w after → Goes w after
+  first-go : (n : ℕ) (w after : AllNodes V K) → RestartsFirst tells files faults keeps ring n w after → Goes w after
   first-go zero w after same = goes-same w after same
   first-go (suc n) w after again = goes-join w again.0 after (first-go n w again.0 again.1) (restarted-goes again.0 after n again.2)
 
-  all-go : (w after : AllNodes V) (rounds : List Round) → ServesAll tells files faults ring w rounds after → Goes w after
+  all-go : (w after : AllNodes V K) (rounds : List Round) → ServesAll tells files faults keeps ring w rounds after → Goes w after
   all-go w after [] same = goes-same w after same
   all-go w after (round ∷ rounds) serves =
       goes-join w serves.1 after
@@ -72,16 +72,16 @@ module _ {V : Type 0} (tells : V → Bool) (files : V → Folders) (faults : V �
       (first-go (length ring.devices) serves.0 serves.1 serves.3))
       (all-go serves.1 after rounds serves.4)
 
-  module _ (began after : AllNodes V) (a b : DoorsTold) (t u : Option (List ℕ)) (s x : Counts) (connections : ℕ) where
-    waiting-goes : StopsWaiting tells files faults ring connections began after a b t u s x → Goes began after
+  module _ (began after : AllNodes V K) (a b : DoorsTold) (t u : Option (List ℕ)) (s x : Counts) (connections : ℕ) where
+    waiting-goes : StopsWaiting tells files faults keeps ring connections began after a b t u s x → Goes began after
     waiting-goes w = all-go began after w.rounds w.serves
 
-    restarting-goes : StopsRestarting tells files faults ring connections began after a b t u s x → Goes began after
+    restarting-goes : StopsRestarting tells files faults keeps ring connections began after a b t u s x → Goes began after
     restarting-goes w =
         goes-join began w.then after (all-go began w.then w.rounds w.serves)
         (goes-join w.then w.served after (served-one w.then w.served w.last.moment _ _ _ w.one.answered) (first-go w.device w.served after w.restarted))
 
-    served-goes : (result : Result ⊤ ServeFault) → EndsConnections tells files faults ring connections began after a b t u s x result → Goes began after
+    served-goes : (result : Result ⊤ ServeFault) → EndsConnections tells files faults keeps ring connections began after a b t u s x result → Goes began after
     served-goes (Ok done) served = all-go began after served.rounds served.serves
     served-goes (Err serve_faults.Door) served = waiting-goes served.0
     served-goes (Err serve_faults.Store) served = restarting-goes served.0
@@ -89,16 +89,16 @@ module _ {V : Type 0} (tells : V → Bool) (files : V → Folders) (faults : V �
     served-goes (Err serve_faults.NoMemory) (inr stops, d, e) = restarting-goes stops
     served-goes (Err serve_faults.Write) served = absurd served
 
-  pub ends-go : (port connections : ℕ) (began after : AllNodes V) (a b : DoorsTold) (out : Output) (t u : Option (List ℕ)) (s x : Counts)
-      (ended : Result ⊤ ServeFault) → EndsServing tells files faults ring port connections began after a b out t u s x ended → Goes began after
+  pub ends-go : (port connections : ℕ) (began after : AllNodes V K) (a b : DoorsTold) (out : Output) (t u : Option (List ℕ)) (s x : Counts)
+      (ended : Result ⊤ ServeFault) → EndsServing tells files faults keeps ring port connections began after a b out t u s x ended → Goes began after
   ends-go port connections began after a b out t u s x ended (inl mute) = goes-same began after mute.nothing_came
   ends-go port connections began after a b out t u s x ended (inr over) = served-goes began after _ b t u s x connections over.came over.served
 
   -- the nodes are ready for what comes behind a connection
-  pub ready-after : {S : Type 0} (out : S → ℕ → ℕ → Bool) (w after : AllNodes V) (stores : S) (round : Round) → IsReady out ring w stores
-      → ServesOne tells files faults ring w round after → IsReady out ring after stores
+  pub ready-after : {S : Type 0} (out : S → ℕ → ℕ → Bool) (w after : AllNodes V K) (stores : S) (round : Round) → IsReady out ring w stores
+      → ServesOne tells files faults keeps ring w round after → IsReady out ring after stores
   ready-after out w after stores round ready one =
-      goes_on tells files faults out ring w after stores ready (connection-goes see ring round.moment w (read_in round) (written_in round) after
+      goes_on tells files faults keeps out ring w after stores ready (connection-goes see ring round.moment w (read_in round) (written_in round) after
       round.finished.status one.answered).nodes
 
   -- ---- how the nodes are left
@@ -115,15 +115,15 @@ module _ {V : Type 0} (tells : V → Bool) (files : V → Folders) (faults : V �
   some-is : {A : Type 0} {x y : A} → Some x ≡ Some y → x ≡ y
   some-is is = cc
 
-  module _ {S : Type 0} (store_calls : S → ℕ) (rests : S → ℕ → ℕ → Option V) (out : S → ℕ → ℕ → Bool) where
-    -- what giving their volumes back asks for
-    pub record CanBeGiven (w : AllNodes V) (stores : S) : Type 0 where
+  module _ {S : Type 0} (store_calls : S → ℕ) (rests : S → ℕ → ℕ → Option (V × K)) (out : S → ℕ → ℕ → Bool) where
+    -- what giving their volumes and keepers back asks for
+    pub record CanBeGiven (w : AllNodes V K) (stores : S) : Type 0 where
       pub devices : w.devices ≡ length ring.devices
       pub lock_bits : w.lock_bits ≡ ring.lock_bits
       pub lifted : (device : ℕ) → w.lifted ≡ Some device → device < length ring.devices
       pub are_out : (d s : ℕ) → out stores d s ≡ out_but ring w.lifted d s
 
-    whole-given : (w : AllNodes V) (stores : S) → IsReady out ring w stores → CanBeGiven w stores
+    whole-given : (w : AllNodes V K) (stores : S) → IsReady out ring w stores → CanBeGiven w stores
     whole-given w stores ready = record {
       devices = ready.devices;
       lock_bits = ready.lock_bits;
@@ -131,62 +131,82 @@ module _ {V : Type 0} (tells : V → Bool) (files : V → Folders) (faults : V �
       are_out = λ d s. ready.are_out d s ∙ sym (ap (λ (o : Option ℕ). out_but ring o d s) ready.whole);
     }
 
-    out-given : (whole w : AllNodes V) (stores : S) → IsOut tells files faults store_calls rests out ring whole w stores → CanBeGiven w stores
+    out-given : (whole w : AllNodes V K) (stores : S) → IsOut tells files faults keeps store_calls rests out ring whole w stores → CanBeGiven w stores
     out-given whole w stores is =
         let up = is.fails.up in
-        let lifted : w.lifted ≡ Some is.device = ap (λ (x : AllNodes V). x.lifted) up.rest in
+        let lifted : w.lifted ≡ Some is.device = ap (λ (x : AllNodes V K). x.lifted) up.rest in
         record {
-          devices = ap (λ (x : AllNodes V). x.devices) up.rest ∙ is.ready.devices;
-          lock_bits = ap (λ (x : AllNodes V). x.lock_bits) up.rest ∙ is.ready.lock_bits;
+          devices = ap (λ (x : AllNodes V K). x.devices) up.rest ∙ is.ready.devices;
+          lock_bits = ap (λ (x : AllNodes V K). x.lock_bits) up.rest ∙ is.ready.lock_bits;
           lifted = λ device same. subst (λ (d : ℕ). d < length ring.devices) (some-is (sym lifted ∙ same))
               (subst (λ (n : ℕ). is.device < n) is.ready.devices up.is_device);
           are_out = λ d s. is.fails.home d s ∙ (ap (λ (b : Bool). not (places_at ring is.device d s) && b) (is.ready.are_out d s)
               ∙ (swap-and (places_at ring is.device d s) (places_of ring d s) ∙ sym (ap (λ (o : Option ℕ). out_but ring o d s) lifted)));
         }
 
-    pub left-given : (whole w : AllNodes V) (stores : S) → AreLeft tells files faults store_calls rests out ring whole w stores → CanBeGiven w stores
+    pub left-given : (whole w : AllNodes V K) (stores : S) → AreLeft tells files faults keeps store_calls rests out ring whole w stores → CanBeGiven w stores
     left-given whole w stores (inl (same, ready)) =
-        subst (λ (x : AllNodes V). CanBeGiven x stores) (sym same) (whole-given whole stores ready)
+        subst (λ (x : AllNodes V K). CanBeGiven x stores) (sym same) (whole-given whole stores ready)
     left-given whole w stores (inr is) = out-given whole w stores is
 
     -- ---- what rests
 
-    module _ (began whole w : AllNodes V) (stores : S) (rests_now : ℕ → ℕ → Option V) (is : IsWorld w)
-        (resting : (l : ℕ) (k : Kept V) → slice_get w.slots l ≡ Some (slots.Open k) → at_place rests_now (2 ^ ring.lock_bits) l ≡ Some k.volume)
+    module _ (began whole w : AllNodes V K) (stores : S) (rests_now : ℕ → ℕ → Option (V × K)) (is : IsWorld w)
+        (resting : AllRest tells files faults keeps ring rests_now w)
         (same_out : (device : ℕ) → w.lifted ≡ Some device → (d s : ℕ) → places_at ring device d s ≡ true → rests_now d s ≡ rests stores d s)
-        (told_on : AllTellOn tells files faults ring w) (lines : List RunLine) (machine : Machine)
-        (run : Runs (nodes_of (length ring.devices) ring.lock_bits ring.power ring.secrets) (machine_of (sight_of tells files faults began)) lines machine)
-        (objects : (sight_of tells files faults whole).objects ≡ machine.objects.half) where
+        (told_on : AllTellOn tells files faults keeps ring w) (lines : List RunLine) (machine : Machine)
+        (run : Runs (nodes_of (length ring.devices) ring.lock_bits ring.power ring.secrets) (machine_of (sight_of tells files faults keeps began)) lines
+        machine)
+        (stands : StandsFor (sight_of tells files faults keeps whole) machine) where
       abbrev AllStored : Type 0
-      AllStored = (device : ℕ) (hash : Hash) → device < length ring.devices → IsStored tells files faults ring began machine rests_now device hash
+      AllStored = (device : ℕ) (hash : Hash) → device < length ring.devices → IsStored tells files faults keeps ring began machine rests_now device hash
 
-      pub left-stored : AreLeft tells files faults store_calls rests out ring whole w stores → AllStored
+      abbrev AllKept : Type 0
+      AllKept = (device : ℕ) (place : Place) → device < length ring.devices → IsKept tells files faults keeps ring began machine rests_now device place
+
+      pub left-stored : AreLeft tells files faults keeps store_calls rests out ring whole w stores → AllStored
       left-stored (inl (same, ready)) =
-          stored tells files faults ring began whole (subst (λ (x : AllNodes V). IsWorld x) same is) ready.whole ready.nodes lines machine run objects rests_now
-          (λ l k at. resting l k (ap (λ (x : AllNodes V). slice_get x.slots l) same ∙ at)) (subst (AllTellOn tells files faults ring) same told_on)
+          stored tells files faults keeps ring began whole (subst (λ (x : AllNodes V K). IsWorld x) same is) ready.whole ready.nodes lines machine run rests_now
+          (subst (AllRest tells files faults keeps ring rests_now) same resting) (subst (AllTellOn tells files faults keeps ring) same told_on) stands.objects
       left-stored (inr gone) =
-          stored tells files faults ring began whole gone.fails.up.world gone.fails.up.whole gone.ready.nodes lines machine run objects rests_now
-          (rests-before tells files faults ring whole w gone.ready.lock_bits gone.device gone.fails.given gone.fails.up (rests stores) rests_now
+          stored tells files faults keeps ring began whole gone.fails.up.world gone.fails.up.whole gone.ready.nodes lines machine run rests_now
+          (rests-before tells files faults keeps ring whole w gone.ready.lock_bits gone.device gone.fails.given gone.fails.up (rests stores) rests_now
           gone.fails.resting resting same_out)
-          (tell-before tells files faults ring whole w gone.ready.lock_bits gone.device gone.fails.given gone.fails.up told_on)
+          (tell-before tells files faults keeps ring whole w gone.ready.lock_bits gone.device gone.fails.given gone.fails.up told_on) stands.objects
 
-  -- what was served, once the volumes were given back
-  module _ {S : Type 0} (store_calls : S → ℕ) (rests : S → ℕ → ℕ → Option V) (out : S → ℕ → ℕ → Bool) (volumes : List V)
-      (whole w : AllNodes V) (stores : S)
-      (left : AreLeft tells files faults store_calls rests out ring whole w stores) (goes : Goes (opened serve_bytes ring volumes) whole)
-      (rests_now : ℕ → ℕ → Option V) (is : IsWorld w)
-      (resting : (l : ℕ) (k : Kept V) → slice_get w.slots l ≡ Some (slots.Open k) → at_place rests_now (2 ^ ring.lock_bits) l ≡ Some k.volume)
+      pub left-kept : AreLeft tells files faults keeps store_calls rests out ring whole w stores → AllKept
+      left-kept (inl (same, ready)) =
+          kept tells files faults keeps ring began whole (subst (λ (x : AllNodes V K). IsWorld x) same is) ready.whole ready.nodes lines machine run rests_now
+          (subst (AllRest tells files faults keeps ring rests_now) same resting) (subst (AllTellOn tells files faults keeps ring) same told_on)
+          stands.containers
+      left-kept (inr gone) =
+          kept tells files faults keeps ring began whole gone.fails.up.world gone.fails.up.whole gone.ready.nodes lines machine run rests_now
+          (rests-before tells files faults keeps ring whole w gone.ready.lock_bits gone.device gone.fails.given gone.fails.up (rests stores) rests_now
+          gone.fails.resting resting same_out)
+          (tell-before tells files faults keeps ring whole w gone.ready.lock_bits gone.device gone.fails.given gone.fails.up told_on) stands.containers
+
+  -- what was served, once the volumes and keepers were given back
+  module _ {S : Type 0} (store_calls : S → ℕ) (rests : S → ℕ → ℕ → Option (V × K)) (out : S → ℕ → ℕ → Bool) (parts : List (V × K))
+      (whole w : AllNodes V K) (stores : S)
+      (left : AreLeft tells files faults keeps store_calls rests out ring whole w stores) (goes : Goes (opened serve_bytes ring parts) whole)
+      (rests_now : ℕ → ℕ → Option (V × K)) (is : IsWorld w)
+      (resting : AllRest tells files faults keeps ring rests_now w)
       (same_out : (device : ℕ) → w.lifted ≡ Some device → (d s : ℕ) → places_at ring device d s ≡ true → rests_now d s ≡ rests stores d s)
-      (told_on : All (SlotTellsOn tells files faults) w.slots) where
-    pub has-served : HasServed tells files faults ring (opened serve_bytes ring volumes) whole rests_now
+      (told_on : All (SlotTellsOn tells files faults) w.slots) (there : AreContainers w.devices w.lock_bits w.lifted w.containers)
+      (locks : AreLocks keeps.tells w.containers) where
+    pub has-served : HasServed tells files faults keeps ring (opened serve_bytes ring parts) whole rests_now
     has-served =
-        let went = goes.runs (machine_of (see (opened serve_bytes ring volumes))) (record { objects = refl; containers = refl }) in
+        let went = goes.runs (machine_of (see (opened serve_bytes ring parts))) (record { objects = refl; containers = refl }) in
+        let on = all-tell-on tells files faults keeps ring w told_on there locks in
+        let stands : StandsFor (sight_of tells files faults keeps whole) went.1.after =
+        record { objects = went.1.stands.objects; containers = went.1.stands.containers } in
         record {
           lines = went.0;
           machine = went.1.after;
           run = went.1.run;
           stands = went.1.stands;
-          stored = left-stored store_calls rests out (opened serve_bytes ring volumes) whole w stores rests_now is resting same_out
-              (all-tell-on tells files faults ring w told_on) went.0 went.1.after went.1.run
-              went.1.stands.objects left;
+          stored = left-stored store_calls rests out (opened serve_bytes ring parts) whole w stores rests_now is resting same_out
+              on went.0 went.1.after went.1.run stands left;
+          kept = left-kept store_calls rests out (opened serve_bytes ring parts) whole w stores rests_now is resting same_out
+              on went.0 went.1.after went.1.run stands left;
         }

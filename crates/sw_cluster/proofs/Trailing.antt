@@ -2,13 +2,12 @@
 use Rattle.std.proofs.Common.{◌≡◌, ℕ, ◌*◌, ◌^◌, ◌<◌, ◌≤◌, ◌==◌, Bool, true, false, ◌&&◌, not, List, [], ◌++◌, length, Option, Some, None}
 use Rattle.std.proofs.Common.{refl, sym, ◌∙◌, ap, subst, Result, Ok, Err, inl, inr, if◌then◌else◌, MutBor}
 use Rattle.std.specs.Bool.{⊤}
-use Rattle.std.specs.List.{All, slice_get}
-use Rattle.sw_objdir.specs.Directories.{Kept}
+use Rattle.std.specs.List.{All}
+use Rattle.sw_container_locks.specs.Slots.{AreLocks}
 use Rattle.sw_message.specs.declared.request.Request.{Request}
 use Rattle.sw_message.specs.declared.response.Response.{Response}
 use Rattle.sw_outside.specs.Counts.{raised}
 use Rattle.sw_outside.specs.Readings.{TicksEach}
-use Rattle.sw_hashpath.specs.declared.place.Place.{Place}
 use Rattle.sw_peer.specs.Sights.{Nodes as SightNodes, Sight}
 use Rattle.sw_peer.specs.declared.line.Line.{Line}
 use Rattle.sw_ring.specs.declared.ring.Ring.{Ring}
@@ -19,8 +18,8 @@ use Rattle.sw_session.specs.declared.server.ServerFault.{ServerFault}
 use Rattle.sw_session.specs.declared.server.ServerFault.TheVariants as servers
 use Rattle.sw_session.specs.declared.session.SessionFault.{SessionFault}
 use Rattle.sw_session.specs.declared.session.SessionFault.TheVariants as session_faults
-use Rattle.sw_stores.specs.Places.{ComeHome, at_place}
-use Rattle.sw_stores.specs.Volumes.{AreResting}
+use Rattle.sw_stores.specs.Places.{ComeHome}
+use Rattle.sw_stores.specs.Starting.{AreResting}
 use Rattle.sw_volume.specs.Tree.{Folders}
 use Rattle.sw_volume.specs.Volume.{raised_by}
 use Rattle.sw_nodes.specs.Restarts.{AreCalled, restarts_in}
@@ -28,14 +27,10 @@ use Rattle.sw_nodes.proofs.Exchanging.{exchange_meets}
 use Rattle.sw_nodes.proofs.Keeping.{runs-itself}
 use Rattle.sw_nodes.proofs.Readying.{ready-of}
 use Rattle.sw_nodes.proofs.Restarting.{called-on, none-called, out-called, whole-called}
-use Rattle.sw_container_steps.specs.Halves.{ContHalf}
-use Rattle.sw_core.proofs.Containing.{empty-holds}
 use Rattle.sw_machine.proofs.Going.{runs-join}
 use Rattle.sw_machine.specs.Doors.{GoesOn, RunsOn}
 use Rattle.sw_machine.specs.Machine.{RunLine, Runs, came_in, machine_of}
-use Rattle.sw_core.specs.Worlds.{AllNodes, IsWorld, Lifts, SlotTellsOn, first_of, nodes_of}
-use Rattle.sw_core.specs.Worlds.{opened, place_lock, shown, sight_of, without_lines}
-use Rattle.sw_core.specs.declared.slot.Slot.TheVariants as slots
+use Rattle.sw_core.specs.Worlds.{AllNodes, AreContainers, IsWorld, KeeperSeen, Lifts, SlotTellsOn, first_of, nodes_of, opened, shown, sight_of, without_lines}
 use Rattle.sw_cluster.specs.Ending.{IsRunOver, IsTrail, status_by}
 use Rattle.sw_cluster.specs.Told.{Counts, counts, Output}
 use Rattle.sw_nodes.specs.Nodes.{IsReady, NodesAnswer, NodesHalt, faults_by, out_but, places_at, places_of}
@@ -43,7 +38,7 @@ use Rattle.sw_nodes.specs.Server.{MayAnswer, MayHalt}
 use Rattle.sw_cluster.specs.Statuses as statuses
 use Rattle.sw_nodes.specs.declared.server.Nodes.{Nodes}
 use Rattle.sw_cluster.specs.Limits.{run_bytes}
-use Rattle.sw_cluster.proofs.Storing.{AllTellOn, all-tell-on, rests-before, same-devices, stored, tell-before}
+use Rattle.sw_cluster.proofs.Storing.{AllRest, AllTellOn, all-tell-on, kept, rests-before, same-devices, stored, tell-before}
 
 some-is : {A : Type 0} {x y : A} → Some x ≡ Some y → x ≡ y
 some-is is = cc
@@ -54,30 +49,28 @@ swap-and true false = refl
 swap-and false true = refl
 swap-and false false = refl
 
-abbrev ring_in : {S V : Type 0} → Nodes S V → Ring
+abbrev ring_in : {S V K : Type 0} → Nodes S V K → Ring
 ring_in n = n.ring.now
 
-abbrev world_in : {S V : Type 0} → Nodes S V → AllNodes V
+abbrev world_in : {S V K : Type 0} → Nodes S V K → AllNodes V K
 world_in n = n.network.door
 
-abbrev stores_in : {S V : Type 0} → Nodes S V → MutBor S
+abbrev stores_in : {S V K : Type 0} → Nodes S V K → MutBor S
 stores_in n = n.stores
 
-module _ {V : Type 0} (tells : V → Bool) (files : V → Folders) (faults : V → ℕ) (ring : Ring) where
-  abbrev see : AllNodes V → Sight
-  see w = sight_of tells files faults w
+module _ {V K : Type 0} (tells : V → Bool) (files : V → Folders) (faults : V → ℕ) (keeps : KeeperSeen K) (ring : Ring) where
+  abbrev see : AllNodes V K → Sight
+  see w = sight_of tells files faults keeps w
 
   -- ---- what its trail tells
 
-  -- a world that a run came to, none of whose devices is out, whose volumes came to rest at the places of their locks; and another one, which has its lines
-  -- and its containers
-  module _ (began w after : AllNodes V) (is : IsWorld w) (whole : w.lifted ≡ None)
+  -- a world that a run came to, none of whose devices is out, whose volumes and keepers came to rest at the places of their locks; and another one, which
+  -- has its lines
+  module _ (began w after : AllNodes V K) (is : IsWorld w) (whole : w.lifted ≡ None)
       (nodes : nodes_of (shown w.lifted w.devices) w.lock_bits w.power w.secrets ≡ nodes_of (length ring.devices) ring.lock_bits ring.power ring.secrets)
-      (lines : List RunLine) (run : GoesOn (see began) (machine_of (see began)) lines (see w)) (rests : ℕ → ℕ → Option V)
-      (none : (device : ℕ) (place : Place) → (see began).containers.holds device place ≡ None) (new : began.lines ≡ []) (kept : after.lines ≡ w.lines)
-      (same : (device : ℕ) (place : Place) → (see after).containers.holds device place ≡ (see w).containers.holds device place)
-      (resting : (l : ℕ) (k : Kept V) → slice_get w.slots l ≡ Some (slots.Open k) → at_place rests (2 ^ ring.lock_bits) l ≡ Some k.volume)
-      (told_on : AllTellOn tells files faults ring w) where
+      (lines : List RunLine) (run : GoesOn (see began) (machine_of (see began)) lines (see w)) (rests : ℕ → ℕ → Option (V × K))
+      (new : began.lines ≡ []) (same_lines : after.lines ≡ w.lines) (resting : AllRest tells files faults keeps ring rests w)
+      (told_on : AllTellOn tells files faults keeps ring w) where
     -- the lines of the run are those of the world
     lines-are : came_in lines ≡ w.lines
     lines-are = ap (λ (ls : List Line). ls ++ came_in lines) (sym new) ∙ sym (some-is run.kept)
@@ -85,20 +78,19 @@ module _ {V : Type 0} (tells : V → Bool) (files : V → Folders) (faults : V �
     ran : Runs (nodes_of (length ring.devices) ring.lock_bits ring.power ring.secrets) (machine_of (see began)) lines run.after
     ran = subst (λ (n : SightNodes). Runs n (machine_of (see began)) lines run.after) (sym run.nodes ∙ nodes) run.run
 
-    pub trail-of : IsTrail tells files faults ring began after rests after.lines
+    pub trail-of : IsTrail tells files faults keeps ring began after rests after.lines
     trail-of = record {
       lines = lines;
-      came = lines-are ∙ sym kept;
+      came = lines-are ∙ sym same_lines;
       machine = run.after;
       run = ran;
-      stored = stored tells files faults ring began w is whole nodes lines run.after ran run.stands.objects rests resting told_on;
-      none = none;
-      holds = λ device place. same device place ∙ ap (λ (c : ContHalf). c.holds device place) run.stands.containers;
+      stored = stored tells files faults keeps ring began w is whole nodes lines run.after ran rests resting told_on run.stands.objects;
+      kept = kept tells files faults keeps ring began w is whole nodes lines run.after ran rests resting told_on run.stands.containers;
     }
 
   -- ---- request by request
 
-  relined : (w : AllNodes V) → IsWorld (without_lines w) → IsWorld w
+  relined : (w : AllNodes V K) → IsWorld (without_lines w) → IsWorld w
   relined w is = record {
     devices = is.devices;
     lock_bits = is.lock_bits;
@@ -111,39 +103,39 @@ module _ {V : Type 0} (tells : V → Bool) (files : V → Folders) (faults : V �
   }
 
   -- a session of a server that has nodes and stores
-  abbrev pub SessionOver : {S N : Type 0} → (S → ℕ) → (S → ℕ) → (S → ℕ → ℕ → Option V) → (S → ℕ → ℕ → Bool) → (N → Ring) → (N → AllNodes V) → (N → MutBor S) → N
+  abbrev pub SessionOver : {S N : Type 0} → (S → ℕ) → (S → ℕ) → (S → ℕ → ℕ → Option (V × K)) → (S → ℕ → ℕ → Bool) → (N → Ring) → (N → AllNodes V K) →
+      (N → MutBor S) → N
       → Passage → Passage → List ℕ → N
       → Result ⊤ SessionFault → Type 0
   SessionOver {S} {N} store_faults store_calls rests out ring_of world_of stores_of = IsSession (λ request. false)
       (λ (old : N) (request : Request) (moment : ℕ) (response : Response) (new : N).
-      NodesAnswer tells files faults store_faults store_calls out (ring_of old) (ring_of new) (world_of old) (world_of new) (stores_of old)
+      NodesAnswer tells files faults keeps store_faults store_calls out (ring_of old) (ring_of new) (world_of old) (world_of new) (stores_of old)
       (stores_of new) request moment response)
       (λ (old : N) (request : Request) (moment : ℕ) (fault : ServerFault) (new : N).
-      NodesHalt tells files faults store_faults store_calls rests out (ring_of old) (ring_of new) (world_of old) (world_of new) (stores_of old)
+      NodesHalt tells files faults keeps store_faults store_calls rests out (ring_of old) (ring_of new) (world_of old) (world_of new) (stores_of old)
       (stores_of new) request fault)
 
-  module _ {S : Type 0} (store_faults store_calls : S → ℕ) (rests : S → ℕ → ℕ → Option V) (out : S → ℕ → ℕ → Bool)
-      (began : AllNodes V) (stores : MutBor S) where
+  module _ {S : Type 0} (store_faults store_calls : S → ℕ) (rests : S → ℕ → ℕ → Option (V × K)) (out : S → ℕ → ℕ → Bool)
+      (began : AllNodes V K) (stores : MutBor S) where
     -- so far each request was answered
-    pub record IsUnderWay (ring_now : Ring) (w : AllNodes V) (stores_now : MutBor S) : Type 0 where
+    pub record IsUnderWay (ring_now : Ring) (w : AllNodes V K) (stores_now : MutBor S) : Type 0 where
       pub ring_is : ring_now ≡ ring
       pub ready : IsReady out ring w stores_now.now
       pub faults_are : store_faults stores_now.now ≡ store_faults stores.now
       pub calls_are : store_calls stores_now.now ≡ raised_by (restarts_in w.lines * 2 ^ ring.lock_bits) (store_calls stores.now)
       pub same_stores : stores_now.ghost_name ≡ stores.ghost_name
       pub runs : RunsOn (see began) (see w)
-      pub none : (device : ℕ) (place : Place) → (see began).containers.holds device place ≡ None
       pub new : began.lines ≡ []
 
     -- then a device couldn't be restarted
-    pub record IsHalted (fault : ServerFault) (after : AllNodes V) (stores_now : MutBor S) : Type 0 where
+    pub record IsHalted (fault : ServerFault) (after : AllNodes V K) (stores_now : MutBor S) : Type 0 where
       pub ring_then : Ring
-      pub w : AllNodes V
+      pub w : AllNodes V K
       pub stores_then : MutBor S
       pub way : IsUnderWay ring_then w stores_then
       pub device : ℕ
-      pub given : List V
-      pub up : Lifts tells files faults w device given after
+      pub given : List (V × K)
+      pub up : Lifts tells files faults keeps w device given after
       pub resting : AreResting (rests stores_now.now) (2 ^ ring.lock_bits) (first_of ring.lock_bits device) given
       pub home : ComeHome (places_at ring device) (out stores_then.now) (out stores_now.now)
       pub faults_are : store_faults stores_now.now ≡ faults_by (store_faults stores.now) fault
@@ -152,8 +144,8 @@ module _ {V : Type 0} (tells : V → Bool) (files : V → Folders) (faults : V �
       pub calls_are : store_calls stores_now.now ≡ raised_by tried (store_calls stores_then.now)
       pub same_stores : stores_now.ghost_name ≡ stores.ghost_name
 
-    -- what is known however it ends: what giving the volumes back asks for, and what the trail tells after that
-    pub record IsEnded (faults_now : ℕ) (w : AllNodes V) (stores_now : MutBor S) : Type 0 where
+    -- what is known however it ends: what giving the volumes and keepers back asks for, and what the trail tells after that
+    pub record IsEnded (faults_now : ℕ) (w : AllNodes V K) (stores_now : MutBor S) : Type 0 where
       pub devices : w.devices ≡ length ring.devices
       pub lock_bits : w.lock_bits ≡ ring.lock_bits
       pub lifted : (device : ℕ) → w.lifted ≡ Some device → device < length ring.devices
@@ -161,31 +153,29 @@ module _ {V : Type 0} (tells : V → Bool) (files : V → Folders) (faults : V �
       pub faults_are : store_faults stores_now.now ≡ faults_now
       pub calls_are : AreCalled ring w.lifted w.lines (store_calls stores.now) (store_calls stores_now.now)
       pub same_stores : stores_now.ghost_name ≡ stores.ghost_name
-      pub tells_trail : (now : ℕ → ℕ → Option V) → IsWorld (without_lines w)
-          → ((l : ℕ) (k : Kept V) → slice_get w.slots l ≡ Some (slots.Open k) → at_place now (2 ^ ring.lock_bits) l ≡ Some k.volume)
+      pub tells_trail : (now : ℕ → ℕ → Option (V × K)) → IsWorld (without_lines w)
+          → AllRest tells files faults keeps ring now w
           → ((device : ℕ) → w.lifted ≡ Some device → (d s : ℕ) → places_at ring device d s ≡ true → now d s ≡ rests stores_now.now d s)
-          → AllTellOn tells files faults ring w → IsTrail tells files faults ring began w now w.lines
+          → AllTellOn tells files faults keeps ring w → IsTrail tells files faults keeps ring began w now w.lines
 
-    pub way-begun : (volumes : List V) → length volumes ≡ length ring.devices * 2 ^ ring.lock_bits → began ≡ opened run_bytes ring volumes
+    pub way-begun : (parts : List (V × K)) → length parts ≡ length ring.devices * 2 ^ ring.lock_bits → began ≡ opened run_bytes ring parts
         → ((d s : ℕ) → out stores.now d s ≡ places_of ring d s) → IsUnderWay ring began stores
-    way-begun volumes count is are_out = record {
+    way-begun parts count is are_out = record {
       ring_is = refl;
-      ready = ready-of out ring began stores.now (ap (λ (w : AllNodes V). w.lifted) is)
-          (ap (λ (w : AllNodes V). nodes_of (shown w.lifted w.devices) w.lock_bits w.power w.secrets) is) are_out;
+      ready = ready-of out ring began stores.now (ap (λ (w : AllNodes V K). w.lifted) is)
+          (ap (λ (w : AllNodes V K). nodes_of (shown w.lifted w.devices) w.lock_bits w.power w.secrets) is) are_out;
       faults_are = refl;
       calls_are = none-called (2 ^ ring.lock_bits) (store_calls stores.now) (store_calls stores.now) refl
-          ∙ ap (λ (w : AllNodes V). raised_by (restarts_in w.lines * 2 ^ ring.lock_bits) (store_calls stores.now)) (sym is);
+          ∙ ap (λ (w : AllNodes V K). raised_by (restarts_in w.lines * 2 ^ ring.lock_bits) (store_calls stores.now)) (sym is);
       same_stores = refl;
       runs = runs-itself (see began);
-      none = λ device place. subst (λ (w : AllNodes V). (see w).containers.holds device place ≡ None) (sym is)
-          (empty-holds volumes (place_lock ring.lock_bits ring.power device place) place);
-      new = ap (λ (w : AllNodes V). w.lines) is;
+      new = ap (λ (w : AllNodes V K). w.lines) is;
     }
 
-    module _ (ring_now ring_after : Ring) (w after : AllNodes V) (stores_now stores_after : MutBor S) (request : Request)
+    module _ (ring_now ring_after : Ring) (w after : AllNodes V K) (stores_now stores_after : MutBor S) (request : Request)
         (way : IsUnderWay ring_now w stores_now) where
       goes-on : (moment : ℕ) (response : Response)
-          → NodesAnswer tells files faults store_faults store_calls out ring_now ring_after w after stores_now stores_after request moment response
+          → NodesAnswer tells files faults keeps store_faults store_calls out ring_now ring_after w after stores_now stores_after request moment response
           → IsUnderWay ring_after after stores_after
       goes-on moment response answer = record {
         ring_is = answer.ring_is ∙ way.ring_is;
@@ -197,12 +187,11 @@ module _ {V : Type 0} (tells : V → Bool) (files : V → Folders) (faults : V �
             way.ring_is answer.calls_are);
         same_stores = answer.same_stores ∙ way.same_stores;
         runs = runs-join (see began) (see w) (see after) way.runs answer.may.runs;
-        none = way.none;
         new = way.new;
       }
 
       halts : (fault : ServerFault)
-          → NodesHalt tells files faults store_faults store_calls rests out ring_now ring_after w after stores_now stores_after request fault
+          → NodesHalt tells files faults keeps store_faults store_calls rests out ring_now ring_after w after stores_now stores_after request fault
           → IsHalted fault after stores_after
       halts fault halt = record {
         ring_then = ring_now;
@@ -223,25 +212,25 @@ module _ {V : Type 0} (tells : V → Bool) (files : V → Folders) (faults : V �
       }
 
       says : (moment : ℕ) (response : Response)
-          → NodesAnswer tells files faults store_faults store_calls out ring_now ring_after w after stores_now stores_after request moment response
-          → MayAnswer tells files faults ring w request moment response after
-      says moment response answer = subst (λ (r : Ring). MayAnswer tells files faults r w request moment response after) way.ring_is answer.may
+          → NodesAnswer tells files faults keeps store_faults store_calls out ring_now ring_after w after stores_now stores_after request moment response
+          → MayAnswer tells files faults keeps ring w request moment response after
+      says moment response answer = subst (λ (r : Ring). MayAnswer tells files faults keeps r w request moment response after) way.ring_is answer.may
 
       says-halt : (fault : ServerFault)
-          → NodesHalt tells files faults store_faults store_calls rests out ring_now ring_after w after stores_now stores_after request fault
-          → MayHalt tells files faults ring w request after
-      says-halt fault halt = subst (λ (r : Ring). MayHalt tells files faults r w request after) way.ring_is halt.may
+          → NodesHalt tells files faults keeps store_faults store_calls rests out ring_now ring_after w after stores_now stores_after request fault
+          → MayHalt tells files faults keeps ring w request after
+      says-halt fault halt = subst (λ (r : Ring). MayHalt tells files faults keeps r w request after) way.ring_is halt.may
 
     -- ---- the end
 
     -- from what the nodes began with
-    run-of : (w : AllNodes V) → RunsOn (see began) (see w) → (lines : List RunLine) × GoesOn (see began) (machine_of (see began)) lines (see w)
+    run-of : (w : AllNodes V K) → RunsOn (see began) (see w) → (lines : List RunLine) × GoesOn (see began) (machine_of (see began)) lines (see w)
     run-of w runs = runs (machine_of (see began)) (record { objects = refl; containers = refl })
 
     none-lifted : (device : ℕ) → None ≡ Some device → ⊥
     none-lifted device is = cc
 
-    ended : (ring_now : Ring) (w : AllNodes V) (stores_now : MutBor S) → IsUnderWay ring_now w stores_now → IsEnded (store_faults stores.now) w stores_now
+    ended : (ring_now : Ring) (w : AllNodes V K) (stores_now : MutBor S) → IsUnderWay ring_now w stores_now → IsEnded (store_faults stores.now) w stores_now
     ended ring_now w stores_now way = record {
       devices = same-devices w.lifted w.devices (length ring.devices) way.ready.whole (ap (λ (n : SightNodes). n.devices) way.ready.nodes);
       lock_bits = ap (λ (n : SightNodes). n.lock_bits) way.ready.nodes;
@@ -252,10 +241,10 @@ module _ {V : Type 0} (tells : V → Bool) (files : V → Folders) (faults : V �
       same_stores = way.same_stores;
       tells_trail = λ now is resting same told_on.
           let run = run-of w way.runs in
-          trail-of began w w (relined w is) way.ready.whole way.ready.nodes run.0 run.1 now way.none way.new refl (λ device place. refl) resting told_on;
+          trail-of began w w (relined w is) way.ready.whole way.ready.nodes run.0 run.1 now way.new refl resting told_on;
     }
 
-    module _ (fault : ServerFault) (after : AllNodes V) (stores_now : MutBor S) (h : IsHalted fault after stores_now) where
+    module _ (fault : ServerFault) (after : AllNodes V K) (stores_now : MutBor S) (h : IsHalted fault after stores_now) where
       old-devices : h.w.devices ≡ length ring.devices
       old-devices = same-devices h.w.lifted h.w.devices (length ring.devices) h.way.ready.whole (ap (λ (n : SightNodes). n.devices) h.way.ready.nodes)
 
@@ -263,40 +252,41 @@ module _ {V : Type 0} (tells : V → Bool) (files : V → Folders) (faults : V �
       old-bits = ap (λ (n : SightNodes). n.lock_bits) h.way.ready.nodes
 
       out-is : after.lifted ≡ Some h.device
-      out-is = ap (λ (x : AllNodes V). x.lifted) h.up.rest
+      out-is = ap (λ (x : AllNodes V K). x.lifted) h.up.rest
 
-      -- where the volumes came to rest that were there before the device was lifted
-      rests-old : (now : ℕ → ℕ → Option V)
-          → ((l : ℕ) (k : Kept V) → slice_get after.slots l ≡ Some (slots.Open k) → at_place now (2 ^ ring.lock_bits) l ≡ Some k.volume)
+      -- where the volumes and keepers came to rest that were there before the device was lifted
+      rests-old : (now : ℕ → ℕ → Option (V × K))
+          → AllRest tells files faults keeps ring now after
           → ((device : ℕ) → after.lifted ≡ Some device → (d s : ℕ) → places_at ring device d s ≡ true → now d s ≡ rests stores_now.now d s)
-          → (l : ℕ) (k : Kept V) → slice_get h.w.slots l ≡ Some (slots.Open k) → at_place now (2 ^ ring.lock_bits) l ≡ Some k.volume
-      rests-old now resting same = rests-before tells files faults ring h.w after old-bits h.device h.given h.up (rests stores_now.now) now h.resting resting
+          → AllRest tells files faults keeps ring now h.w
+      rests-old now resting same = rests-before tells files faults keeps ring h.w after old-bits h.device h.given h.up (rests stores_now.now) now h.resting
+          resting
           same
 
       halt-ended : IsEnded (faults_by (store_faults stores.now) fault) after stores_now
       halt-ended = record {
-        devices = ap (λ (x : AllNodes V). x.devices) h.up.rest ∙ old-devices;
-        lock_bits = ap (λ (x : AllNodes V). x.lock_bits) h.up.rest ∙ old-bits;
+        devices = ap (λ (x : AllNodes V K). x.devices) h.up.rest ∙ old-devices;
+        lock_bits = ap (λ (x : AllNodes V K). x.lock_bits) h.up.rest ∙ old-bits;
         lifted = λ device is. subst (λ (d : ℕ). d < length ring.devices) (some-is (sym out-is ∙ is))
             (subst (λ (n : ℕ). h.device < n) old-devices h.up.is_device);
         are_out = λ d s. h.home d s ∙ (ap (λ (b : Bool). not (places_at ring h.device d s) && b) (h.way.ready.are_out d s)
             ∙ (swap-and (places_at ring h.device d s) (places_of ring d s) ∙ sym (ap (λ (o : Option ℕ). out_but ring o d s) out-is)));
         faults_are = h.faults_are;
         calls_are = out-called ring after.lifted h.device after.lines h.w.lines (store_calls stores.now) (store_calls h.stores_then.now)
-            (store_calls stores_now.now) h.tried out-is (ap (λ (x : AllNodes V). x.lines) h.up.rest) h.most h.way.calls_are h.calls_are;
+            (store_calls stores_now.now) h.tried out-is (ap (λ (x : AllNodes V K). x.lines) h.up.rest) h.most h.way.calls_are h.calls_are;
         same_stores = h.same_stores;
         tells_trail = λ now is resting same told_on.
             let run = run-of h.w h.way.runs in
-            trail-of began h.w after h.up.world h.up.whole h.way.ready.nodes run.0 run.1 now h.way.none h.way.new (ap (λ (x : AllNodes V). x.lines) h.up.rest)
-            (λ device place. ap (λ (x : AllNodes V). (see x).containers.holds device place) h.up.rest) (rests-old now resting same)
-            (tell-before tells files faults ring h.w after old-bits h.device h.given h.up told_on);
+            trail-of began h.w after h.up.world h.up.whole h.way.ready.nodes run.0 run.1 now h.way.new (ap (λ (x : AllNodes V K). x.lines) h.up.rest)
+            (rests-old now resting same)
+            (tell-before tells files faults keeps ring h.w after old-bits h.device h.given h.up told_on);
       }
 
     -- the count of faults of the stores at the end
     abbrev pub faults_at : ℕ → ℕ
     faults_at status = if status == statuses.store_fault then raised (store_faults stores.now) else store_faults stores.now
 
-    module _ {N : Type 0} (ring_of : N → Ring) (world_of : N → AllNodes V) (stores_of : N → MutBor S) where
+    module _ {N : Type 0} (ring_of : N → Ring) (world_of : N → AllNodes V K) (stores_of : N → MutBor S) where
       over : (n : N) (result : Result ⊤ SessionFault)
           → EndsAs (λ (n : N). IsUnderWay (ring_of n) (world_of n) (stores_of n))
           (λ (fault : ServerFault) (n : N). IsHalted fault (world_of n) (stores_of n)) n result
@@ -322,13 +312,14 @@ module _ {V : Type 0} (tells : V → Bool) (files : V → Folders) (faults : V �
             (stores_of new) request p fault halt)
             start source sink moments after result way session)
 
-        pub session-said : IsSession (λ request. false) (MayAnswer tells files faults ring) (λ w r moment fault. MayHalt tells files faults ring w r)
+        pub session-said : IsSession (λ request. false) (MayAnswer tells files faults keeps ring)
+            (λ w r moment fault. MayHalt tells files faults keeps ring w r)
             (world_of start) source sink moments
             (world_of after) result
         session-said = session-mapped _ _ _ (λ (n : N). IsUnderWay (ring_of n) (world_of n) (stores_of n))
             (λ old request moment response new p answer.
             goes-on (ring_of old) (ring_of new) (world_of old) (world_of new) (stores_of old) (stores_of new) request p moment response answer)
-            (MayAnswer tells files faults ring) (λ w r moment fault. MayHalt tells files faults ring w r) world_of
+            (MayAnswer tells files faults keeps ring) (λ w r moment fault. MayHalt tells files faults keeps ring w r) world_of
             (λ old request moment response new p answer.
             says (ring_of old) (ring_of new) (world_of old) (world_of new) (stores_of old) (stores_of new) request p moment response answer)
             (λ old request moment fault new p halt.
@@ -348,11 +339,11 @@ module _ {V : Type 0} (tells : V → Bool) (files : V → Folders) (faults : V �
 
   -- ---- a session from nodes in which nothing has happened
 
-  module _ {S : Type 0} (store_faults store_calls : S → ℕ) (rests : S → ℕ → ℕ → Option V) (out : S → ℕ → ℕ → Bool)
-      (start : Nodes S V) (source sink : Passage) (moments : List ℕ) (after : Nodes S V) (result : Result ⊤ SessionFault)
+  module _ {S : Type 0} (store_faults store_calls : S → ℕ) (rests : S → ℕ → ℕ → Option (V × K)) (out : S → ℕ → ℕ → Bool)
+      (start : Nodes S V K) (source sink : Passage) (moments : List ℕ) (after : Nodes S V K) (result : Result ⊤ SessionFault)
       (session : SessionOver store_faults store_calls rests out ring_in world_in stores_in start source sink moments after result)
       (same : start.ring.now ≡ ring)
-      (begun : (volumes : List V) × (length volumes ≡ length ring.devices * 2 ^ ring.lock_bits) × (start.network.door ≡ opened run_bytes ring volumes))
+      (begun : (parts : List (V × K)) × (length parts ≡ length ring.devices * 2 ^ ring.lock_bits) × (start.network.door ≡ opened run_bytes ring parts))
       (are_out : (d s : ℕ) → out start.stores.now d s ≡ places_of ring d s) where
     way : IsUnderWay store_faults store_calls rests out start.network.door start.stores start.ring.now start.network.door start.stores
     way = subst (λ (r : Ring). IsUnderWay store_faults store_calls rests out start.network.door start.stores r start.network.door start.stores) (sym same)
@@ -363,38 +354,42 @@ module _ {V : Type 0} (tells : V → Bool) (files : V → Folders) (faults : V �
     nodes-ended = session-over store_faults store_calls rests out start.network.door start.stores ring_in world_in stores_in start source sink moments after
         result way session
 
-    -- what was run, once the volumes were given back
-    pub nodes-run : (world : AllNodes V) (rests_now : ℕ → ℕ → Option V) (stores_now : Counts) (clock clock_now : Option (List ℕ)) (steps : List Line)
+    -- what was run, once the volumes and keepers were given back
+    pub nodes-run : (world : AllNodes V K) (rests_now : ℕ → ℕ → Option (V × K)) (stores_now : Counts) (clock clock_now : Option (List ℕ)) (steps : List Line)
         (read : List ℕ) (status : ℕ)
         → status ≡ status_by result → steps ≡ after.network.door.lines → world ≡ without_lines after.network.door → read ≡ moments →
         TicksEach clock clock_now moments
-        → IsWorld world → ((l : ℕ) (k : Kept V) → slice_get world.slots l ≡ Some (slots.Open k) → at_place rests_now (2 ^ ring.lock_bits) l ≡ Some k.volume)
+        → IsWorld world → AllRest tells files faults keeps ring rests_now world
         → ((device : ℕ) → world.lifted ≡ Some device → (d s : ℕ) → places_at ring device d s ≡ true → rests_now d s ≡ rests after.stores.now d s)
-        → All (SlotTellsOn tells files faults) world.slots → stores_now.faults ≡ store_faults after.stores.now → stores_now.calls ≡ store_calls after.stores.now
+        → All (SlotTellsOn tells files faults) world.slots → AreContainers world.devices world.lock_bits world.lifted world.containers
+        → AreLocks keeps.tells world.containers → stores_now.faults ≡ store_faults after.stores.now → stores_now.calls ≡ store_calls after.stores.now
         → (calls calls_now : ℕ) → PutsForSession source.before moments calls calls_now result
-        → IsRunOver tells files faults ring start.network.door rests_now (counts store_calls store_faults start.stores.now) stores_now source
+        → IsRunOver tells files faults keeps ring start.network.door rests_now (counts store_calls store_faults start.stores.now) stores_now source
         (output_of sink calls calls_now) clock clock_now (record { steps = steps; moments = read }) status
-    nodes-run world rests_now stores_now clock clock_now steps read status status_is steps_are taken read_is ticks is resting same_out told_on faults_are
+    nodes-run world rests_now stores_now clock clock_now steps read status status_is steps_are taken read_is ticks is resting same_out told_on there locks
+        faults_are
         calls_are calls calls_now puts = record {
           after = after.network.door;
           ends = record {
             ended = result;
             status_is = status_is;
-            session = subst (λ (ms : List ℕ). IsSession (λ request. false) (MayAnswer tells files faults ring)
-                (λ w r moment fault. MayHalt tells files faults ring w r) start.network.door source sink ms
+            session = subst (λ (ms : List ℕ). IsSession (λ request. false) (MayAnswer tells files faults keeps ring)
+                (λ w r moment fault. MayHalt tells files faults keeps ring w r) start.network.door source sink ms
                 after.network.door result) (sym read_is)
                 (session-said store_faults store_calls rests out start.network.door start.stores ring_in world_in stores_in start source sink moments
                 after result way session);
           };
           puts = subst (λ (ms : List ℕ). PutsForSession source.before ms calls calls_now result) (sym read_is) puts;
           steps = steps_are;
-          told = subst (λ (ls : List Line). IsTrail tells files faults ring start.network.door after.network.door rests_now ls) (sym steps_are)
-              (nodes-ended.tells_trail rests_now (subst (λ (w : AllNodes V). IsWorld w) taken is)
-              (λ l k at. resting l k (ap (λ (w : AllNodes V). slice_get w.slots l) taken ∙ at))
-              (λ device lifted. same_out device (ap (λ (w : AllNodes V). w.lifted) taken ∙ lifted))
-              (all-tell-on tells files faults ring after.network.door
-              (subst (All (SlotTellsOn tells files faults)) (ap (λ (w : AllNodes V). w.slots) taken) told_on)));
-          meets = exchange_meets tells files faults;
+          told = subst (λ (ls : List Line). IsTrail tells files faults keeps ring start.network.door after.network.door rests_now ls) (sym steps_are)
+              (nodes-ended.tells_trail rests_now (subst (λ (w : AllNodes V K). IsWorld w) taken is)
+              (subst (AllRest tells files faults keeps ring rests_now) taken resting)
+              (λ device lifted. same_out device (ap (λ (w : AllNodes V K). w.lifted) taken ∙ lifted))
+              (all-tell-on tells files faults keeps ring after.network.door
+              (subst (All (SlotTellsOn tells files faults)) (ap (λ (w : AllNodes V K). w.slots) taken) told_on)
+              (subst (λ (w : AllNodes V K). AreContainers w.devices w.lock_bits w.lifted w.containers) taken there)
+              (subst (λ (w : AllNodes V K). AreLocks keeps.tells w.containers) taken locks)));
+          meets = exchange_meets tells files faults keeps;
           moments = subst (TicksEach clock clock_now) (sym read_is) ticks;
           store_faults_are = faults_are ∙ (nodes-ended.faults_are ∙ ap (faults_at store_faults store_calls rests out start.network.door start.stores)
               (sym status_is));

@@ -1,5 +1,7 @@
 -- What is answered on a connection over a door. (HTTP/1.1, RFC 9112, as to where a connection ends; the rest is this project's own.)
 use Rattle.std.specs.Prelude.{◌≡◌, ⊤, ℕ, List, All, MatchBool, Option, Result, ◌⊎◌}
+use Rattle.sw_container_server.specs.Serving as containers
+use Rattle.sw_container_server.specs.Targets.{is_for_containers}
 use Rattle.sw_control.specs.Asking.{is_control}
 use Rattle.sw_message.specs.declared.request.Request.{Request}
 use Rattle.sw_message.specs.declared.response.Response.{Response}
@@ -27,7 +29,9 @@ module _ {D : Type 0} (sight : D → Sight) where
       MatchBool (is_control r.path) ((new ≡ old) × ((response ≡ bare 404) ⊎ (response ≡ bare 500)))
       (MatchBool (is_replication_of r)
       (replicas.IsAnswered sight old new ring r response ⊎ ((response ≡ bare 500) × replicas.IsGivenUp sight old new ring r))
-      (objects.IsAnswered sight old new ring r moment response ⊎ ((response ≡ bare 500) × objects.IsGivenUp sight old new ring r moment)))
+      (MatchBool (is_for_containers r)
+      (containers.IsAnswered sight old new ring r response ⊎ ((response ≡ bare 500) × containers.IsGivenUp sight old new ring r))
+      (objects.IsAnswered sight old new ring r moment response ⊎ ((response ≡ bare 500) × objects.IsGivenUp sight old new ring r moment))))
 
   -- One connection, at one moment: each request is answered by what the nodes are after those before it, to the end of what its client sends, or
   -- to the first request that asks to close. The status tells how it ended

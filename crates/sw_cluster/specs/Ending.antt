@@ -1,5 +1,5 @@
 -- How a session ends, by its status, and what its trail tells. (This project's own.)
-use Rattle.std.specs.Prelude.{◌≡◌, ⊤, ℕ, ◌*◌, ◌^◌, ◌<◌, ◌≤◌, ◌==◌, ◌&&◌, Bool, true, false, List, [], ◌++◌, length, Option, None, Some, Result}
+use Rattle.std.specs.Prelude.{◌≡◌, ⊤, ℕ, ◌*◌, ◌^◌, ◌<◌, ◌≤◌, ◌==◌, ◌&&◌, Bool, true, false, List, [], ◌++◌, length, Option, Some, Result}
 use Rattle.std.specs.Prelude.{Ok, Err, ◌⊎◌, if◌then◌else◌}
 use Rattle.sw_outside.specs.Readings.{TicksEach}
 use Rattle.sw_message.specs.declared.request.Request.{Request}
@@ -13,7 +13,7 @@ use Rattle.sw_object_steps.specs.Journals.{Hash}
 use Rattle.sw_ring.specs.declared.ring.Ring.{Ring}
 use Rattle.sw_machine.specs.Machine.{Machine, RunLine, Runs, came_in, machine_of, writes_at}
 use Rattle.sw_state.specs.States.{state_of, writes_of}
-use Rattle.sw_core.specs.Worlds.{AllNodes, lock_of, nodes_of, opened, sight_of, stripe_at}
+use Rattle.sw_core.specs.Worlds.{KeeperSeen, AllNodes, lock_of, nodes_of, opened, place_lock, sight_of, stripe_at}
 use Rattle.sw_hashdir.specs.Places.{holds, in_order}
 use Rattle.sw_hashpath.specs.HashParts.{partition_of}
 use Rattle.sw_outside.specs.Counts.{raised}
@@ -21,7 +21,7 @@ use Rattle.sw_outside.specs.declared.store_error.StoreError.{StoreError}
 use Rattle.sw_outside.specs.declared.store_error.StoreError.TheVariants as store_errors
 use Rattle.sw_peer.specs.declared.line.Line.{Line}
 use Rattle.sw_stores.specs.Places.{IsAsItWas}
-use Rattle.sw_stores.specs.Volumes.{AreStarted, RestsAgain}
+use Rattle.sw_stores.specs.Starting.{AreStarted, RestsAgain}
 use Rattle.sw_volume.specs.Tree.{Folders}
 use Rattle.sw_volume.specs.Volume.{raised_by}
 use Rattle.sw_nodes.specs.Exchanging.{ExchangeMeets}
@@ -49,64 +49,73 @@ pub record Ends {S : Type 0} (last : Request → Bool) (may : Serves S) (halts :
   pub status_is : status ≡ status_by ended
   pub session : IsSession last may halts start source sink moments after ended
 
-module _ {V : Type 0} (tells : V → Bool) (files : V → Folders) (faults : V → ℕ) where
-  -- At the place of each lock rests a volume, whose count of faults is the lock's in the machine. Where the lock told its contents as the run began, its
-  -- files stand for what they stood for then, joined with the writes that reached there since, whatever failed there or elsewhere; and they are in order,
-  -- so that a next run begins with a lock that tells its contents
-  pub record IsStored (ring : Ring) (began : AllNodes V) (machine : Machine) (rests : ℕ → ℕ → Option V) (device : ℕ) (hash : Hash) : Type 0 where
-    pub volume : V
-    pub resting : rests device (stripe_at ring.lock_bits ring.power (partition_of hash ring.power)) ≡ Some volume
-    pub stands : ((sight_of tells files faults began).objects.seen (lock_of ring.lock_bits ring.power device hash)).told ≡ true
-        → holds ring.secrets ring.power (files volume) hash
-        ≡ state_of (writes_of ((sight_of tells files faults began).objects.holds device hash).state ++ writes_at machine device hash)
-    pub order : ((sight_of tells files faults began).objects.seen (lock_of ring.lock_bits ring.power device hash)).told ≡ true
-        → (tells volume && in_order ring.secrets ring.power (files volume)) ≡ true
-    pub counts : (machine.objects.half.seen (lock_of ring.lock_bits ring.power device hash)).faults ≡ faults volume
+module _ {V K : Type 0} (tells : V → Bool) (files : V → Folders) (faults : V → ℕ) (keeps : KeeperSeen K) where
+  -- At the place of each object lock rests a volume, whose count of faults is the lock's in the machine. Where the lock told its contents as the run
+  -- began, its files stand for what they stood for then, joined with the writes that reached there since, whatever failed there or elsewhere; and they are
+  -- in order, so that a next run begins with a lock that tells its contents
+  pub record IsStored (ring : Ring) (began : AllNodes V K) (machine : Machine) (rests : ℕ → ℕ → Option (V × K)) (device : ℕ) (hash : Hash) : Type 0 where
+    pub part : V × K
+    pub resting : rests device (stripe_at ring.lock_bits ring.power (partition_of hash ring.power)) ≡ Some part
+    pub stands : ((sight_of tells files faults keeps began).objects.seen (lock_of ring.lock_bits ring.power device hash)).told ≡ true
+        → holds ring.secrets ring.power (files part.0) hash
+        ≡ state_of (writes_of ((sight_of tells files faults keeps began).objects.holds device hash).state ++ writes_at machine device hash)
+    pub order : ((sight_of tells files faults keeps began).objects.seen (lock_of ring.lock_bits ring.power device hash)).told ≡ true
+        → (tells part.0 && in_order ring.secrets ring.power (files part.0)) ≡ true
+    pub counts : (machine.objects.half.seen (lock_of ring.lock_bits ring.power device hash)).faults ≡ faults part.0
+
+  -- Beside it rests the keeper of the container lock, whose count of faults is that lock's in the machine. Where the lock told its tables as the run began,
+  -- the keeper tells those that it has, and they are the machine's
+  pub record IsKept (ring : Ring) (began : AllNodes V K) (machine : Machine) (rests : ℕ → ℕ → Option (V × K)) (device : ℕ) (place : Place) : Type 0 where
+    pub part : V × K
+    pub resting : rests device (stripe_at ring.lock_bits ring.power (partition_of place.hash ring.power)) ≡ Some part
+    pub told : ((sight_of tells files faults keeps began).containers.seen (place_lock ring.lock_bits ring.power device place)).told ≡ true
+        → keeps.tells part.1 ≡ true
+    pub stands : ((sight_of tells files faults keeps began).containers.seen (place_lock ring.lock_bits ring.power device place)).told ≡ true
+        → keeps.holds part.1 place ≡ machine.containers.half.holds device place
+    pub counts : (machine.containers.half.seen (place_lock ring.lock_bits ring.power device place)).faults ≡ keeps.faults part.1
 
   -- The trail tells what happened: its steps are those that came in a run of the machine from what the nodes began with, so each is answered by
-  -- what had reached its device before, and what came in a message had been sent. In the end the files stand for what reached. No container was there
-  -- when the nodes began, and in the end the devices hold the machine's.
-  pub record IsTrail (ring : Ring) (began after : AllNodes V) (rests : ℕ → ℕ → Option V) (steps : List Line) : Type 0 where
+  -- what had reached its device before, and what came in a message had been sent. In the end the files stand for what reached, and the keepers have the
+  -- machine's tables.
+  pub record IsTrail (ring : Ring) (began after : AllNodes V K) (rests : ℕ → ℕ → Option (V × K)) (steps : List Line) : Type 0 where
     pub lines : List RunLine
     pub came : came_in lines ≡ steps
     pub machine : Machine
-    pub run : Runs (nodes_of (length ring.devices) ring.lock_bits ring.power ring.secrets) (machine_of (sight_of tells files faults began)) lines machine
+    pub run : Runs (nodes_of (length ring.devices) ring.lock_bits ring.power ring.secrets) (machine_of (sight_of tells files faults keeps began)) lines machine
     pub stored : (device : ℕ) (hash : Hash) → device < length ring.devices → IsStored ring began machine rests device hash
-    pub none : (device : ℕ) (place : Place) → (sight_of tells files faults began).containers.holds device place ≡ None
-    pub holds : (device : ℕ) (place : Place) → (sight_of tells files faults after).containers.holds device place
-        ≡ machine.containers.half.holds device place
+    pub kept : (device : ℕ) (place : Place) → device < length ring.devices → IsKept ring began machine rests device place
 
-  -- A session was run over these nodes of a ring, in which no request is a last one, and then their volumes were given back. Of its requests
+  -- A session was run over these nodes of a ring, in which no request is a last one, and then their volumes and keepers were given back. Of its requests
   -- two that pushed a partition, there and back, and were told that it is done, meet
-  pub record IsRunOver (ring : Ring) (began : AllNodes V) (rests_now : ℕ → ℕ → Option V) (stores stores_now : Counts)
+  pub record IsRunOver (ring : Ring) (began : AllNodes V K) (rests_now : ℕ → ℕ → Option (V × K)) (stores stores_now : Counts)
       (source : Passage) (sink : Output) (clock clock_now : Option (List ℕ)) (trail : Trail) (status : ℕ) : Type 0 where
-    pub after : AllNodes V
-    pub ends : Ends (λ request. false) (MayAnswer tells files faults ring) (λ w r moment fault. MayHalt tells files faults ring w r) began source
+    pub after : AllNodes V K
+    pub ends : Ends (λ request. false) (MayAnswer tells files faults keeps ring) (λ w r moment fault. MayHalt tells files faults keeps ring w r) began source
         (passage_of sink) trail.moments after status
     pub puts : PutsForSession source.before trail.moments sink.calls sink.calls_now ends.ended
     pub steps : trail.steps ≡ after.lines
     pub told : IsTrail ring began after rests_now trail.steps
-    pub meets : ExchangeMeets tells files faults
+    pub meets : ExchangeMeets tells files faults keeps
     pub moments : TicksEach clock clock_now trail.moments
     pub store_faults_are : stores_now.faults ≡ (if status == statuses.store_fault then raised stores.faults else stores.faults)
     pub store_calls_are : AreCalled ring after.lifted trail.steps stores.calls stores_now.calls
 
-  -- the volumes of a ring's nodes were started, by one call of the stores for each, and a session run over them
-  pub record IsRun (first : V → Type 0) (ring : Ring) (rests rests_now : ℕ → ℕ → Option V) (stores stores_now : Counts)
+  -- the volumes and keepers of a ring's nodes were started, by one call of the stores for each lock, and a session run over them
+  pub record IsRun (first : V × K → Type 0) (ring : Ring) (rests rests_now : ℕ → ℕ → Option (V × K)) (stores stores_now : Counts)
       (source : Passage) (sink : Output) (clock clock_now : Option (List ℕ)) (trail : Trail) (status : ℕ) : Type 0 where
-    pub volumes : List V
-    pub started : AreStarted first rests (2 ^ ring.lock_bits) 0 volumes
-    pub count : length volumes ≡ length ring.devices * 2 ^ ring.lock_bits
-    pub over : IsRunOver ring (opened run_bytes ring volumes) rests_now
+    pub parts : List (V × K)
+    pub started : AreStarted first rests (2 ^ ring.lock_bits) 0 parts
+    pub count : length parts ≡ length ring.devices * 2 ^ ring.lock_bits
+    pub over : IsRunOver ring (opened run_bytes ring parts) rests_now
         (record stores { calls = raised_by (length ring.devices * 2 ^ ring.lock_bits) stores.calls }) stores_now source sink clock clock_now trail status
 
--- the status of a command whose volumes couldn't be started
+-- the status of a command whose volumes and keepers couldn't be started
 abbrev pub start_status : StoreError → ℕ
 start_status store_errors.Failed = statuses.store_fault
 start_status store_errors.NoMemory = statuses.no_memory
 
--- the volumes of a ring's nodes couldn't be started, or there was no memory for the nodes. Those that were started rest again
-pub record AreUnstarted {V : Type 0} (first : V → Type 0) (ring : Ring) (rests rests_now : ℕ → ℕ → Option V) (stores stores_now : Counts)
+-- the volumes and keepers of a ring's nodes couldn't be started, or there was no memory for the nodes. Those that were started rest again
+pub record AreUnstarted {V K : Type 0} (first : V × K → Type 0) (ring : Ring) (rests rests_now : ℕ → ℕ → Option (V × K)) (stores stores_now : Counts)
     (status : ℕ) : Type 0 where
   pub why : ((status ≡ statuses.store_fault) × (stores_now.faults ≡ raised stores.faults)) ⊎
       ((status ≡ statuses.no_memory) × (stores_now.faults ≡ stores.faults))
@@ -116,7 +125,7 @@ pub record AreUnstarted {V : Type 0} (first : V → Type 0) (ring : Ring) (rests
   pub resting : (device stripe : ℕ) → RestsAgain first (rests device stripe) (rests_now device stripe)
 
 -- so no session was run
-pub record IsUnbegun {V : Type 0} (first : V → Type 0) (ring : Ring) (rests rests_now : ℕ → ℕ → Option V) (stores stores_now : Counts)
+pub record IsUnbegun {V K : Type 0} (first : V × K → Type 0) (ring : Ring) (rests rests_now : ℕ → ℕ → Option (V × K)) (stores stores_now : Counts)
     (source : Passage) (sink : Output) (clock clock_now : Option (List ℕ)) (trail : Trail) (status : ℕ) : Type 0 where
   pub unstarted : AreUnstarted first ring rests rests_now stores stores_now status
   pub nothing_read : (source.now ≡ source.before) × (source.faults_now ≡ source.faults)
@@ -126,11 +135,11 @@ pub record IsUnbegun {V : Type 0} (first : V → Type 0) (ring : Ring) (rests re
   pub no_moments : trail.moments ≡ []
 
 -- how `run` goes on with a ring, which it read by one call of the stores: from what rests in them then, which is what rested before
-pub record RunsRing {V : Type 0} (tells : V → Bool) (files : V → Folders) (faults : V → ℕ) (first : V → Type 0) (ring : Ring)
-    (rests rests_now : ℕ → ℕ → Option V) (stores stores_now : Counts)
+pub record RunsRing {V K : Type 0} (tells : V → Bool) (files : V → Folders) (faults : V → ℕ) (keeps : KeeperSeen K) (first : V × K → Type 0) (ring : Ring)
+    (rests rests_now : ℕ → ℕ → Option (V × K)) (stores stores_now : Counts)
     (source : Passage) (sink : Output) (clock clock_now : Option (List ℕ)) (trail : Trail) (status : ℕ) : Type 0 where
-  pub began : ℕ → ℕ → Option V
+  pub began : ℕ → ℕ → Option (V × K)
   pub same : IsAsItWas rests began
-  pub ends : IsRun tells files faults first ring began rests_now (record stores { calls = raised stores.calls }) stores_now source sink
+  pub ends : IsRun tells files faults keeps first ring began rests_now (record stores { calls = raised stores.calls }) stores_now source sink
       clock clock_now trail status
       ⊎ IsUnbegun first ring began rests_now (record stores { calls = raised stores.calls }) stores_now source sink clock clock_now trail status

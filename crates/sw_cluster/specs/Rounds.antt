@@ -4,22 +4,23 @@ use Rattle.std.specs.Prelude.{◌⊎◌}
 use Rattle.std.specs.Io.KnownBytes.{Appends}
 use Rattle.sw_machine.specs.Doors.{StandsFor}
 use Rattle.sw_machine.specs.Machine.{Machine, RunLine, Runs, machine_of}
-use Rattle.sw_core.specs.Worlds.{AllNodes, Lifts, nodes_of, opened}
+use Rattle.sw_core.specs.Worlds.{KeeperSeen, AllNodes, Lifts, nodes_of, opened}
 use Rattle.sw_outside.specs.Counts.{raised}
 use Rattle.sw_outside.specs.Doors.{Accepted, Finished}
 use Rattle.sw_outside.specs.Readings.{TicksEach}
 use Rattle.sw_outside.specs.Taken.{AppendsPart}
+use Rattle.sw_hashpath.specs.declared.place.Place.{Place}
 use Rattle.sw_object_steps.specs.Journals.{Hash}
 use Rattle.sw_peer.specs.Sights.{Sight}
 use Rattle.sw_quiet.specs.Quiet.{SetsDownQuietly, quiet_sight_of}
 use Rattle.sw_ring.specs.declared.ring.Ring.{Ring}
 use Rattle.sw_session.specs.Passages.{Passage}
 use Rattle.sw_stores.specs.Places.{IsAsItWas}
-use Rattle.sw_stores.specs.Volumes.{AreStarted}
+use Rattle.sw_stores.specs.Starting.{AreStarted}
 use Rattle.sw_volume.specs.Tree.{Folders}
 use Rattle.sw_volume.specs.Volume.{raised_by}
 use Rattle.sw_cluster.specs.Connections.{IsConnection, PutsForConnection}
-use Rattle.sw_cluster.specs.Ending.{AreUnstarted, IsStored}
+use Rattle.sw_cluster.specs.Ending.{AreUnstarted, IsKept, IsStored}
 use Rattle.sw_cluster.specs.Limits.{serve_bytes}
 use Rattle.sw_cluster.specs.Statuses as statuses
 use Rattle.sw_cluster.specs.Told.{Counts, DoorsTold, IsSilent, Output}
@@ -98,31 +99,31 @@ pub record AreHeard (rounds : List Round) (doors doors_now : DoorsTold) (clock c
   pub finished : doors_now.finished ≡ doors.finished ++ map (λ r. r.finished) rounds
   pub ticks : TicksEach clock clock_now (map (λ r. r.moment) rounds)
 
-module _ {V : Type 0} (tells : V → Bool) (files : V → Folders) (faults : V → ℕ) (ring : Ring) where
-  -- a device was restarted: its volumes were given back, and the same ones started again
-  pub record RestartsDevice (device : ℕ) (w after : AllNodes V) : Type 0 where
-    pub given : List V
-    pub mid : AllNodes V
-    pub up : Lifts tells files faults w device given mid
+module _ {V K : Type 0} (tells : V → Bool) (files : V → Folders) (faults : V → ℕ) (keeps : KeeperSeen K) (ring : Ring) where
+  -- a device was restarted: its volumes and keepers were given back, and the same ones started again
+  pub record RestartsDevice (device : ℕ) (w after : AllNodes V K) : Type 0 where
+    pub given : List (V × K)
+    pub mid : AllNodes V K
+    pub up : Lifts tells files faults keeps w device given mid
     pub down : SetsDownQuietly mid device given after
 
   -- so many first devices were restarted, in order
-  abbrev pub RestartsFirst : ℕ → AllNodes V → AllNodes V → Type 0
+  abbrev pub RestartsFirst : ℕ → AllNodes V K → AllNodes V K → Type 0
   RestartsFirst zero w after = after ≡ w
-  RestartsFirst (suc n) w after = (mid : AllNodes V) × RestartsFirst n w mid × RestartsDevice n mid after
+  RestartsFirst (suc n) w after = (mid : AllNodes V K) × RestartsFirst n w mid × RestartsDevice n mid after
 
   -- a connection was served
-  abbrev pub ServesOne : AllNodes V → Round → AllNodes V → Type 0
-  ServesOne w r after = IsServed (quiet_sight_of tells files faults) ring w r after
+  abbrev pub ServesOne : AllNodes V K → Round → AllNodes V K → Type 0
+  ServesOne w r after = IsServed (quiet_sight_of tells files faults keeps) ring w r after
 
   -- those of these connections were, each over the nodes as the ones before it left them, and after each all devices were restarted
-  abbrev pub ServesAll : AllNodes V → List Round → AllNodes V → Type 0
+  abbrev pub ServesAll : AllNodes V K → List Round → AllNodes V K → Type 0
   ServesAll w [] after = after ≡ w
   ServesAll w (r ∷ rounds) after =
-      (served : AllNodes V) × (again : AllNodes V) × ServesOne w r served × RestartsFirst (length ring.devices) served again × ServesAll again rounds after
+      (served : AllNodes V K) × (again : AllNodes V K) × ServesOne w r served × RestartsFirst (length ring.devices) served again × ServesAll again rounds after
 
   -- all were served, `after` are the nodes then, and no call failed
-  pub record AllServed (connections : ℕ) (began after : AllNodes V) (doors doors_now : DoorsTold) (clock clock_now : Option (List ℕ))
+  pub record AllServed (connections : ℕ) (began after : AllNodes V K) (doors doors_now : DoorsTold) (clock clock_now : Option (List ℕ))
       (stores stores_now : Counts) : Type 0 where
     pub rounds : List Round
     pub serves : ServesAll began rounds after
@@ -134,7 +135,7 @@ module _ {V : Type 0} (tells : V → Bool) (files : V → Folders) (faults : V �
     pub store_faults : stores_now.faults ≡ stores.faults
 
   -- some were, and the next one couldn't be accepted
-  pub record StopsWaiting (connections : ℕ) (began after : AllNodes V) (doors doors_now : DoorsTold) (clock clock_now : Option (List ℕ))
+  pub record StopsWaiting (connections : ℕ) (began after : AllNodes V K) (doors doors_now : DoorsTold) (clock clock_now : Option (List ℕ))
       (stores stores_now : Counts) : Type 0 where
     pub rounds : List Round
     pub serves : ServesAll began rounds after
@@ -144,13 +145,13 @@ module _ {V : Type 0} (tells : V → Bool) (files : V → Folders) (faults : V �
     pub store_calls : stores_now.calls ≡ raised_by (length rounds * length ring.devices * 2 ^ ring.lock_bits) stores.calls
 
   -- some were, and the next one as well, but after it a device couldn't be restarted, though those before it were. `after` are the nodes before that
-  pub record StopsRestarting (connections : ℕ) (began after : AllNodes V) (doors doors_now : DoorsTold) (clock clock_now : Option (List ℕ))
+  pub record StopsRestarting (connections : ℕ) (began after : AllNodes V K) (doors doors_now : DoorsTold) (clock clock_now : Option (List ℕ))
       (stores stores_now : Counts) : Type 0 where
     pub rounds : List Round
-    pub then : AllNodes V
+    pub then : AllNodes V K
     pub serves : ServesAll began rounds then
     pub last : Round
-    pub served : AllNodes V
+    pub served : AllNodes V K
     pub one : ServesOne then last served
     pub device : ℕ
     pub is_device : device < length ring.devices
@@ -158,12 +159,13 @@ module _ {V : Type 0} (tells : V → Bool) (files : V → Folders) (faults : V �
     pub heard : AreHeard (rounds ++ last ∷ []) doors doors_now clock clock_now
     pub few : length rounds < connections
     pub door_calls : doors_now.calls ≡ raised_by (length rounds + 1) doors.calls
-    pub tried : ℕ  -- how many of its volumes were to be started
+    pub tried : ℕ  -- how many of its locks' parts were to be started
     pub most : tried ≤ 2 ^ ring.lock_bits
     pub store_calls : stores_now.calls ≡ raised_by (tried + (length rounds * length ring.devices + device) * 2 ^ ring.lock_bits) stores.calls
 
   -- what became of the connections that were to be served. One call failed where that ended it, and else none
-  abbrev pub EndsConnections : ℕ → AllNodes V → AllNodes V → DoorsTold → DoorsTold → Option (List ℕ) → Option (List ℕ) → Counts → Counts → Result ⊤ ServeFault →
+  abbrev pub EndsConnections : ℕ → AllNodes V K → AllNodes V K → DoorsTold → DoorsTold → Option (List ℕ) → Option (List ℕ) → Counts → Counts → Result ⊤
+      ServeFault →
       Type 0
   EndsConnections connections began after doors doors_now clock clock_now stores stores_now (Ok _) =
       AllServed connections began after doors doors_now clock clock_now stores stores_now
@@ -182,7 +184,7 @@ module _ {V : Type 0} (tells : V → Bool) (files : V → Folders) (faults : V �
   -- ---- from the first line to the last
 
   -- it was listened, but that couldn't be said
-  pub record IsMute (port : ℕ) (began after : AllNodes V) (doors doors_now : DoorsTold) (out : Output) (clock clock_now : Option (List ℕ))
+  pub record IsMute (port : ℕ) (began after : AllNodes V K) (doors doors_now : DoorsTold) (out : Output) (clock clock_now : Option (List ℕ))
       (stores stores_now : Counts) (ended : Result ⊤ ServeFault) : Type 0 where
     pub fault : ServeFault
     pub ended_is : ended ≡ Err fault
@@ -198,7 +200,7 @@ module _ {V : Type 0} (tells : V → Bool) (files : V → Folders) (faults : V �
   Concludes connections out (Err fault) ended = (ended ≡ Err fault) × IsSilent out
 
   -- it was listened, that was said, and the connections were served
-  pub record IsOver (port connections : ℕ) (began after : AllNodes V) (doors doors_now : DoorsTold) (out : Output)
+  pub record IsOver (port connections : ℕ) (began after : AllNodes V K) (doors doors_now : DoorsTold) (out : Output)
       (clock clock_now : Option (List ℕ)) (stores stores_now : Counts) (ended : Result ⊤ ServeFault) : Type 0 where
     pub said : Option (List ℕ)  -- what the output had taken then, where it tells that
     pub says : Appends out.before said (listening_line port)
@@ -207,7 +209,7 @@ module _ {V : Type 0} (tells : V → Bool) (files : V → Folders) (faults : V �
     pub concludes : Concludes connections (record out { before = said; calls = raised out.calls }) came ended
 
   -- how serving ended, once it was listened. One call failed where that ended it, and else none
-  abbrev pub EndsServing : ℕ → ℕ → AllNodes V → AllNodes V → DoorsTold → DoorsTold → Output → Option (List ℕ) → Option (List ℕ) → Counts → Counts
+  abbrev pub EndsServing : ℕ → ℕ → AllNodes V K → AllNodes V K → DoorsTold → DoorsTold → Output → Option (List ℕ) → Option (List ℕ) → Counts → Counts
       → Result ⊤ ServeFault → Type 0
   EndsServing port connections began after doors doors_now out clock clock_now stores stores_now ended =
       IsMute port began after doors doors_now out clock clock_now stores stores_now ended
@@ -215,35 +217,37 @@ module _ {V : Type 0} (tells : V → Bool) (files : V → Folders) (faults : V �
 
   -- ---- what rests then
 
-  -- The nodes went through a run of the machine, and stand for the machine after it, and so do the files of their volumes, which rest in the stores
-  pub record HasServed (began after : AllNodes V) (rests : ℕ → ℕ → Option V) : Type 0 where
+  -- The nodes went through a run of the machine, and stand for the machine after it, and so do the files of their volumes and the tables of their keepers,
+  -- which rest in the stores
+  pub record HasServed (began after : AllNodes V K) (rests : ℕ → ℕ → Option (V × K)) : Type 0 where
     pub lines : List RunLine
     pub machine : Machine
     pub run : Runs (nodes_of (length ring.devices) ring.lock_bits ring.power ring.secrets)
-        (machine_of (quiet_sight_of tells files faults began)) lines machine
-    pub stands : StandsFor (quiet_sight_of tells files faults after) machine
-    pub stored : (device : ℕ) (hash : Hash) → device < length ring.devices → IsStored tells files faults ring began machine rests device hash
+        (machine_of (quiet_sight_of tells files faults keeps began)) lines machine
+    pub stands : StandsFor (quiet_sight_of tells files faults keeps after) machine
+    pub stored : (device : ℕ) (hash : Hash) → device < length ring.devices → IsStored tells files faults keeps ring began machine rests device hash
+    pub kept : (device : ℕ) (place : Place) → device < length ring.devices → IsKept tells files faults keeps ring began machine rests device place
 
-  -- over these nodes the connections were served, and then their volumes given back
-  pub record IsServedOver (port connections : ℕ) (began : AllNodes V) (rests_now : ℕ → ℕ → Option V) (doors doors_now : DoorsTold) (out : Output)
+  -- over these nodes the connections were served, and then their volumes and keepers given back
+  pub record IsServedOver (port connections : ℕ) (began : AllNodes V K) (rests_now : ℕ → ℕ → Option (V × K)) (doors doors_now : DoorsTold) (out : Output)
       (clock clock_now : Option (List ℕ)) (stores stores_now : Counts) (status : ℕ) : Type 0 where
-    pub after : AllNodes V
+    pub after : AllNodes V K
     pub ended : Result ⊤ ServeFault
     pub status_is : status ≡ serve_status ended
     pub ends : EndsServing port connections began after doors doors_now out clock clock_now stores stores_now ended
     pub served : HasServed began after rests_now
 
-  -- the volumes of a ring's nodes were started, by one call of the stores for each, and the connections served over them
-  pub record IsServing (first : V → Type 0) (port connections : ℕ) (rests rests_now : ℕ → ℕ → Option V) (doors doors_now : DoorsTold) (out : Output)
+  -- the volumes and keepers of a ring's nodes were started, by one call of the stores for each lock, and the connections served over them
+  pub record IsServing (first : V × K → Type 0) (port connections : ℕ) (rests rests_now : ℕ → ℕ → Option (V × K)) (doors doors_now : DoorsTold) (out : Output)
       (clock clock_now : Option (List ℕ)) (stores stores_now : Counts) (status : ℕ) : Type 0 where
-    pub volumes : List V
-    pub started : AreStarted first rests (2 ^ ring.lock_bits) 0 volumes
-    pub count : length volumes ≡ length ring.devices * 2 ^ ring.lock_bits
-    pub over : IsServedOver port connections (opened serve_bytes ring volumes) rests_now doors doors_now out clock clock_now
+    pub parts : List (V × K)
+    pub started : AreStarted first rests (2 ^ ring.lock_bits) 0 parts
+    pub count : length parts ≡ length ring.devices * 2 ^ ring.lock_bits
+    pub over : IsServedOver port connections (opened serve_bytes ring parts) rests_now doors doors_now out clock clock_now
         (record stores { calls = raised_by (length ring.devices * 2 ^ ring.lock_bits) stores.calls }) stores_now status
 
--- it couldn't be listened, and then no volume was touched
-pub record IsDeaf {V : Type 0} (rests rests_now : ℕ → ℕ → Option V) (doors doors_now : DoorsTold) (out : Output) (clock clock_now : Option (List ℕ))
+-- it couldn't be listened, and then no volume or keeper was touched
+pub record IsDeaf {V K : Type 0} (rests rests_now : ℕ → ℕ → Option (V × K)) (doors doors_now : DoorsTold) (out : Output) (clock clock_now : Option (List ℕ))
     (stores stores_now : Counts) (status : ℕ) : Type 0 where
   pub status_is : status ≡ statuses.door_fault
   pub doors_are : doors_now ≡ record doors { calls = raised doors.calls; faults = raised doors.faults }
@@ -256,33 +260,39 @@ pub record IsDeaf {V : Type 0} (rests rests_now : ℕ → ℕ → Option V) (doo
 abbrev pub listened : DoorsTold → DoorsTold
 listened doors = record doors { calls = raised doors.calls }
 
--- none was served, though it was listened: the volumes couldn't be started, or there was no memory for the nodes. Those that were started rest again
-pub record IsUnserved {V : Type 0} (first : V → Type 0) (ring : Ring) (rests rests_now : ℕ → ℕ → Option V) (doors doors_now : DoorsTold) (out : Output)
+-- none was served, though it was listened: the volumes and keepers couldn't be started, or there was no memory for the nodes. Those that were started rest
+-- again
+pub record IsUnserved {V K : Type 0} (first : V × K → Type 0) (ring : Ring) (rests rests_now : ℕ → ℕ → Option (V × K)) (doors doors_now : DoorsTold)
+    (out : Output)
     (clock clock_now : Option (List ℕ)) (stores stores_now : Counts) (status : ℕ) : Type 0 where
   pub unstarted : AreUnstarted first ring rests rests_now stores stores_now status
   pub doors_are : doors_now ≡ doors
   pub nothing_written : IsSilent out
   pub no_tick : clock_now ≡ clock
 
--- the volumes were started and the connections served over them, or none was served
-abbrev pub ServesListened : {V : Type 0} → (V → Bool) → (V → Folders) → (V → ℕ) → (V → Type 0) → Ring → ℕ → ℕ → (ℕ → ℕ → Option V) → (ℕ → ℕ → Option V)
+-- the volumes and keepers were started and the connections served over them, or none was served
+abbrev pub ServesListened : {V K : Type 0} → (V → Bool) → (V → Folders) → (V → ℕ) → KeeperSeen K → (V × K → Type 0) → Ring → ℕ → ℕ → (ℕ → ℕ → Option (V × K)) →
+    (ℕ → ℕ → Option (V × K))
     → DoorsTold → DoorsTold → Output → Option (List ℕ) → Option (List ℕ) → Counts → Counts → ℕ → Type 0
-ServesListened tells files faults first ring port connections rests rests_now doors doors_now out clock clock_now stores stores_now status =
-    IsServing tells files faults ring first port connections rests rests_now doors doors_now out clock clock_now stores stores_now status
+ServesListened tells files faults keeps first ring port connections rests rests_now doors doors_now out clock clock_now stores stores_now status =
+    IsServing tells files faults keeps ring first port connections rests rests_now doors doors_now out clock clock_now stores stores_now status
     ⊎ IsUnserved first ring rests rests_now doors doors_now out clock clock_now stores stores_now status
 
--- The port is opened first: where it can't be, no volume is touched.
-abbrev pub ServesAt : {V : Type 0} → (V → Bool) → (V → Folders) → (V → ℕ) → (V → Type 0) → Ring → ℕ → ℕ → (ℕ → ℕ → Option V) → (ℕ → ℕ → Option V)
+-- The port is opened first: where it can't be, no volume or keeper is touched.
+abbrev pub ServesAt : {V K : Type 0} → (V → Bool) → (V → Folders) → (V → ℕ) → KeeperSeen K → (V × K → Type 0) → Ring → ℕ → ℕ → (ℕ → ℕ → Option (V × K)) →
+    (ℕ → ℕ → Option (V × K))
     → DoorsTold → DoorsTold → Output → Option (List ℕ) → Option (List ℕ) → Counts → Counts → ℕ → Type 0
-ServesAt tells files faults first ring port connections rests rests_now doors doors_now out clock clock_now stores stores_now status =
+ServesAt tells files faults keeps first ring port connections rests rests_now doors doors_now out clock clock_now stores stores_now status =
     IsDeaf rests rests_now doors doors_now out clock clock_now stores stores_now status
-    ⊎ ServesListened tells files faults first ring port connections rests rests_now (listened doors) doors_now out clock clock_now stores stores_now status
+    ⊎ ServesListened tells files faults keeps first ring port connections rests rests_now (listened doors) doors_now out clock clock_now stores stores_now
+    status
 
 -- how `serve` goes on with a ring, which it read by one call of the stores: from what rests in them then, which is what rested before
-pub record ServesRing {V : Type 0} (tells : V → Bool) (files : V → Folders) (faults : V → ℕ) (first : V → Type 0) (ring : Ring) (port connections : ℕ)
-    (rests rests_now : ℕ → ℕ → Option V) (doors doors_now : DoorsTold) (out : Output) (clock clock_now : Option (List ℕ))
+pub record ServesRing {V K : Type 0} (tells : V → Bool) (files : V → Folders) (faults : V → ℕ) (keeps : KeeperSeen K) (first : V × K → Type 0) (ring : Ring)
+    (port connections : ℕ)
+    (rests rests_now : ℕ → ℕ → Option (V × K)) (doors doors_now : DoorsTold) (out : Output) (clock clock_now : Option (List ℕ))
     (stores stores_now : Counts) (status : ℕ) : Type 0 where
-  pub began : ℕ → ℕ → Option V
+  pub began : ℕ → ℕ → Option (V × K)
   pub same : IsAsItWas rests began
-  pub ends : ServesAt tells files faults first ring port connections began rests_now doors doors_now out clock clock_now
+  pub ends : ServesAt tells files faults keeps first ring port connections began rests_now doors doors_now out clock clock_now
       (record stores { calls = raised stores.calls }) stores_now status

@@ -1,3 +1,4 @@
+ghost use Rattle.sw_core.specs.Worlds.{keeper_seen};
 ghost use Rattle.std.specs.Prelude.{◌≡◌, ◌≢◌, ◌≤◌, ◌⊎◌, ℕ, true, false, [], length, map};
 ghost use Rattle.std.specs.String.{string_bytes};
 ghost use Rattle.sw_ring.specs.declared.bad_ring.BadRing.{BadRing};
@@ -64,7 +65,7 @@ pub fn cluster<R: Source, W: Sink, E: Sink, S: Stores, N: Doors, C: Clock>(
         ((source.new ≡ source.old) × (out.new ≡ out.old) × (clock.new ≡ clock.old) × (trail.new ≡ trail.old)
         × (S.calls stores.new ≡ raised (S.calls stores.old)))
         (λ bad. PutsLine (output E.taken E.faults E.calls errors.old errors.new) (line_of_ring bad))
-        (λ ring. RunsRing S.V.tells S.V.holds S.V.faults S.first ring (S.rests stores.old) (S.rests stores.new)
+        (λ ring. RunsRing S.V.tells S.V.holds S.V.faults (keeper_seen S.K.tells S.K.holds S.K.faults) S.first ring (S.rests stores.old) (S.rests stores.new)
         (counts S.calls S.faults stores.old) (counts S.calls S.faults stores.new) (passage R.left R.faults source.old source.new)
         (output W.taken W.faults W.calls out.old out.new)
         (C.readings clock.old) (C.readings clock.new) trail.new result)
@@ -87,7 +88,8 @@ pub fn cluster<R: Source, W: Sink, E: Sink, S: Stores, N: Doors, C: Clock>(
         ⊎ EndsWith (S.text stores.old (ring_word (map string_bytes words.now))) (S.faults stores.old) (S.faults stores.new)
         ((out.new ≡ out.old) × (doors.new ≡ doors.old) × (clock.new ≡ clock.old) × (S.calls stores.new ≡ raised (S.calls stores.old)))
         (λ bad. PutsLine (output E.taken E.faults E.calls errors.old errors.new) (line_of_ring bad))
-        (λ ring. ServesRing S.V.tells S.V.holds S.V.faults S.first ring options.port options.connections (S.rests stores.old) (S.rests stores.new)
+        (λ ring. ServesRing S.V.tells S.V.holds S.V.faults (keeper_seen S.K.tells S.K.holds S.K.faults) S.first ring options.port options.connections
+        (S.rests stores.old) (S.rests stores.new)
         (doors_told N.accepts N.finished N.calls N.faults doors.old) (doors_told N.accepts N.finished N.calls N.faults doors.new)
         (output W.taken W.faults W.calls out.old out.new) (C.readings clock.old) (C.readings clock.new)
         (counts S.calls S.faults stores.old) (counts S.calls S.faults stores.new) result)
@@ -155,7 +157,8 @@ fn serve<W: Sink, E: Sink, S: Stores, N: Doors, C: Clock>(
     ensures ends { EndsWith (S.text stores.old name.now) (S.faults stores.old) (S.faults stores.new)
         ((out.new ≡ out.old) × (doors.new ≡ doors.old) × (clock.new ≡ clock.old) × (S.calls stores.new ≡ raised (S.calls stores.old)))
         (λ bad. PutsLine (output E.taken E.faults E.calls errors.old errors.new) (line_of_ring bad))
-        (λ ring. ServesRing S.V.tells S.V.holds S.V.faults S.first ring options.port options.connections (S.rests stores.old) (S.rests stores.new)
+        (λ ring. ServesRing S.V.tells S.V.holds S.V.faults (keeper_seen S.K.tells S.K.holds S.K.faults) S.first ring options.port options.connections
+        (S.rests stores.old) (S.rests stores.new)
         (doors_told N.accepts N.finished N.calls N.faults doors.old) (doors_told N.accepts N.finished N.calls N.faults doors.new)
         (output W.taken W.faults W.calls out.old out.new) (C.readings clock.old) (C.readings clock.new)
         (counts S.calls S.faults stores.old) (counts S.calls S.faults stores.new) result)
@@ -200,7 +203,7 @@ fn run<R: Source, W: Sink, E: Sink, S: Stores, C: Clock>(
         ((source.new ≡ source.old) × (out.new ≡ out.old) × (clock.new ≡ clock.old) × (trail.new ≡ trail.old)
         × (S.calls stores.new ≡ raised (S.calls stores.old)))
         (λ bad. PutsLine (output E.taken E.faults E.calls errors.old errors.new) (line_of_ring bad))
-        (λ ring. RunsRing S.V.tells S.V.holds S.V.faults S.first ring (S.rests stores.old) (S.rests stores.new)
+        (λ ring. RunsRing S.V.tells S.V.holds S.V.faults (keeper_seen S.K.tells S.K.holds S.K.faults) S.first ring (S.rests stores.old) (S.rests stores.new)
         (counts S.calls S.faults stores.old) (counts S.calls S.faults stores.new) (passage R.left R.faults source.old source.new)
         (output W.taken W.faults W.calls out.old out.new)
         (C.readings clock.old) (C.readings clock.new) trail.new result)

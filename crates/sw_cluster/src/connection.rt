@@ -1,4 +1,5 @@
 ghost use Rattle.std.specs.Prelude.{◌≡◌, ◌∷◌, [], Some, false, true};
+ghost use Rattle.sw_container_server.specs.Targets.{is_for_containers as is_for_containers_of};
 ghost use Rattle.sw_control.specs.Asking.{is_control as is_control_path};
 ghost use Rattle.sw_replica_server.specs.Targets.{is_replication_of};
 ghost use Rattle.sw_session.specs.Closing.{asks_to_close_of};
@@ -8,23 +9,24 @@ ghost use Rattle.sw_cluster.specs.Connections.{DoorAnswers, IsConnection, NeverH
 
 use crate::status::status_of;
 use std::alloc::Global;
+use sw_container_server::is_for_containers;
 use sw_control::is_control;
 use sw_message::{Request, Response};
 use sw_object_server::bare;
 use sw_outside::{Clock, NoMemory, Sink, Source};
-use sw_peer::ReplicaDoor;
+use sw_peer::{ContainerDoor, ReplicaDoor};
 use sw_replica_server::is_replication;
 use sw_ring::Ring;
 use sw_session::{Server, ServerFault, asks_to_close, serve};
 
 /// The nodes behind a door, as the server of a connection. They answer no control request, and a request that asks to close is the last one.
 #[derive(Drop)]
-pub struct DoorServer<'a, D: ReplicaDoor> {
+pub struct DoorServer<'a, D: ReplicaDoor + ContainerDoor> {
     ring: &'a Ring,
     door: &'a mut D,
 }
 
-impl<D: ReplicaDoor> Server for DoorServer<'_, D> {
+impl<D: ReplicaDoor + ContainerDoor> Server for DoorServer<'_, D> {
     ghost ready = { λ s. AreNodesOf s.ring.now (D.sight s.door.now).nodes };
 
     ghost serves = { λ old request moment response new. (new.ring.now ≡ old.ring.now) × (new.door.ghost_name ≡ old.door.ghost_name)
@@ -43,6 +45,7 @@ impl<D: ReplicaDoor> Server for DoorServer<'_, D> {
         match is_control(alloc, &request.path) {
             Ok(true) => Ok(bare(alloc, 404)),
             Ok(false) if is_replication(&request) => Ok(self.compare(alloc, &request, now)),
+            Ok(false) if is_for_containers(&request) => Ok(self.contain(alloc, &request, now)),
             Ok(false) => Ok(self.serve(alloc, request, now)),
             Err(NoMemory) => Ok(bare(alloc, 500)),
         }
@@ -53,7 +56,7 @@ impl<D: ReplicaDoor> Server for DoorServer<'_, D> {
     }
 }
 
-impl<D: ReplicaDoor> DoorServer<'_, D> {
+impl<D: ReplicaDoor + ContainerDoor> DoorServer<'_, D> {
     /// Answers a request for replicas.
     fn compare(&mut self, alloc: Global, request: &Request, _now: u64) -> Response
         requires ready { AreNodesOf self.old.ring.now (D.sight self.old.door.now).nodes }
@@ -68,11 +71,27 @@ impl<D: ReplicaDoor> DoorServer<'_, D> {
         }
     }
 
+    /// Answers a request for containers.
+    fn contain(&mut self, alloc: Global, request: &Request, _now: u64) -> Response
+        requires ready { AreNodesOf self.old.ring.now (D.sight self.old.door.now).nodes }
+        requires nodes { is_control_path request.now.path ≡ false }
+        requires no_replicas { is_replication_of request.now ≡ false }
+        requires containers { is_for_containers_of request.now ≡ true }
+        ensures answers { DoorAnswers D.sight self.old.ring.now self.old.door.now request.now _now result self.new.door.now }
+        ensures same { (self.new.ring.now ≡ self.old.ring.now) × (self.new.door.ghost_name ≡ self.old.door.ghost_name) }
+    {
+        match sw_container_server::answer(alloc, self.door, self.ring, request) {
+            Ok(response) => response,
+            Err(NoMemory) => bare(alloc, 500),
+        }
+    }
+
     /// Answers a request for an object.
     fn serve(&mut self, alloc: Global, request: Request, now: u64) -> Response
         requires ready { AreNodesOf self.old.ring.now (D.sight self.old.door.now).nodes }
         requires nodes { is_control_path request.path ≡ false }
-        requires objects { is_replication_of request ≡ false }
+        requires no_replicas { is_replication_of request ≡ false }
+        requires objects { is_for_containers_of request ≡ false }
         ensures answers { DoorAnswers D.sight self.old.ring.now self.old.door.now request now result self.new.door.now }
         ensures same { (self.new.ring.now ≡ self.old.ring.now) × (self.new.door.ghost_name ≡ self.old.door.ghost_name) }
     {
@@ -99,7 +118,7 @@ impl Clock for StillClock {
 
 /// Answers the requests of one connection over a door, all at one moment, and answers the status: how it ended. Each request is answered once,
 /// by what the nodes behind the door are after those before it.
-pub fn serve_connection<R: Source, W: Sink, D: ReplicaDoor>(
+pub fn serve_connection<R: Source, W: Sink, D: ReplicaDoor + ContainerDoor>(
     alloc: Global,
     source: &mut R,
     out: &mut W,

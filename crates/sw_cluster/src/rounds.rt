@@ -1,5 +1,5 @@
 ghost use Rattle.std.specs.Prelude.{◌≡◌, ℕ, ◌+◌, ◌*◌, ◌^◌, ◌<◌, ◌≤◌, ◌++◌, ◌∷◌, ◌⊎◌, [], false, Err, List, length, decimal, IfOk, IfErr, OnOk, OnErr};
-ghost use Rattle.sw_core.specs.Worlds.{AllNodes, opened};
+ghost use Rattle.sw_core.specs.Worlds.{keeper_seen, AllNodes, opened};
 ghost use Rattle.sw_outside.specs.Counts.{raised};
 ghost use Rattle.sw_outside.specs.Faults.{faults_after};
 ghost use Rattle.sw_volume.specs.Volume.{raised_by};
@@ -18,21 +18,20 @@ use crate::status::{COMPLETE, DOOR_FAULT, NO_MEMORY, STORE_FAULT, WRITE_FAULT};
 use crate::volumes::{give_back, open_nodes, status_of_start};
 use itoa::Buffer;
 use std::alloc::{AllocError, Global};
-use sw_core::Parts;
 use sw_nodes::stripes;
 use sw_outside::{Clock, Doors, Failed, Sink, StoreError};
-use sw_peer::ReplicaDoor;
+use sw_peer::{ContainerDoor, ReplicaDoor};
 use sw_quiet::QuietWorld;
 use sw_ring::Ring;
 use sw_stores::Stores;
-use sw_stores::volumes::restart_range;
+use sw_stores::ranges::restart_range;
 
 /// Why the serving of connections ended before all were served and that was said.
 #[derive(Clone, Copy, Debug, PartialEq, Eq)]
 pub enum ServeFault {
     /// A line couldn't be written.
     Write,
-    /// The volumes of a device couldn't be started again.
+    /// The volumes and keepers of a device couldn't be started again.
     Store,
     /// It couldn't be listened, or a connection not be accepted.
     Door,
@@ -42,7 +41,7 @@ pub enum ServeFault {
 /// Listens at a port, and serves so many connections, one after the other, for the devices of a ring, each at the moment that the clock shows once it
 /// was accepted. After each all devices are restarted, so that the journals begin anew. Answers the status.
 ///
-/// The port is opened first: where that fails no volume is touched. Then the volumes of all object locks are started from the stores, which are given
+/// The port is opened first: where that fails no volume is touched. Then the volumes and keepers of all locks are started from the stores, which are given
 /// back at the end. Two lines are put on `out`: one once connections may come, and one once all were served.
 pub fn serve_connections<W: Sink, S: Stores, N: Doors, C: Clock>(
     alloc: Global,
@@ -57,7 +56,8 @@ pub fn serve_connections<W: Sink, S: Stores, N: Doors, C: Clock>(
     requires home { (d s : ℕ) → S.out stores.old d s ≡ false }
     requires doors { length (N.finished doors.old) ≤ length (N.accepts doors.old) }
     ensures home { (d s : ℕ) → S.out stores.new d s ≡ false }
-    ensures serving { ServesAt S.V.tells S.V.holds S.V.faults S.first ring.now port connections (S.rests stores.old) (S.rests stores.new)
+    ensures serving { ServesAt S.V.tells S.V.holds S.V.faults (keeper_seen S.K.tells S.K.holds S.K.faults) S.first ring.now port connections
+        (S.rests stores.old) (S.rests stores.new)
         (doors_told N.accepts N.finished N.calls N.faults doors.old) (doors_told N.accepts N.finished N.calls N.faults doors.new)
         (output W.taken W.faults W.calls out.old out.new) (C.readings clock.old) (C.readings clock.new)
         (counts S.calls S.faults stores.old) (counts S.calls S.faults stores.new) result }
@@ -68,7 +68,7 @@ pub fn serve_connections<W: Sink, S: Stores, N: Doors, C: Clock>(
     }
 }
 
-/// The same once it is listened: starts the volumes, and gives them back at the end.
+/// The same once it is listened: starts the volumes and keepers, and gives them back at the end.
 fn serve_listened<W: Sink, S: Stores, N: Doors, C: Clock>(
     alloc: Global,
     ring: &Ring,
@@ -82,7 +82,8 @@ fn serve_listened<W: Sink, S: Stores, N: Doors, C: Clock>(
     requires home { (d s : ℕ) → S.out stores.old d s ≡ false }
     requires doors { length (N.finished doors.old) ≤ length (N.accepts doors.old) }
     ensures home { (d s : ℕ) → S.out stores.new d s ≡ false }
-    ensures serving { ServesListened S.V.tells S.V.holds S.V.faults S.first ring.now port connections (S.rests stores.old) (S.rests stores.new)
+    ensures serving { ServesListened S.V.tells S.V.holds S.V.faults (keeper_seen S.K.tells S.K.holds S.K.faults) S.first ring.now port connections
+        (S.rests stores.old) (S.rests stores.new)
         (doors_told N.accepts N.finished N.calls N.faults doors.old) (doors_told N.accepts N.finished N.calls N.faults doors.new)
         (output W.taken W.faults W.calls out.old out.new) (C.readings clock.old) (C.readings clock.new)
         (counts S.calls S.faults stores.old) (counts S.calls S.faults stores.new) result }
@@ -103,11 +104,11 @@ fn serve_listened<W: Sink, S: Stores, N: Doors, C: Clock>(
     }
 }
 
-/// The same over nodes in which nothing has happened. Their volumes are given back at the end.
+/// The same over nodes in which nothing has happened. Their volumes and keepers are given back at the end.
 fn serve_over<W: Sink, S: Stores, N: Doors, C: Clock>(
     alloc: Global,
     ring: &Ring,
-    world: QuietWorld<S::V>,
+    world: QuietWorld<S::V, S::K>,
     port: u16,
     connections: u32,
     out: &mut W,
@@ -115,12 +116,12 @@ fn serve_over<W: Sink, S: Stores, N: Doors, C: Clock>(
     doors: &mut N,
     clock: &mut C,
 ) -> u8
-    requires begun { (volumes : List S.V) × (length volumes ≡ length ring.now.devices * 2 ^ ring.now.lock_bits)
-        × (world ≡ opened serve_bytes ring.now volumes) }
+    requires begun { (parts : List (S.V × S.K)) × (length parts ≡ length ring.now.devices * 2 ^ ring.now.lock_bits)
+        × (world ≡ opened serve_bytes ring.now parts) }
     requires out { (d s : ℕ) → S.out stores.old d s ≡ places_of ring.now d s }
     requires doors { length (N.finished doors.old) ≤ length (N.accepts doors.old) }
     ensures home { (d s : ℕ) → S.out stores.new d s ≡ false }
-    ensures over { IsServedOver S.V.tells S.V.holds S.V.faults ring.now port connections world (S.rests stores.new)
+    ensures over { IsServedOver S.V.tells S.V.holds S.V.faults (keeper_seen S.K.tells S.K.holds S.K.faults) ring.now port connections world (S.rests stores.new)
         (doors_told N.accepts N.finished N.calls N.faults doors.old) (doors_told N.accepts N.finished N.calls N.faults doors.new)
         (output W.taken W.faults W.calls out.old out.new) (C.readings clock.old) (C.readings clock.new)
         (counts S.calls S.faults stores.old) (counts S.calls S.faults stores.new) result }
@@ -145,7 +146,7 @@ fn serve_over<W: Sink, S: Stores, N: Doors, C: Clock>(
 fn attend<W: Sink, S: Stores, N: Doors, C: Clock>(
     alloc: Global,
     ring: &Ring,
-    world: &mut QuietWorld<S::V>,
+    world: &mut QuietWorld<S::V, S::K>,
     port: u16,
     connections: u32,
     out: &mut W,
@@ -155,12 +156,12 @@ fn attend<W: Sink, S: Stores, N: Doors, C: Clock>(
 ) -> Result<(), ServeFault>
     requires ready { IsReady S.out ring.now world.old stores.old }
     requires doors { length (N.finished doors.old) ≤ length (N.accepts doors.old) }
-    ensures { (after : AllNodes S.V)
-        × EndsServing S.V.tells S.V.holds S.V.faults ring.now port connections world.old after
+    ensures { (after : AllNodes S.V S.K)
+        × EndsServing S.V.tells S.V.holds S.V.faults (keeper_seen S.K.tells S.K.holds S.K.faults) ring.now port connections world.old after
         (doors_told N.accepts N.finished N.calls N.faults doors.old) (doors_told N.accepts N.finished N.calls N.faults doors.new)
         (output W.taken W.faults W.calls out.old out.new) (C.readings clock.old) (C.readings clock.new)
         (counts S.calls S.faults stores.old) (counts S.calls S.faults stores.new) result
-        × AreLeft S.V.tells S.V.holds S.V.faults S.calls S.rests S.out ring.now after world.new stores.new }
+        × AreLeft S.V.tells S.V.holds S.V.faults (keeper_seen S.K.tells S.K.holds S.K.faults) S.calls S.rests S.out ring.now after world.new stores.new }
 {
     say(alloc, out, b"listening ", u32::from(port))?;
     serve_all(alloc, ring, world, connections, stores, doors, clock)?;
@@ -171,7 +172,7 @@ fn attend<W: Sink, S: Stores, N: Doors, C: Clock>(
 fn serve_all<S: Stores, N: Doors, C: Clock>(
     alloc: Global,
     ring: &Ring,
-    world: &mut QuietWorld<S::V>,
+    world: &mut QuietWorld<S::V, S::K>,
     connections: u32,
     stores: &mut S,
     doors: &mut N,
@@ -179,15 +180,15 @@ fn serve_all<S: Stores, N: Doors, C: Clock>(
 ) -> Result<(), ServeFault>
     requires ready { IsReady S.out ring.now world.old stores.old }
     requires doors { length (N.finished doors.old) ≤ length (N.accepts doors.old) }
-    ensures all { OnOk result (AllServed S.V.tells S.V.holds S.V.faults ring.now connections world.old world.new
+    ensures all { OnOk result (AllServed S.V.tells S.V.holds S.V.faults (keeper_seen S.K.tells S.K.holds S.K.faults) ring.now connections world.old world.new
         (doors_told N.accepts N.finished N.calls N.faults doors.old) (doors_told N.accepts N.finished N.calls N.faults doors.new)
         (C.readings clock.old) (C.readings clock.new) (counts S.calls S.faults stores.old) (counts S.calls S.faults stores.new)) }
     ensures ready { OnOk result (IsReady S.out ring.now world.new stores.new) }
-    ensures stops { IfErr result (λ fault. (after : AllNodes S.V)
-        × EndsConnections S.V.tells S.V.holds S.V.faults ring.now connections world.old after
+    ensures stops { IfErr result (λ fault. (after : AllNodes S.V S.K)
+        × EndsConnections S.V.tells S.V.holds S.V.faults (keeper_seen S.K.tells S.K.holds S.K.faults) ring.now connections world.old after
         (doors_told N.accepts N.finished N.calls N.faults doors.old) (doors_told N.accepts N.finished N.calls N.faults doors.new)
         (C.readings clock.old) (C.readings clock.new) (counts S.calls S.faults stores.old) (counts S.calls S.faults stores.new) (Err fault)
-        × AreLeft S.V.tells S.V.holds S.V.faults S.calls S.rests S.out ring.now after world.new stores.new) }
+        × AreLeft S.V.tells S.V.holds S.V.faults (keeper_seen S.K.tells S.K.holds S.K.faults) S.calls S.rests S.out ring.now after world.new stores.new) }
 {
     for _ in 0..connections {
         serve_next(alloc, ring, world, stores, doors, clock)?;
@@ -199,22 +200,22 @@ fn serve_all<S: Stores, N: Doors, C: Clock>(
 fn serve_next<S: Stores, N: Doors, C: Clock>(
     alloc: Global,
     ring: &Ring,
-    world: &mut QuietWorld<S::V>,
+    world: &mut QuietWorld<S::V, S::K>,
     stores: &mut S,
     doors: &mut N,
     clock: &mut C,
 ) -> Result<(), ServeFault>
     requires ready { IsReady S.out ring.now world.old stores.old }
     requires doors { length (N.finished doors.old) ≤ length (N.accepts doors.old) }
-    ensures all { OnOk result (AllServed S.V.tells S.V.holds S.V.faults ring.now 1 world.old world.new
+    ensures all { OnOk result (AllServed S.V.tells S.V.holds S.V.faults (keeper_seen S.K.tells S.K.holds S.K.faults) ring.now 1 world.old world.new
         (doors_told N.accepts N.finished N.calls N.faults doors.old) (doors_told N.accepts N.finished N.calls N.faults doors.new)
         (C.readings clock.old) (C.readings clock.new) (counts S.calls S.faults stores.old) (counts S.calls S.faults stores.new)) }
     ensures ready { OnOk result (IsReady S.out ring.now world.new stores.new) }
-    ensures stops { IfErr result (λ fault. (after : AllNodes S.V)
-        × EndsConnections S.V.tells S.V.holds S.V.faults ring.now 1 world.old after
+    ensures stops { IfErr result (λ fault. (after : AllNodes S.V S.K)
+        × EndsConnections S.V.tells S.V.holds S.V.faults (keeper_seen S.K.tells S.K.holds S.K.faults) ring.now 1 world.old after
         (doors_told N.accepts N.finished N.calls N.faults doors.old) (doors_told N.accepts N.finished N.calls N.faults doors.new)
         (C.readings clock.old) (C.readings clock.new) (counts S.calls S.faults stores.old) (counts S.calls S.faults stores.new) (Err fault)
-        × AreLeft S.V.tells S.V.holds S.V.faults S.calls S.rests S.out ring.now after world.new stores.new) }
+        × AreLeft S.V.tells S.V.holds S.V.faults (keeper_seen S.K.tells S.K.holds S.K.faults) S.calls S.rests S.out ring.now after world.new stores.new) }
 {
     match serve_one(alloc, ring, world, doors, clock) {
         Ok(()) => {}
@@ -229,7 +230,7 @@ fn serve_next<S: Stores, N: Doors, C: Clock>(
 }
 
 /// Accepts a connection, answers its requests over a door at the moment that the clock then shows, and finishes it with the status by which that ended.
-fn serve_one<N: Doors, C: Clock, D: ReplicaDoor>(
+fn serve_one<N: Doors, C: Clock, D: ReplicaDoor + ContainerDoor>(
     alloc: Global,
     ring: &Ring,
     door: &mut D,
@@ -261,15 +262,17 @@ fn serve_one<N: Doors, C: Clock, D: ReplicaDoor>(
 fn restart_all<S: Stores>(
     alloc: Global,
     ring: &Ring,
-    world: &mut QuietWorld<S::V>,
+    world: &mut QuietWorld<S::V, S::K>,
     stores: &mut S,
 ) -> Result<(), StoreError>
     requires ready { IsReady S.out ring.now world.old stores.old }
-    ensures restarted { OnOk result (RestartsFirst S.V.tells S.V.holds S.V.faults ring.now (length ring.now.devices) world.old world.new) }
+    ensures restarted { OnOk result (RestartsFirst S.V.tells S.V.holds S.V.faults (keeper_seen S.K.tells S.K.holds S.K.faults) ring.now
+        (length ring.now.devices) world.old world.new) }
     ensures ready { OnOk result (IsReady S.out ring.now world.new stores.new) }
     ensures calls { OnOk result (S.calls stores.new ≡ raised_by (length ring.now.devices * 2 ^ ring.now.lock_bits) (S.calls stores.old)) }
-    ensures stops { OnErr result ((after : AllNodes S.V)
-        × StopsAmong S.V.tells S.V.holds S.V.faults S.calls S.rests S.out ring.now world.old after world.new stores.old stores.new) }
+    ensures stops { OnErr result ((after : AllNodes S.V S.K)
+        × StopsAmong S.V.tells S.V.holds S.V.faults (keeper_seen S.K.tells S.K.holds S.K.faults) S.calls S.rests S.out ring.now world.old after world.new
+        stores.old stores.new) }
     ensures cause { S.faults stores.new ≡ faults_after (S.faults stores.old) result }
 {
     for device in 0..ring.devices.as_slice().len() {
@@ -278,20 +281,22 @@ fn restart_all<S: Stores>(
     Ok(())
 }
 
-/// Restarts a device: its volumes go back to the stores, and are started anew.
+/// Restarts a device: its volumes and keepers go back to the stores, and are started anew.
 fn restart<S: Stores>(
     alloc: Global,
     ring: &Ring,
-    world: &mut QuietWorld<S::V>,
+    world: &mut QuietWorld<S::V, S::K>,
     stores: &mut S,
     device: u8,
 ) -> Result<(), StoreError>
     requires device { device < length ring.now.devices }
     requires ready { IsReady S.out ring.now world.old stores.old }
-    ensures restarted { OnOk result (RestartsDevice S.V.tells S.V.holds S.V.faults ring.now device world.old world.new) }
+    ensures restarted { OnOk result (RestartsDevice S.V.tells S.V.holds S.V.faults (keeper_seen S.K.tells S.K.holds S.K.faults) ring.now device world.old
+        world.new) }
     ensures ready { OnOk result (IsReady S.out ring.now world.new stores.new) }
     ensures calls { OnOk result (S.calls stores.new ≡ raised_by (2 ^ ring.now.lock_bits) (S.calls stores.old)) }
-    ensures fails { OnErr result (FailsToRestart S.V.tells S.V.holds S.V.faults S.calls S.rests S.out ring.now world.old world.new stores.old stores.new) }
+    ensures fails { OnErr result (FailsToRestart S.V.tells S.V.holds S.V.faults (keeper_seen S.K.tells S.K.holds S.K.faults) S.calls S.rests S.out ring.now
+        world.old world.new stores.old stores.new) }
     ensures cause { S.faults stores.new ≡ faults_after (S.faults stores.old) result }
 {
     let parts = match world.lift(alloc, device) {
@@ -300,9 +305,9 @@ fn restart<S: Stores>(
     };
     let stripes = stripes(ring);
     let first = usize::from(device) * usize::from(stripes);
-    match restart_range(alloc, stores, stripes, first, parts.volumes) {
-        Ok(volumes) => {
-            world.set_down(alloc, device, Parts { volumes });
+    match restart_range(alloc, stores, stripes, first, parts) {
+        Ok(parts) => {
+            world.set_down(alloc, device, parts);
             Ok(())
         }
         Err(error) => Err(error),

@@ -1,5 +1,5 @@
 ghost use Rattle.std.specs.Prelude.{◌≡◌, ℕ, ◌*◌, ◌^◌, ◌⊎◌, false, List, [], length};
-ghost use Rattle.sw_core.specs.Worlds.{opened};
+ghost use Rattle.sw_core.specs.Worlds.{keeper_seen, opened};
 ghost use Rattle.sw_session.specs.Passages.{passage};
 ghost use Rattle.sw_cluster.specs.Ending.{IsRun, IsRunOver, IsUnbegun};
 ghost use Rattle.sw_nodes.specs.Nodes.{places_of};
@@ -21,7 +21,7 @@ use sw_stores::Stores;
 /// Answers the pipelined requests that come from `source` to the end of its input, in order, for the devices of a ring, each at the moment
 /// that the clock shows once it was read, and writes each reply to `out`. Answers the status.
 ///
-/// The volumes of all object locks are started from the stores first, and given back at the end. `trail` is empty at the call. At the end it
+/// The volumes and keepers of all locks are started from the stores first, and given back at the end. `trail` is empty at the call. At the end it
 /// holds what came to the devices, with the answers, and the moments of the requests.
 pub fn run_session<R: Source, W: Sink, S: Stores, C: Clock>(
     alloc: Global,
@@ -36,7 +36,7 @@ pub fn run_session<R: Source, W: Sink, S: Stores, C: Clock>(
     requires no_moments { trail.old.moments ≡ [] }
     requires home { (d s : ℕ) → S.out stores.old d s ≡ false }
     ensures home { (d s : ℕ) → S.out stores.new d s ≡ false }
-    ensures run { IsRun S.V.tells S.V.holds S.V.faults S.first ring.now (S.rests stores.old) (S.rests stores.new)
+    ensures run { IsRun S.V.tells S.V.holds S.V.faults (keeper_seen S.K.tells S.K.holds S.K.faults) S.first ring.now (S.rests stores.old) (S.rests stores.new)
         (counts S.calls S.faults stores.old) (counts S.calls S.faults stores.new) (passage R.left R.faults source.old source.new)
         (output W.taken W.faults W.calls out.old out.new)
         (C.readings clock.old) (C.readings clock.new) trail.new result
@@ -55,7 +55,7 @@ pub fn run_session<R: Source, W: Sink, S: Stores, C: Clock>(
 fn session<R: Source, W: Sink, S: Stores, C: Clock>(
     alloc: Global,
     ring: &Ring,
-    world: World<S::V>,
+    world: World<S::V, S::K>,
     source: &mut R,
     out: &mut W,
     stores: &mut S,
@@ -64,10 +64,10 @@ fn session<R: Source, W: Sink, S: Stores, C: Clock>(
 ) -> u8
     requires no_steps { trail.old.steps ≡ [] }
     requires no_moments { trail.old.moments ≡ [] }
-    requires begun { (volumes : List S.V) × (length volumes ≡ length ring.now.devices * 2 ^ ring.now.lock_bits) × (world ≡ opened run_bytes ring.now volumes) }
+    requires begun { (parts : List (S.V × S.K)) × (length parts ≡ length ring.now.devices * 2 ^ ring.now.lock_bits) × (world ≡ opened run_bytes ring.now parts) }
     requires out { (d s : ℕ) → S.out stores.old d s ≡ places_of ring.now d s }
     ensures home { (d s : ℕ) → S.out stores.new d s ≡ false }
-    ensures run { IsRunOver S.V.tells S.V.holds S.V.faults ring.now world (S.rests stores.new)
+    ensures run { IsRunOver S.V.tells S.V.holds S.V.faults (keeper_seen S.K.tells S.K.holds S.K.faults) ring.now world (S.rests stores.new)
         (counts S.calls S.faults stores.old) (counts S.calls S.faults stores.new) (passage R.left R.faults source.old source.new)
         (output W.taken W.faults W.calls out.old out.new)
         (C.readings clock.old) (C.readings clock.new) trail.new result }

@@ -1,5 +1,5 @@
 -- No step at an object tells of a restart: so no push does.
-use Rattle.std.proofs.Common.{◌≡◌, ℕ, ◌+◌, Bool, true, false, List, [], ◌∷◌, ◌++◌, refl, ◌∙◌, ap, inl, inr, Option, Some, None, Result, Ok, Err, arith}
+use Rattle.std.proofs.Common.{◌≡◌, ℕ, Bool, true, false, List, [], ◌∷◌, ◌++◌, refl, ◌∙◌, ap, inl, inr, Option, Some, None, Result, Ok, Err, arith}
 use Rattle.std.specs.Option.{option_map}
 use Rattle.std.specs.declared.alloc.Global.{Global}
 use Rattle.std.specs.declared.vec.Vec.{Vec}
@@ -15,9 +15,6 @@ use Rattle.sw_peer.specs.Sights.{Calls, Comes, IsFilesRead, IsHashesRead, IsMade
 use Rattle.sw_object_steps.specs.declared.answer.Answer.{Answer}
 use Rattle.sw_object_steps.specs.declared.change.Change.{Change}
 use Rattle.sw_object_steps.specs.declared.dir_fault.DirFault.{DirFault}
-use Rattle.sw_object_steps.specs.declared.got.Got.{Got}
-use Rattle.sw_peer.specs.declared.line.Event.{Event}
-use Rattle.sw_peer.specs.declared.line.Event.TheVariants.{AtContainer, Changed, Listed, Read, ReadPart, Restarted}
 use Rattle.sw_peer.specs.declared.line.Line.{Line}
 use Rattle.sw_peer.specs.declared.link.Link.{Link}
 use Rattle.sw_peer.specs.declared.link.Link.TheVariants.{Local, Sent}

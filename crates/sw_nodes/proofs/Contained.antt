@@ -1,5 +1,5 @@
 -- What a request for containers leaves of the nodes.
-use Rattle.std.proofs.Common.{◌≡◌, ℕ, ◌^◌, Bool, true, false, refl, sym, ap, subst, arith, Result, Ok, Err, inl, inr, MutBor}
+use Rattle.std.proofs.Common.{◌≡◌, ℕ, ◌^◌, Bool, true, false, refl, sym, ap, subst, Result, Ok, Err, inl, inr, MutBor}
 use Rattle.sw_container_server.specs.Places.{IsHashed}
 use Rattle.sw_container_server.specs.Serving.{IsAnswered, IsFollowed, IsGivenUp, IsLeft, IsServed}
 use Rattle.sw_container_server.specs.Targets.{is_for_containers}
@@ -9,7 +9,7 @@ use Rattle.sw_container_steps.specs.declared.cont_answer.ContAnswer.{ContAnswer}
 use Rattle.sw_container_steps.specs.declared.info.Info.{Info}
 use Rattle.sw_control.specs.Asking.{is_control}
 use Rattle.sw_core.proofs.Containing.{place-fits}
-use Rattle.sw_core.specs.Worlds.{AllNodes, is_hashed_place, sight_of}
+use Rattle.sw_core.specs.Worlds.{KeeperSeen, AllNodes, is_hashed_place, sight_of}
 use Rattle.sw_hashpath.specs.declared.place.Place.{Place}
 use Rattle.sw_hashpath.specs.declared.secrets.Secrets.{Secrets}
 use Rattle.sw_listing.specs.declared.query.Query.{Query}
@@ -25,7 +25,6 @@ use Rattle.sw_nodes.proofs.Keeping.{Keeps, cont_change-keeps, inform-keeps, keep
 use Rattle.sw_nodes.proofs.Restarting.{none-called, same-restarts}
 use Rattle.sw_nodes.proofs.Serving.{goes_on, on_false}
 use Rattle.sw_nodes.specs.Nodes.{IsReady, NodesAnswer}
-use Rattle.sw_nodes.specs.Restarts.{restarts_in}
 use Rattle.sw_nodes.specs.Server.{IsContained}
 
 -- ---- a request
@@ -52,40 +51,41 @@ module _ {D : Type 0} (sight : D → Sight) (ring : Ring) (request : Request) (o
       keeps-join (sight old) left.1 (sight new) (inform-keeps device place (sight old) (Ok left.0) left.1 left.3.called)
       (list-keeps device place query left.1 (Ok left.2) (sight new) left.4.called)
 
-  answered-keeps : (response : Response) → IsAnswered sight old new ring request response → Keeps (sight old) (sight new)
+  pub answered-keeps : (response : Response) → IsAnswered sight old new ring request response → Keeps (sight old) (sight new)
   answered-keeps response x = served-keeps x.0 response x.2
 
-  given_up-keeps : IsGivenUp sight old new ring request → Keeps (sight old) (sight new)
+  pub given_up-keeps : IsGivenUp sight old new ring request → Keeps (sight old) (sight new)
   given_up-keeps (inl same) = keeps-same (sight old) (sight new) (ap sight same)
   given_up-keeps (inr x) = left-keeps x.0 x.2
 
 -- ---- a request to the nodes of a ring
 
-module _ {V S : Type 0} (tells : V → Bool) (files : V → Folders) (faults : V → ℕ) (store_faults store_calls : S → ℕ) (out : S → ℕ → ℕ → Bool)
-    (ring : Ring) (w after : AllNodes V) (stores : MutBor S) (request : Request) (moment : ℕ) (response : Response)
+module _ {V K S : Type 0} (tells : V → Bool) (files : V → Folders) (faults : V → ℕ) (keeps : KeeperSeen K) (store_faults store_calls : S → ℕ)
+    (out : S → ℕ → ℕ → Bool)
+    (ring : Ring) (w after : AllNodes V K) (stores : MutBor S) (request : Request) (moment : ℕ) (response : Response)
     (nodes : is_control request.path ≡ false) (other : is_replication_of request ≡ false) (containers : is_for_containers request ≡ true)
     (ready : IsReady out ring w stores.now) where
-  abbrev see : AllNodes V → Sight
-  see w = sight_of tells files faults w
+  abbrev see : AllNodes V K → Sight
+  see w = sight_of tells files faults keeps w
 
   abbrev Answers : Type 0
-  Answers = NodesAnswer tells files faults store_faults store_calls out ring ring w after stores stores request moment response
+  Answers = NodesAnswer tells files faults keeps store_faults store_calls out ring ring w after stores stores request moment response
 
-  goes : Keeps (see w) (see after) → IsContained tells files faults ring w request response after → Answers
-  goes keeps contained = record {
+  goes : Keeps (see w) (see after) → IsContained tells files faults keeps ring w request response after → Answers
+  goes still contained = record {
     ring_is = refl;
     may = record {
       answers = on_false _ _ (is_control request.path) nodes (on_false _ _ (is_replication_of request) other
           (on_true _ _ (is_for_containers request) containers contained));
-      nodes = keeps.nodes;
-      runs = keeps.runs refl;
+      nodes = still.nodes;
+      runs = still.runs refl;
     };
     faults_are = refl;
     gained = 0;
-    gains = same-restarts w.lines after.lines keeps.calm;
+    gains = same-restarts w.lines after.lines still.calm;
     calls_are = none-called (2 ^ ring.lock_bits) (store_calls stores.now) (store_calls stores.now) refl;
     same_stores = refl;
-    ready = goes_on tells files faults out ring w after stores.now ready keeps.nodes;
+    ready = goes_on tells files faults keeps out ring w after stores.now ready still.nodes;
   }
 
   pub contained : IsAnswered see w after ring request response → Answers
@@ -98,7 +98,7 @@ module _ {V S : Type 0} (tells : V → Bool) (files : V → Folders) (faults : V
   contained_ready answers = answers.ready
 
 -- the places of the ring fit its nodes
-pub places-fit : {V S : Type 0} (out : S → ℕ → ℕ → Bool) (ring : Ring) (w : AllNodes V) (stores : S) → IsReady out ring w stores → (place : Place) →
+pub places-fit : {V K S : Type 0} (out : S → ℕ → ℕ → Bool) (ring : Ring) (w : AllNodes V K) (stores : S) → IsReady out ring w stores → (place : Place) →
     IsHashed ring place
     → is_hashed_place w.secrets place ≡ true
 places-fit out ring w stores ready place hashed =

@@ -15,7 +15,7 @@ use Rattle.sw_control.specs.declared.replication.Replication.{Replication}
 use Rattle.sw_core.proofs.Anew.{restarts}
 use Rattle.sw_machine.specs.Doors.{RunsOn}
 use Rattle.sw_core.specs.Listing.{is_failed}
-use Rattle.sw_core.specs.Worlds.{AllNodes, sight_of}
+use Rattle.sw_core.specs.Worlds.{KeeperSeen, AllNodes, sight_of}
 use Rattle.sw_outside.specs.declared.errors.NoMemory.{NoMemory}
 use Rattle.sw_peer.specs.Sights.{Restarts, Sight}
 use Rattle.sw_ring.specs.declared.ring.Ring.{Ring}
@@ -46,24 +46,24 @@ pub on_true : (X Y : Type 0) (b : Bool) → b ≡ true → X → MatchBool b X Y
 on_true X Y true is x = x
 on_true X Y false is x = cc
 
-module _ {V : Type 0} (tells : V → Bool) (files : V → Folders) (faults : V → ℕ) where
-  abbrev see : AllNodes V → Sight
-  see w = sight_of tells files faults w
+module _ {V K : Type 0} (tells : V → Bool) (files : V → Folders) (faults : V → ℕ) (keeps : KeeperSeen K) where
+  abbrev see : AllNodes V K → Sight
+  see w = sight_of tells files faults keeps w
 
   -- memory ran out before anything was done
-  wanted : (ring : Ring) (w after : AllNodes V) (request : Request) (moment : ℕ) (response : Response) → is_control request.path ≡ true
+  wanted : (ring : Ring) (w after : AllNodes V K) (request : Request) (moment : ℕ) (response : Response) → is_control request.path ≡ true
       → after ≡ w → response ≡ bare 500
-      → MayAnswer tells files faults ring w request moment response after
+      → MayAnswer tells files faults keeps ring w request moment response after
   wanted ring w after request moment response is same reply = record {
     answers = on_true _ _ (is_control request.path) is (inr (same, reply));
-    nodes = ap (λ (x : AllNodes V). (see x).nodes) same;
-    runs = subst (λ (x : AllNodes V). RunsOn (see w) (see x)) (sym same) (runs-itself (see w));
+    nodes = ap (λ (x : AllNodes V K). (see x).nodes) same;
+    runs = subst (λ (x : AllNodes V K). RunsOn (see w) (see x)) (sym same) (runs-itself (see w));
   }
 
   -- the files of a device were listed
-  may_list : (ring : Ring) (w after : AllNodes V) (request : Request) (moment : ℕ) (response : Response) (device : ℕ) → is_control request.path ≡ true
-      → IsControl ring request (controls.Files device) → IsFiled tells files faults device w response after ⊎ ((after ≡ w) × (response ≡ bare 500))
-      → MayAnswer tells files faults ring w request moment response after
+  may_list : (ring : Ring) (w after : AllNodes V K) (request : Request) (moment : ℕ) (response : Response) (device : ℕ) → is_control request.path ≡ true
+      → IsControl ring request (controls.Files device) → IsFiled tells files faults keeps device w response after ⊎ ((after ≡ w) × (response ≡ bare 500))
+      → MayAnswer tells files faults keeps ring w request moment response after
   may_list ring w after request moment response device is asked (inl filed) = record {
     answers = on_true _ _ (is_control request.path) is (inl (controls.Files device, asked, filed));
     nodes = filed.moves.nodes;
@@ -72,14 +72,14 @@ module _ {V : Type 0} (tells : V → Bool) (files : V → Folders) (faults : V �
   may_list ring w after request moment response device is asked (inr same) = wanted ring w after request moment response is same.0 same.1
 
   -- a device was restarted
-  may_restart : (ring : Ring) (w after : AllNodes V) (request : Request) (moment : ℕ) (response : Response) (device : ℕ) → is_control request.path ≡ true
+  may_restart : (ring : Ring) (w after : AllNodes V K) (request : Request) (moment : ℕ) (response : Response) (device : ℕ) → is_control request.path ≡ true
       → IsControl ring request (controls.Restart device)
-      → IsControlDone tells files faults ring w (controls.Restart device) response after ⊎ ((after ≡ w) × (response ≡ bare 500))
-      → MayAnswer tells files faults ring w request moment response after
+      → IsControlDone tells files faults keeps ring w (controls.Restart device) response after ⊎ ((after ≡ w) × (response ≡ bare 500))
+      → MayAnswer tells files faults keeps ring w request moment response after
   may_restart ring w after request moment response device is asked (inl done) =
-      let again : IsRestarted tells files faults device w after = done.0 in
+      let again : IsRestarted tells files faults keeps device w after = done.0 in
       let begun : Restarts device (see w) (see after) =
-      restarts tells files faults w again.mid after device again.given again.up.whole again.up.is_device again.up again.down in
+      restarts tells files faults keeps w again.mid after device again.given again.up.whole again.up.is_device again.up again.down in
       record {
         answers = on_true _ _ (is_control request.path) is (inl (controls.Restart device, asked, done));
         nodes = begun.nodes;
@@ -88,25 +88,26 @@ module _ {V : Type 0} (tells : V → Bool) (files : V → Folders) (faults : V �
   may_restart ring w after request moment response device is asked (inr same) = wanted ring w after request moment response is same.0 same.1
 
   -- listing files leaves the nodes as ready as they were
-  ready_still : {S : Type 0} (out : S → ℕ → ℕ → Bool) (ring : Ring) (w after : AllNodes V) (stores : S) (device : ℕ) (response : Response) →
+  ready_still : {S : Type 0} (out : S → ℕ → ℕ → Bool) (ring : Ring) (w after : AllNodes V K) (stores : S) (device : ℕ) (response : Response) →
       IsReady out ring w stores
-      → IsFiled tells files faults device w response after ⊎ ((after ≡ w) × (response ≡ bare 500)) → IsReady out ring after stores
+      → IsFiled tells files faults keeps device w response after ⊎ ((after ≡ w) × (response ≡ bare 500)) → IsReady out ring after stores
   ready_still out ring w after stores device response ready (inl filed) =
       ready-of out ring after stores (filed.same.lifted ∙ ready.whole) (filed.moves.nodes ∙ ready.nodes) ready.are_out
-  ready_still out ring w after stores device response ready (inr same) = subst (λ (x : AllNodes V). IsReady out ring x stores) (sym same.0) ready
+  ready_still out ring w after stores device response ready (inr same) = subst (λ (x : AllNodes V K). IsReady out ring x stores) (sym same.0) ready
 
   -- and leaves no line of a restart
-  list_lines : (w after : AllNodes V) (device : ℕ) (response : Response)
-      → IsFiled tells files faults device w response after ⊎ ((after ≡ w) × (response ≡ bare 500)) → restarts_in after.lines ≡ restarts_in w.lines + 0
-  list_lines w after device response (inl filed) = listed-lines tells files faults w after device response filed
-  list_lines w after device response (inr same) = no-line w.lines after.lines (ap (λ (x : AllNodes V). x.lines) same.0)
+  list_lines : (w after : AllNodes V K) (device : ℕ) (response : Response)
+      → IsFiled tells files faults keeps device w response after ⊎ ((after ≡ w) × (response ≡ bare 500)) → restarts_in after.lines ≡ restarts_in w.lines + 0
+  list_lines w after device response (inl filed) = listed-lines tells files faults keeps w after device response filed
+  list_lines w after device response (inr same) = no-line w.lines after.lines (ap (λ (x : AllNodes V K). x.lines) same.0)
 
   -- ---- a push
 
   -- a partition was pushed
-  may_push : (ring : Ring) (w after : AllNodes V) (request : Request) (moment : ℕ) (response : Response) (asked : Replication) → is_control request.path ≡ true
+  may_push : (ring : Ring) (w after : AllNodes V K) (request : Request) (moment : ℕ) (response : Response) (asked : Replication) → is_control request.path ≡
+      true
       → IsControl ring request (controls.Replicate asked) → IsPlaced ring (controls.Replicate asked)
-      → IsReplicated tells files faults asked w response after → MayAnswer tells files faults ring w request moment response after
+      → IsReplicated tells files faults keeps asked w response after → MayAnswer tells files faults keeps ring w request moment response after
   may_push ring w after request moment response asked is asks placed done = record {
     answers = on_true _ _ (is_control request.path) is (inl (controls.Replicate asked, asks, done));
     nodes = over-nodes asked.from asked.to asked.part asked.acts (see w) done.outcome (see after) done.pushed;
@@ -114,7 +115,7 @@ module _ {V : Type 0} (tells : V → Bool) (files : V → Folders) (faults : V �
   }
 
   -- and leaves no line of a restart
-  push_lines : (w after : AllNodes V) (asked : Replication) (response : Response) → IsReplicated tells files faults asked w response after
+  push_lines : (w after : AllNodes V K) (asked : Replication) (response : Response) → IsReplicated tells files faults keeps asked w response after
       → restarts_in after.lines ≡ restarts_in w.lines + 0
   push_lines w after asked response done =
       let calm : Some (restarts_in after.lines) ≡ Some (restarts_in w.lines) =
@@ -123,19 +124,19 @@ module _ {V : Type 0} (tells : V → Bool) (files : V → Folders) (faults : V �
       omega (arith, e)
 
   -- the trail was told, or there was no memory for its text
-  pub trail_told : (ring : Ring) (w : AllNodes V) (request : Request) (told : Result Response NoMemory) (response : Response)
+  pub trail_told : (ring : Ring) (w : AllNodes V K) (request : Request) (told : Result Response NoMemory) (response : Response)
       → IsControl ring request controls.Trail
-      → IfOk told (λ reply. IsControlDone tells files faults ring w controls.Trail reply w)
-      → IfOk told (λ reply. response ≡ reply) → OnErr told (response ≡ bare 500) → IsControlled tells files faults ring w request response w
+      → IfOk told (λ reply. IsControlDone tells files faults keeps ring w controls.Trail reply w)
+      → IfOk told (λ reply. response ≡ reply) → OnErr told (response ≡ bare 500) → IsControlled tells files faults keeps ring w request response w
   trail_told ring w request (Ok reply) response asked done same other =
-      inl (controls.Trail, asked, subst (λ (r : Response). IsControlDone tells files faults ring w controls.Trail r w) (sym same) done)
+      inl (controls.Trail, asked, subst (λ (r : Response). IsControlDone tells files faults keeps ring w controls.Trail r w) (sym same) done)
   trail_told ring w request (Err wanting) response asked done same other = inr (refl, other)
 
   -- a control request was answered, and nothing was done
-  pub done_nothing : {S : Type 0} (store_faults store_calls : S → ℕ) (out : S → ℕ → ℕ → Bool) (ring : Ring) (w : AllNodes V) (stores : MutBor S)
+  pub done_nothing : {S : Type 0} (store_faults store_calls : S → ℕ) (out : S → ℕ → ℕ → Bool) (ring : Ring) (w : AllNodes V K) (stores : MutBor S)
       (request : Request) (moment : ℕ) (response : Response) → is_control request.path ≡ true → IsReady out ring w stores.now
-      → IsControlled tells files faults ring w request response w
-      → NodesAnswer tells files faults store_faults store_calls out ring ring w w stores stores request moment response
+      → IsControlled tells files faults keeps ring w request response w
+      → NodesAnswer tells files faults keeps store_faults store_calls out ring ring w w stores stores request moment response
   done_nothing store_faults store_calls out ring w stores request moment response is ready done = record {
     ring_is = refl;
     may = record { answers = on_true _ _ (is_control request.path) is done; nodes = refl; runs = runs-itself (see w) };
@@ -147,12 +148,12 @@ module _ {V : Type 0} (tells : V → Bool) (files : V → Folders) (faults : V �
     ready = ready;
   }
 
-  module _ {S : Type 0} (store_faults store_calls : S → ℕ) (out : S → ℕ → ℕ → Bool) (ring ring_now : Ring) (w after : AllNodes V)
+  module _ {S : Type 0} (store_faults store_calls : S → ℕ) (out : S → ℕ → ℕ → Bool) (ring ring_now : Ring) (w after : AllNodes V K)
       (stores stores_now : MutBor S) (request : Request) where
     pub was_pushed : (moment : ℕ) (response : Response) (asked : Replication) → is_control request.path ≡ true
         → IsControl ring request (controls.Replicate asked) → IsPlaced ring (controls.Replicate asked)
-        → ring_now ≡ ring → stores_now ≡ stores → IsReady out ring w stores.now → IsReplicated tells files faults asked w response after
-        → NodesAnswer tells files faults store_faults store_calls out ring ring_now w after stores stores_now request moment response
+        → ring_now ≡ ring → stores_now ≡ stores → IsReady out ring w stores.now → IsReplicated tells files faults keeps asked w response after
+        → NodesAnswer tells files faults keeps store_faults store_calls out ring ring_now w after stores stores_now request moment response
     was_pushed moment response asked is asks placed ring_is stores_are ready done =
         let may = may_push ring w after request moment response asked is asks placed done in
         record {
@@ -166,21 +167,21 @@ module _ {V : Type 0} (tells : V → Bool) (files : V → Folders) (faults : V �
           same_stores = ap (λ (s : MutBor S). s.ghost_name) stores_are;
           ready = subst (λ (r : Ring). IsReady out r after stores_now.now) (sym ring_is)
               (subst (λ (s : MutBor S). IsReady out ring after s.now) (sym stores_are)
-              (goes_on tells files faults out ring w after stores.now ready may.nodes));
+              (goes_on tells files faults keeps out ring w after stores.now ready may.nodes));
         }
 
     pub push_ready : (asked : Replication) (response : Response) → IsControl ring request (controls.Replicate asked) → ring_now ≡ ring → stores_now ≡ stores
-        → IsReady out ring w stores.now → IsReplicated tells files faults asked w response after → IsReady out ring_now after stores_now.now
+        → IsReady out ring w stores.now → IsReplicated tells files faults keeps asked w response after → IsReady out ring_now after stores_now.now
     push_ready asked response asks ring_is stores_are ready done =
         subst (λ (r : Ring). IsReady out r after stores_now.now) (sym ring_is)
         (subst (λ (s : MutBor S). IsReady out ring after s.now) (sym stores_are)
-        (goes_on tells files faults out ring w after stores.now ready
+        (goes_on tells files faults keeps out ring w after stores.now ready
         (over-nodes asked.from asked.to asked.part asked.acts (see w) done.outcome (see after) done.pushed)))
 
     pub files_listed : (moment : ℕ) (response : Response) (device : ℕ) → is_control request.path ≡ true → IsControl ring request (controls.Files device)
         → ring_now ≡ ring → stores_now ≡ stores → IsReady out ring w stores.now
-        → IsFiled tells files faults device w response after ⊎ ((after ≡ w) × (response ≡ bare 500))
-        → NodesAnswer tells files faults store_faults store_calls out ring ring_now w after stores stores_now request moment response
+        → IsFiled tells files faults keeps device w response after ⊎ ((after ≡ w) × (response ≡ bare 500))
+        → NodesAnswer tells files faults keeps store_faults store_calls out ring ring_now w after stores stores_now request moment response
     files_listed moment response device is asked ring_is stores_are ready filed = record {
       ring_is = ring_is;
       may = may_list ring w after request moment response device is asked filed;
@@ -198,16 +199,17 @@ module _ {V : Type 0} (tells : V → Bool) (files : V → Folders) (faults : V �
         → IsControl ring request (controls.Restart device) → ring_now ≡ ring → stores_now.ghost_name ≡ stores.ghost_name
         → OnOk result (store_faults stores_now.now ≡ store_faults stores.now) → OnOk result (IsReady out ring_now after stores_now.now)
         → IfOk result (λ response.
-        (IsControlDone tells files faults ring w (controls.Restart device) response after
+        (IsControlDone tells files faults keeps ring w (controls.Restart device) response after
         × (store_calls stores_now.now ≡ raised_by (2 ^ ring.lock_bits) (store_calls stores.now)))
         ⊎ ((after ≡ w) × (response ≡ bare 500) × (store_calls stores_now.now ≡ store_calls stores.now)))
-        → IfOk result (λ response. NodesAnswer tells files faults store_faults store_calls out ring ring_now w after stores stores_now request moment response)
+        → IfOk result (λ response. NodesAnswer tells files faults keeps store_faults store_calls out ring ring_now w after stores stores_now request moment
+        response)
     came_again moment (Ok response) device is asked ring_is same kept ready (inl done) = record {
       ring_is = ring_is;
       may = may_restart ring w after request moment response device is asked (inl done.0);
       faults_are = kept;
       gained = 1;
-      gains = restart-lines tells files faults w after device done.0.0;
+      gains = restart-lines tells files faults keeps w after device done.0.0;
       calls_are = once-called (2 ^ ring.lock_bits) (store_calls stores.now) (store_calls stores_now.now) done.1;
       same_stores = same;
       ready = ready;
@@ -217,18 +219,18 @@ module _ {V : Type 0} (tells : V → Bool) (files : V → Folders) (faults : V �
       may = may_restart ring w after request moment response device is asked (inr (none.0, none.1));
       faults_are = kept;
       gained = 0;
-      gains = no-line w.lines after.lines (ap (λ (x : AllNodes V). x.lines) none.0);
+      gains = no-line w.lines after.lines (ap (λ (x : AllNodes V K). x.lines) none.0);
       calls_are = none-called (2 ^ ring.lock_bits) (store_calls stores.now) (store_calls stores_now.now) none.2;
       same_stores = same;
       ready = ready;
     }
     came_again moment (Err fault) device is asked ring_is same kept ready done = tt
 
-    pub stayed_away : (rests : S → ℕ → ℕ → Option V) (result : Result Response ServerFault) (device : ℕ)
+    pub stayed_away : (rests : S → ℕ → ℕ → Option (V × K)) (result : Result Response ServerFault) (device : ℕ)
         → is_control request.path ≡ true → IsControl ring request (controls.Restart device) → ring_now ≡ ring → stores_now.ghost_name ≡ stores.ghost_name
         → IfErr result (λ fault. store_faults stores_now.now ≡ faults_by (store_faults stores.now) fault)
-        → IfErr result (λ fault. FailsToStart tells files faults store_calls rests out ring device w after stores.now stores_now.now)
-        → IfErr result (λ fault. NodesHalt tells files faults store_faults store_calls rests out ring ring_now w after stores stores_now request fault)
+        → IfErr result (λ fault. FailsToStart tells files faults keeps store_calls rests out ring device w after stores.now stores_now.now)
+        → IfErr result (λ fault. NodesHalt tells files faults keeps store_faults store_calls rests out ring ring_now w after stores stores_now request fault)
     stayed_away rests (Ok response) device is asked ring_is same counts fails = tt
     stayed_away rests (Err fault) device is asked ring_is same counts fails = record {
       ring_is = ring_is;

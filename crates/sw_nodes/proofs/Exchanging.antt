@@ -7,7 +7,7 @@ use Rattle.sw_control.specs.OutcomeText.{outcome_text}
 use Rattle.sw_control.specs.Texts.{text_reply}
 use Rattle.sw_control.specs.declared.asking.Control.{Control}
 use Rattle.sw_control.specs.declared.asking.Control.TheVariants as controls
-use Rattle.sw_core.specs.Worlds.{AllNodes, sight_of}
+use Rattle.sw_core.specs.Worlds.{KeeperSeen, AllNodes, sight_of}
 use Rattle.sw_hashpath.specs.HashParts.{suffix_of}
 use Rattle.sw_lossy.specs.Losses.{begun}
 use Rattle.sw_lossy.specs.declared.acts.Acts.{Acts}
@@ -52,32 +52,33 @@ done_by (Ok o) response told (inl reply) = (o, refl, tells_done o told.outcome (
 done_by (Ok o) response told (inr reply) = absurd (never_bare response told.outcome told.is_reply reply)
 done_by (Err wanting) response told reply = absurd (never_bare response told.outcome told.is_reply reply)
 
-module _ {V : Type 0} (tells : V → Bool) (files : V → Folders) (faults : V → ℕ) where
-  abbrev see : AllNodes V → Sight
-  see w = sight_of tells files faults w
+module _ {V K : Type 0} (tells : V → Bool) (files : V → Folders) (faults : V → ℕ) (keeps : KeeperSeen K) where
+  abbrev see : AllNodes V K → Sight
+  see w = sight_of tells files faults keeps w
 
-  abbrev held : AllNodes V → ℕ → Hash → State
+  abbrev held : AllNodes V K → ℕ → Hash → State
   held w device hash = ((see w).objects.holds device hash).state
 
   -- a push that is done
-  record IsPushed (from to part : ℕ) (w after : AllNodes V) : Type 0 where
+  record IsPushed (from to part : ℕ) (w after : AllNodes V K) : Type 0 where
     acts : Acts
     outcome : Outcome
     done : outcome.done ≡ true
     apart : from ≢ to
     over : IsPushedOver from to part acts (see w) (Ok outcome) (see after)
 
-  replicated : (ring : Ring) (from to part : ℕ) (w after : AllNodes V) (p : IsDonePush tells files faults ring from to part w after)
-      → IsReplicated tells files faults p.asked w p.response after
+  replicated : (ring : Ring) (from to part : ℕ) (w after : AllNodes V K) (p : IsDonePush tells files faults keeps ring from to part w after)
+      → IsReplicated tells files faults keeps p.asked w p.response after
   replicated ring from to part w after p = by (from_true _ _ (is_control p.request.path) p.control p.answered.answers)
     where
-      by : IsControlled tells files faults ring w p.request p.response after → IsReplicated tells files faults p.asked w p.response after
+      by : IsControlled tells files faults keeps ring w p.request p.response after → IsReplicated tells files faults keeps p.asked w p.response after
       by (inl answered) =
-          subst (λ (c : Control). IsControlDone tells files faults ring w c p.response after)
+          subst (λ (c : Control). IsControlDone tells files faults keeps ring w c p.response after)
           (asks_for_one ring p.request answered.0 (controls.Replicate p.asked) answered.1 p.asks) answered.2
       by (inr wanted) = absurd (never_bare p.response p.told.outcome p.told.is_reply wanted.1)
 
-  pushed : (ring : Ring) (from to part : ℕ) (w after : AllNodes V) → IsDonePush tells files faults ring from to part w after → IsPushed from to part w after
+  pushed : (ring : Ring) (from to part : ℕ) (w after : AllNodes V K) → IsDonePush tells files faults keeps ring from to part w after → IsPushed from to part w
+      after
   pushed ring from to part w after p =
       let d = replicated ring from to part w after p in
       let by = done_by d.outcome p.response p.told d.reply in
@@ -92,7 +93,7 @@ module _ {V : Type 0} (tells : V → Bool) (files : V → Folders) (faults : V �
             (subst (λ (r : Result Outcome NoMemory). IsPushedOver p.asked.from p.asked.to p.asked.part p.asked.acts (see w) r (see after)) by.1 d.pushed)));
       }
 
-  pub exchange_meets : ExchangeMeets tells files faults
+  pub exchange_meets : ExchangeMeets tells files faults keeps
   exchange_meets ring a b part w m n after first second nodes told told_then hash is same agree =
       by (exchange_agrees a b part (begun there.acts (see w)) (sight_after there.over) (begun back.acts (see n)) (sight_after back.over) (record {
         apart = there.apart;

@@ -1,14 +1,19 @@
 -- Which requests leave a line that tells of a restart, and how the calls of the stores add up.
-use Rattle.std.proofs.Common.{◌≡◌, ℕ, ◌+◌, ◌*◌, ◌^◌, ◌≤◌, List, [], ◌∷◌, ◌++◌, Option, Some, None, Bool, refl, sym, ap, ◌∙◌, arith}
+use Rattle.std.proofs.Common.{◌≡◌, ℕ, ◌+◌, ◌*◌, ◌^◌, ◌≤◌, List, [], ◌∷◌, ◌++◌, length, Option, Some, None, Bool, refl, sym, ap, subst, ◌∙◌}
+use Rattle.std.proofs.Common.{arith}
+use Rattle.std.proofs.lemmas.List.{length-map}
 use Rattle.std.proofs.lemmas.Nat.{rows}
 use Rattle.std.specs.Option.{option_map}
-use Rattle.sw_core.specs.Worlds.{AllNodes, restart_line}
+use Rattle.sw_core.specs.Worlds.{AllNodes, KeeperSeen, Lifts, first_of, past_of, restart_line, volumes_in}
 use Rattle.sw_message.specs.declared.response.Response.{Response}
 use Rattle.sw_peer.specs.declared.line.Line.{Line}
 use Rattle.sw_ring.specs.declared.ring.Ring.{Ring}
+use Rattle.sw_stores.specs.Places.{ComeHome, is_among}
+use Rattle.sw_stores.specs.Starting.{AreResting}
 use Rattle.sw_volume.proofs.Counting.{raised_by-plus}
 use Rattle.sw_volume.specs.Tree.{Folders}
 use Rattle.sw_volume.specs.Volume.{raised_by}
+use Rattle.sw_nodes.specs.Nodes.{FailsToStart}
 use Rattle.sw_nodes.specs.Restarts.{AreCalled, restarts_in, restarts_of}
 use Rattle.sw_nodes.specs.Server.{IsFiled, IsRestarted}
 
@@ -34,17 +39,17 @@ line-of : (before after : List Line) (line : Line) (n : ℕ) → after ≡ befor
     → restarts_in after ≡ restarts_in before + n
 line-of before after line n is event = ap restarts_in is ∙ (one-line before line ∙ ap (λ (k : ℕ). restarts_in before + k) event)
 
-module _ {V : Type 0} (tells : V → Bool) (files : V → Folders) (faults : V → ℕ) where
+module _ {V K : Type 0} (tells : V → Bool) (files : V → Folders) (faults : V → ℕ) (keeps : KeeperSeen K) where
   -- a listing leaves no line of a restart
-  pub listed-lines : (w after : AllNodes V) (device : ℕ) (response : Response) → IsFiled tells files faults device w response after
+  pub listed-lines : (w after : AllNodes V K) (device : ℕ) (response : Response) → IsFiled tells files faults keeps device w response after
       → restarts_in after.lines ≡ restarts_in w.lines + 0
   listed-lines w after device response filed = line-of w.lines after.lines _ 0 (some_is filed.moves.trail) refl
 
   -- but a restart does
-  pub restart-lines : (w after : AllNodes V) (device : ℕ) → IsRestarted tells files faults device w after
+  pub restart-lines : (w after : AllNodes V K) (device : ℕ) → IsRestarted tells files faults keeps device w after
       → restarts_in after.lines ≡ restarts_in w.lines + 1
   restart-lines w after device again = line-of w.lines after.lines (restart_line device) 1
-      (ap (λ (x : AllNodes V). x.lines) again.down.rest ∙ ap (λ (x : AllNodes V). x.lines ++ restart_line device ∷ []) again.up.rest) refl
+      (ap (λ (x : AllNodes V K). x.lines) again.down.rest ∙ ap (λ (x : AllNodes V K). x.lines ++ restart_line device ∷ []) again.up.rest) refl
 
 -- ---- calls
 
@@ -87,3 +92,32 @@ out-called ring lifted device lines before n mid now tried out same most first l
   where
     not-none : None ≡ Some device → ⊥
     not-none is = cc
+
+-- ---- a device that stays out
+
+module _ {V K S : Type 0} (tells : V → Bool) (files : V → Folders) (faults : V → ℕ) (keeps : KeeperSeen K) (store_calls : S → ℕ)
+    (rests : S → ℕ → ℕ → Option (V × K)) (out : S → ℕ → ℕ → Bool) (ring : Ring) (device : ℕ) (w after : AllNodes V K) (stores stores_now : S)
+    (given : List (V × K)) where
+  -- what was lifted has a volume and a keeper for each lock of the device: so what is known of the places that were given back is known of them all
+  pub fails-to-start : (stripes first : ℕ) → stripes ≡ 2 ^ ring.lock_bits → first ≡ first_of ring.lock_bits device → w.lock_bits ≡ ring.lock_bits
+      → Lifts tells files faults keeps w device given after → ComeHome (is_among stripes first (length given)) (out stores) (out stores_now)
+      → AreResting (rests stores_now) stripes first given
+      → (tried : ℕ) × (tried ≤ length given) × (store_calls stores_now ≡ raised_by tried (store_calls stores))
+      → FailsToStart tells files faults keeps store_calls rests out ring device w after stores stores_now
+  fails-to-start stripes first stripes_are first_is bits up home resting tried =
+      let lifted : first_of w.lock_bits device + length (volumes_in given) ≡ past_of w.lock_bits device = up.lifted.amount in
+      let whole : length (volumes_in given) ≡ 2 ^ w.lock_bits = omega (arith, lifted) in
+      let amount : length given ≡ 2 ^ ring.lock_bits =
+      sym (length-map given (λ (part : V × K). part.0)) ∙ (whole ∙ ap (λ (b : ℕ). 2 ^ b) bits) in
+      record {
+        given = given;
+        up = up;
+        resting = subst (λ (n : ℕ). AreResting (rests stores_now) n (first_of ring.lock_bits device) given) stripes_are
+            (subst (λ (n : ℕ). AreResting (rests stores_now) stripes n given) first_is resting);
+        home = subst (λ (n : ℕ). ComeHome (is_among n (first_of ring.lock_bits device) (2 ^ ring.lock_bits)) (out stores) (out stores_now)) stripes_are
+            (subst (λ (n : ℕ). ComeHome (is_among stripes n (2 ^ ring.lock_bits)) (out stores) (out stores_now)) first_is
+            (subst (λ (n : ℕ). ComeHome (is_among stripes first n) (out stores) (out stores_now)) amount home));
+        tried = tried.0;
+        most = subst (λ (n : ℕ). tried.0 ≤ n) amount tried.1;
+        calls_are = tried.2;
+      }

@@ -10,7 +10,7 @@ use Rattle.sw_object_server.specs.Serving.{IsAnswered, IsGivenUp}
 use Rattle.sw_control.specs.Asking.{is_control}
 use Rattle.sw_container_server.specs.Targets.{is_for_containers}
 use Rattle.sw_replica_server.specs.Targets.{is_replication_of}
-use Rattle.sw_core.specs.Worlds.{AllNodes, shown, sight_of}
+use Rattle.sw_core.specs.Worlds.{KeeperSeen, AllNodes, shown, sight_of}
 use Rattle.sw_peer.specs.Sights.{Nodes, Sight}
 use Rattle.sw_ring.specs.Faults.{has_repeat}
 use Rattle.sw_ring.specs.Rows.{AreGood, is_good}
@@ -59,25 +59,25 @@ whole_of : (lifted : Option ℕ) (devices count : ℕ) → 1 ≤ count → shown
 whole_of None devices count some is = refl
 whole_of (Some device) devices count some is = absurd (omega (arith, some, is))
 
-module _ {V : Type 0} (tells : V → Bool) (files : V → Folders) (faults : V → ℕ) where
-  abbrev see : AllNodes V → Sight
-  see w = sight_of tells files faults w
+module _ {V K : Type 0} (tells : V → Bool) (files : V → Folders) (faults : V → ℕ) (keeps : KeeperSeen K) where
+  abbrev see : AllNodes V K → Sight
+  see w = sight_of tells files faults keeps w
 
   module _ {S : Type 0} (out : S → ℕ → ℕ → Bool) where
     -- the nodes are those of a ring, which has a device: so none of theirs is lifted
-    pub goes_on : (ring : Ring) (w after : AllNodes V) (stores : S) → IsReady out ring w stores → (see after).nodes ≡ (see w).nodes →
+    pub goes_on : (ring : Ring) (w after : AllNodes V K) (stores : S) → IsReady out ring w stores → (see after).nodes ≡ (see w).nodes →
         IsReady out ring after stores
     goes_on ring w after stores ready same =
         let nodes = same ∙ ready.nodes in
         ready-of out ring after stores (whole_of after.lifted after.devices (length ring.devices) (has_device ring) (ap (λ (n : Nodes). n.devices) nodes)) nodes
         ready.are_out
 
-    pub answered_on : (ring : Ring) (w after : AllNodes V) (stores : S) (request : Request) (moment : ℕ) (response : Response) → IsReady out ring w stores
+    pub answered_on : (ring : Ring) (w after : AllNodes V K) (stores : S) (request : Request) (moment : ℕ) (response : Response) → IsReady out ring w stores
         → IsAnswered see w after ring request moment response → IsReady out ring after stores
     answered_on ring w after stores request moment response ready answered =
         goes_on ring w after stores ready ((answered_keeps see ring w after request moment response answered).nodes)
 
-    pub left_on : (ring : Ring) (w after : AllNodes V) (stores : S) (request : Request) (moment : ℕ) → IsReady out ring w stores
+    pub left_on : (ring : Ring) (w after : AllNodes V K) (stores : S) (request : Request) (moment : ℕ) → IsReady out ring w stores
         → IsGivenUp see w after ring request moment → IsReady out ring after stores
     left_on ring w after stores request moment ready left =
         goes_on ring w after stores ready ((left_keeps see ring w after request moment left).nodes)
@@ -86,9 +86,10 @@ module _ {V : Type 0} (tells : V → Bool) (files : V → Folders) (faults : V �
 
   module _ {S : Type 0} (store_faults store_calls : S → ℕ) (out : S → ℕ → ℕ → Bool) where
     -- it was answered
-    pub served : (ring : Ring) (w after : AllNodes V) (stores : MutBor S) (request : Request) (moment : ℕ) (response : Response)
+    pub served : (ring : Ring) (w after : AllNodes V K) (stores : MutBor S) (request : Request) (moment : ℕ) (response : Response)
         → is_control request.path ≡ false → is_replication_of request ≡ false → is_for_containers request ≡ false → IsReady out ring w stores.now
-        → IsAnswered see w after ring request moment response → NodesAnswer tells files faults store_faults store_calls out ring ring w after stores stores
+        → IsAnswered see w after ring request moment response → NodesAnswer tells files faults keeps store_faults store_calls out ring ring w after stores
+        stores
         request moment response
     served ring w after stores request moment response is other object ready answered = record {
       ring_is = refl;
@@ -107,11 +108,11 @@ module _ {V : Type 0} (tells : V → Bool) (files : V → Folders) (faults : V �
     }
 
     -- its reply found no memory
-    pub gave_up : (ring : Ring) (w after : AllNodes V) (stores : MutBor S) (request : Request) (moment : ℕ) (response : Response)
+    pub gave_up : (ring : Ring) (w after : AllNodes V K) (stores : MutBor S) (request : Request) (moment : ℕ) (response : Response)
         → is_control request.path ≡ false → is_replication_of request ≡ false → is_for_containers request ≡ false → IsReady out ring w stores.now
         → response ≡ bare 500
         → IsGivenUp see w after ring request moment
-        → NodesAnswer tells files faults store_faults store_calls out ring ring w after stores stores request moment response
+        → NodesAnswer tells files faults keeps store_faults store_calls out ring ring w after stores stores request moment response
     gave_up ring w after stores request moment response is other object ready reply left = record {
       ring_is = refl;
       may = record {

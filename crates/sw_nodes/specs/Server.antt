@@ -21,7 +21,7 @@ use Rattle.sw_control.specs.declared.asking.Control.TheVariants as controls
 use Rattle.sw_control.specs.declared.replication.Replication.{Replication}
 use Rattle.sw_machine.specs.Doors.{RunsOn}
 use Rattle.sw_core.specs.Listing.{AreCalm, ListsFiles, is_failed}
-use Rattle.sw_core.specs.Worlds.{AllNodes, IsSameWorld, Lifts, SetsDown, sight_of}
+use Rattle.sw_core.specs.Worlds.{KeeperSeen, AllNodes, IsSameWorld, Lifts, SetsDown, sight_of}
 use Rattle.sw_outside.specs.declared.errors.NoMemory.{NoMemory}
 use Rattle.sw_pass.specs.declared.outcome.Outcome.{Outcome}
 use Rattle.sw_peer.specs.Sights.{IsListed}
@@ -43,31 +43,31 @@ abbrev pub IsPushReply : Result Outcome NoMemory → Response → Type 0
 IsPushReply (Ok outcome) response = (response ≡ text_reply (outcome_text outcome)) ⊎ (response ≡ bare 500)
 IsPushReply (Err wanting) response = response ≡ bare 500
 
-module _ {V : Type 0} (tells : V → Bool) (files : V → Folders) (faults : V → ℕ) where
+module _ {V K : Type 0} (tells : V → Bool) (files : V → Folders) (faults : V → ℕ) (keeps : KeeperSeen K) where
   -- the files of a device were listed
-  pub record IsFiled (device : ℕ) (w : AllNodes V) (response : Response) (after : AllNodes V) : Type 0 where
+  pub record IsFiled (device : ℕ) (w : AllNodes V K) (response : Response) (after : AllNodes V K) : Type 0 where
     pub listed : Result (List (List ℕ)) VolumeError
-    pub moves : IsListed device (is_failed listed) (sight_of tells files faults w) (sight_of tells files faults after)
+    pub moves : IsListed device (is_failed listed) (sight_of tells files faults keeps w) (sight_of tells files faults keeps after)
     pub calm : is_failed listed ≡ false → AreCalm tells files faults w.slots after.slots
     pub same : IsSameWorld w after
     pub paths : IfOk listed (ListsFiles tells files w device)
     pub reply : IsFilesReply listed response
 
-  -- a device was lifted, and set down over the same volumes
-  pub record IsRestarted (device : ℕ) (w after : AllNodes V) : Type 0 where
-    pub given : List V
-    pub mid : AllNodes V
-    pub up : Lifts tells files faults w device given mid
+  -- a device was lifted, and set down over the same volumes and keepers
+  pub record IsRestarted (device : ℕ) (w after : AllNodes V K) : Type 0 where
+    pub given : List (V × K)
+    pub mid : AllNodes V K
+    pub up : Lifts tells files faults keeps w device given mid
     pub down : SetsDown mid device given after
 
   -- A partition was pushed, and what came of it replied. A push that wanted memory was made as far as it came
-  pub record IsReplicated (asked : Replication) (w : AllNodes V) (response : Response) (after : AllNodes V) : Type 0 where
+  pub record IsReplicated (asked : Replication) (w : AllNodes V K) (response : Response) (after : AllNodes V K) : Type 0 where
     pub outcome : Result Outcome NoMemory
-    pub pushed : IsPushedOver asked.from asked.to asked.part asked.acts (sight_of tells files faults w) outcome (sight_of tells files faults after)
+    pub pushed : IsPushedOver asked.from asked.to asked.part asked.acts (sight_of tells files faults keeps w) outcome (sight_of tells files faults keeps after)
     pub reply : IsPushReply outcome response
 
   -- what a control request asks for was done
-  abbrev pub IsControlDone : Ring → AllNodes V → Control → Response → AllNodes V → Type 0
+  abbrev pub IsControlDone : Ring → AllNodes V K → Control → Response → AllNodes V K → Type 0
   IsControlDone ring w controls.Trail response after = (after ≡ w) × (response ≡ text_reply (trail_text ring.devices w.lines))
   IsControlDone ring w (controls.Files device) response after = IsFiled device w response after
   IsControlDone ring w (controls.Restart device) response after = IsRestarted device w after × (response ≡ text_reply [])
@@ -75,7 +75,7 @@ module _ {V : Type 0} (tells : V → Bool) (files : V → Folders) (faults : V �
   IsControlDone ring w controls.Refused response after = (after ≡ w) × (response ≡ bare 400)
 
   -- a control request was answered, or memory ran out before anything was done
-  abbrev pub IsControlled : Ring → AllNodes V → Request → Response → AllNodes V → Type 0
+  abbrev pub IsControlled : Ring → AllNodes V K → Request → Response → AllNodes V K → Type 0
   IsControlled ring w r response after =
       ((asked : Control) × IsControl ring r asked × IsControlDone ring w asked response after) ⊎ ((after ≡ w) × (response ≡ bare 500))
 
@@ -83,44 +83,44 @@ module _ {V : Type 0} (tells : V → Bool) (files : V → Folders) (faults : V �
 
   -- The step that a request for an object asks for came, and what it was answered is replied. Or memory ran out: then no step came, or the one that the
   -- request asks for, which changed nothing
-  abbrev pub IsServedAt : Ring → AllNodes V → Request → ℕ → Response → AllNodes V → Type 0
+  abbrev pub IsServedAt : Ring → AllNodes V K → Request → ℕ → Response → AllNodes V K → Type 0
   IsServedAt ring w r moment response after =
-      objects.IsAnswered (sight_of tells files faults) w after ring r moment response
-      ⊎ ((response ≡ bare 500) × objects.IsGivenUp (sight_of tells files faults) w after ring r moment)
+      objects.IsAnswered (sight_of tells files faults keeps) w after ring r moment response
+      ⊎ ((response ≡ bare 500) × objects.IsGivenUp (sight_of tells files faults keeps) w after ring r moment)
 
   -- ---- requests for replicas
 
   -- The reads that a request for replicas asks for were made, and what they told replied. Or memory ran out: then some first ones of them were
   -- made, or none
-  abbrev pub IsCompared : Ring → AllNodes V → Request → Response → AllNodes V → Type 0
+  abbrev pub IsCompared : Ring → AllNodes V K → Request → Response → AllNodes V K → Type 0
   IsCompared ring w r response after =
-      replicas.IsAnswered (sight_of tells files faults) w after ring r response
-      ⊎ ((response ≡ bare 500) × replicas.IsGivenUp (sight_of tells files faults) w after ring r)
+      replicas.IsAnswered (sight_of tells files faults keeps) w after ring r response
+      ⊎ ((response ≡ bare 500) × replicas.IsGivenUp (sight_of tells files faults keeps) w after ring r)
 
   -- ---- requests for containers
 
   -- The steps that a request for containers asks for came, and what they were answered is replied. Or memory ran out: then no step came, or those
   -- that the request asks for, which changed nothing
-  abbrev pub IsContained : Ring → AllNodes V → Request → Response → AllNodes V → Type 0
+  abbrev pub IsContained : Ring → AllNodes V K → Request → Response → AllNodes V K → Type 0
   IsContained ring w r response after =
-      containers.IsAnswered (sight_of tells files faults) w after ring r response
-      ⊎ ((response ≡ bare 500) × containers.IsGivenUp (sight_of tells files faults) w after ring r)
+      containers.IsAnswered (sight_of tells files faults keeps) w after ring r response
+      ⊎ ((response ≡ bare 500) × containers.IsGivenUp (sight_of tells files faults keeps) w after ring r)
 
   -- ---- any request
 
   -- A reply that may be given: the right one, or want of memory; and what the world is then. Whatever machine it stood for goes on to it as it is then,
   -- by the lines that it kept of this request.
-  pub record MayAnswer (ring : Ring) (w : AllNodes V) (r : Request) (moment : ℕ) (response : Response) (after : AllNodes V) : Type 0 where
+  pub record MayAnswer (ring : Ring) (w : AllNodes V K) (r : Request) (moment : ℕ) (response : Response) (after : AllNodes V K) : Type 0 where
     pub answers : MatchBool (is_control r.path) (IsControlled ring w r response after)
         (MatchBool (is_replication_of r) (IsCompared ring w r response after)
         (MatchBool (is_for_containers r) (IsContained ring w r response after) (IsServedAt ring w r moment response after)))
-    pub nodes : (sight_of tells files faults after).nodes ≡ (sight_of tells files faults w).nodes
-    pub runs : RunsOn (sight_of tells files faults w) (sight_of tells files faults after)
+    pub nodes : (sight_of tells files faults keeps after).nodes ≡ (sight_of tells files faults keeps w).nodes
+    pub runs : RunsOn (sight_of tells files faults keeps w) (sight_of tells files faults keeps after)
 
-  -- A restart was asked for, and the device lifted, but its volumes couldn't be started again: it stays out, and no request comes after it
-  pub record MayHalt (ring : Ring) (w : AllNodes V) (r : Request) (after : AllNodes V) : Type 0 where
+  -- A restart was asked for, and the device lifted, but its volumes and keepers couldn't be started again: it stays out, and no request comes after it
+  pub record MayHalt (ring : Ring) (w : AllNodes V K) (r : Request) (after : AllNodes V K) : Type 0 where
     pub control : is_control r.path ≡ true
     pub device : ℕ
     pub asked : IsControl ring r (controls.Restart device)
-    pub given : List V
-    pub up : Lifts tells files faults w device given after
+    pub given : List (V × K)
+    pub up : Lifts tells files faults keeps w device given after

@@ -1,3 +1,4 @@
+ghost use Rattle.sw_core.specs.Worlds.{keeper_seen};
 ghost use Rattle.std.specs.Prelude.{◌≡◌, ◌<◌, ◌≤◌, ◌^◌, ◌⊎◌, true, false, length, None, Ok, IfOk, IfErr, OnOk, OnErr};
 ghost use Rattle.sw_control.specs.Texts.{files_text as files_text_of, text_reply as text_reply_of};
 ghost use Rattle.sw_object_server.specs.Replies.{bare as bare_of};
@@ -15,7 +16,7 @@ use sw_control::{
     Control, Replication, files_text, is_control, outcome_text, read_control, text_reply,
     trail_text,
 };
-use sw_core::{Parts, World};
+use sw_core::World;
 use sw_lossy::Lossy;
 use sw_message::{Request, Response};
 use sw_object_server::bare;
@@ -26,26 +27,28 @@ use sw_ring::Ring;
 use sw_session::{Server, ServerFault};
 use sw_steps::push_over;
 use sw_stores::Stores;
-use sw_stores::volumes::restart_range;
+use sw_stores::ranges::restart_range;
 use sw_volume::VolumeError;
 
 /// The nodes of a ring, as the server of a session. A control request is answered by what the world tells or by what is done with it, and all
-/// others by its nodes. The volumes of the nodes are those of the stores, which get them back where a device is restarted.
+/// others by its nodes. What the locks of the nodes stand over comes from the stores, which get it back where a device is restarted.
 #[derive(Drop)]
 pub struct Nodes<'a, S: Stores> {
     pub ring: &'a Ring,
     /// The nodes, and the door by which messages between them fail where a pass asks for that.
-    pub network: Lossy<World<S::V>>,
+    pub network: Lossy<World<S::V, S::K>>,
     pub stores: &'a mut S,
 }
 
 impl<S: Stores> Server for Nodes<'_, S> {
     ghost ready = { λ n. IsReady S.out n.ring.now n.network.door n.stores.now };
 
-    ghost serves = { λ old request moment response new. NodesAnswer S.V.tells S.V.holds S.V.faults S.faults S.calls S.out
+    ghost serves = { λ old request moment response new. NodesAnswer S.V.tells S.V.holds S.V.faults (keeper_seen S.K.tells S.K.holds S.K.faults) S.faults S.calls
+        S.out
         old.ring.now new.ring.now old.network.door new.network.door old.stores new.stores request moment response };
 
-    ghost halts = { λ old request moment fault new. NodesHalt S.V.tells S.V.holds S.V.faults S.faults S.calls S.rests S.out
+    ghost halts = { λ old request moment fault new. NodesHalt S.V.tells S.V.holds S.V.faults (keeper_seen S.K.tells S.K.holds S.K.faults) S.faults S.calls
+        S.rests S.out
         old.ring.now new.ring.now old.network.door new.network.door old.stores new.stores request fault };
 
     ghost last = { λ request. false };
@@ -78,7 +81,7 @@ impl<S: Stores> Nodes<'_, S> {
         requires nodes { is_control_path request.now.path ≡ false }
         requires replicas { is_replication_of request.now ≡ true }
         ensures ready { IsReady S.out self.new.ring.now self.new.network.door self.new.stores.now }
-        ensures served { NodesAnswer S.V.tells S.V.holds S.V.faults S.faults S.calls S.out
+        ensures served { NodesAnswer S.V.tells S.V.holds S.V.faults (keeper_seen S.K.tells S.K.holds S.K.faults) S.faults S.calls S.out
             self.old.ring.now self.new.ring.now self.old.network.door self.new.network.door self.old.stores self.new.stores request.now _now result }
     {
         match sw_replica_server::answer(alloc, &mut self.network.door, self.ring, request) {
@@ -94,7 +97,7 @@ impl<S: Stores> Nodes<'_, S> {
         requires no_replicas { is_replication_of request.now ≡ false }
         requires containers { is_for_containers_of request.now ≡ true }
         ensures ready { IsReady S.out self.new.ring.now self.new.network.door self.new.stores.now }
-        ensures served { NodesAnswer S.V.tells S.V.holds S.V.faults S.faults S.calls S.out
+        ensures served { NodesAnswer S.V.tells S.V.holds S.V.faults (keeper_seen S.K.tells S.K.holds S.K.faults) S.faults S.calls S.out
             self.old.ring.now self.new.ring.now self.old.network.door self.new.network.door self.old.stores self.new.stores request.now _now result }
     {
         match sw_container_server::answer(alloc, &mut self.network.door, self.ring, request) {
@@ -110,7 +113,7 @@ impl<S: Stores> Nodes<'_, S> {
         requires no_replicas { is_replication_of request ≡ false }
         requires objects { is_for_containers_of request ≡ false }
         ensures ready { IsReady S.out self.new.ring.now self.new.network.door self.new.stores.now }
-        ensures served { NodesAnswer S.V.tells S.V.holds S.V.faults S.faults S.calls S.out
+        ensures served { NodesAnswer S.V.tells S.V.holds S.V.faults (keeper_seen S.K.tells S.K.holds S.K.faults) S.faults S.calls S.out
             self.old.ring.now self.new.ring.now self.old.network.door self.new.network.door self.old.stores self.new.stores request now result }
     {
         match sw_object_server::answer(alloc, &mut self.network.door, self.ring, request, now) {
@@ -129,9 +132,10 @@ impl<S: Stores> Nodes<'_, S> {
         requires ready { IsReady S.out self.old.ring.now self.old.network.door self.old.stores.now }
         requires control { is_control_path request.now.path ≡ true }
         ensures ready { OnOk result (IsReady S.out self.new.ring.now self.new.network.door self.new.stores.now) }
-        ensures served { IfOk result (λ response. NodesAnswer S.V.tells S.V.holds S.V.faults S.faults S.calls S.out
+        ensures served { IfOk result (λ response. NodesAnswer S.V.tells S.V.holds S.V.faults (keeper_seen S.K.tells S.K.holds S.K.faults) S.faults S.calls S.out
             self.old.ring.now self.new.ring.now self.old.network.door self.new.network.door self.old.stores self.new.stores request.now _now response) }
-        ensures halted { IfErr result (λ fault. NodesHalt S.V.tells S.V.holds S.V.faults S.faults S.calls S.rests S.out
+        ensures halted { IfErr result (λ fault. NodesHalt S.V.tells S.V.holds S.V.faults (keeper_seen S.K.tells S.K.holds S.K.faults) S.faults S.calls S.rests
+            S.out
             self.old.ring.now self.new.ring.now self.old.network.door self.new.network.door self.old.stores self.new.stores request.now fault) }
     {
         match read_control(alloc, self.ring, request) {
@@ -146,7 +150,7 @@ impl<S: Stores> Nodes<'_, S> {
 
     /// The reply that shows the trail.
     fn trail(&self, alloc: Global) -> Result<Response, NoMemory>
-        ensures { IfOk result (λ response. IsControlDone S.V.tells S.V.holds S.V.faults
+        ensures { IfOk result (λ response. IsControlDone S.V.tells S.V.holds S.V.faults (keeper_seen S.K.tells S.K.holds S.K.faults)
             self.now.ring.now self.now.network.door controls.Trail response self.now.network.door) }
     {
         let text = trail_text(alloc, &self.ring.devices, self.network.door.lines())?;
@@ -157,7 +161,8 @@ impl<S: Stores> Nodes<'_, S> {
     fn files(&mut self, alloc: Global, device: u8) -> Response
         requires device { device < self.old.network.door.devices }
         requires whole { self.old.network.door.lifted ≡ None }
-        ensures filed { IsFiled S.V.tells S.V.holds S.V.faults device self.old.network.door result self.new.network.door
+        ensures filed { IsFiled S.V.tells S.V.holds S.V.faults (keeper_seen S.K.tells S.K.holds S.K.faults) device self.old.network.door result
+            self.new.network.door
             ⊎ ((self.new.network.door ≡ self.old.network.door) × (result ≡ bare_of 500)) }
         ensures same { (self.new.ring ≡ self.old.ring) × (self.new.stores ≡ self.old.stores) }
     {
@@ -172,7 +177,8 @@ impl<S: Stores> Nodes<'_, S> {
     fn replicate(&mut self, alloc: Global, asked: Replication) -> Response
         requires placed { IsPlaced self.old.ring.now (controls.Replicate asked) }
         requires ready { IsReady S.out self.old.ring.now self.old.network.door self.old.stores.now }
-        ensures replicated { IsReplicated S.V.tells S.V.holds S.V.faults asked self.old.network.door result self.new.network.door }
+        ensures replicated { IsReplicated S.V.tells S.V.holds S.V.faults (keeper_seen S.K.tells S.K.holds S.K.faults) asked self.old.network.door result
+            self.new.network.door }
         ensures same { (self.new.ring ≡ self.old.ring) × (self.new.stores ≡ self.old.stores) }
     {
         match push_over(
@@ -188,17 +194,18 @@ impl<S: Stores> Nodes<'_, S> {
         }
     }
 
-    /// Restarts a device: its volumes go back to the stores, and are started anew. The reply is made first, so that a device that was
+    /// Restarts a device: its volumes and keepers go back to the stores, and are started anew. The reply is made first, so that a device that was
     /// restarted is told so.
     fn restart(&mut self, alloc: Global, device: u8) -> Result<Response, ServerFault>
         requires device { device < length self.old.ring.now.devices }
         requires ready { IsReady S.out self.old.ring.now self.old.network.door self.old.stores.now }
         ensures ready { OnOk result (IsReady S.out self.new.ring.now self.new.network.door self.new.stores.now) }
         ensures restarted { IfOk result (λ response.
-            (IsControlDone S.V.tells S.V.holds S.V.faults self.old.ring.now self.old.network.door (controls.Restart device) response self.new.network.door
+            (IsControlDone S.V.tells S.V.holds S.V.faults (keeper_seen S.K.tells S.K.holds S.K.faults) self.old.ring.now self.old.network.door
+            (controls.Restart device) response self.new.network.door
             × (S.calls self.new.stores.now ≡ raised_by (2 ^ self.old.ring.now.lock_bits) (S.calls self.old.stores.now)))
             ⊎ ((self.new.network.door ≡ self.old.network.door) × (response ≡ bare_of 500) × (S.calls self.new.stores.now ≡ S.calls self.old.stores.now))) }
-        ensures lifted { IfErr result (λ fault. FailsToStart S.V.tells S.V.holds S.V.faults S.calls S.rests S.out
+        ensures lifted { IfErr result (λ fault. FailsToStart S.V.tells S.V.holds S.V.faults (keeper_seen S.K.tells S.K.holds S.K.faults) S.calls S.rests S.out
             self.old.ring.now device self.old.network.door self.new.network.door self.old.stores.now self.new.stores.now) }
         ensures same { (self.new.ring ≡ self.old.ring) × (self.new.stores.ghost_name ≡ self.old.stores.ghost_name) }
         ensures kept { OnOk result (S.faults self.new.stores.now ≡ S.faults self.old.stores.now) }
@@ -212,9 +219,9 @@ impl<S: Stores> Nodes<'_, S> {
         };
         let stripes = stripes(self.ring);
         let first = usize::from(device) * usize::from(stripes);
-        match restart_range(alloc, self.stores, stripes, first, parts.volumes) {
-            Ok(volumes) => {
-                self.network.door.set_down(alloc, device, Parts { volumes });
+        match restart_range(alloc, self.stores, stripes, first, parts) {
+            Ok(parts) => {
+                self.network.door.set_down(alloc, device, parts);
                 Ok(response)
             }
             Err(StoreError::Failed) => Err(ServerFault::Failed),

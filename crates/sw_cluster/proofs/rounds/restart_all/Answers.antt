@@ -1,3 +1,4 @@
+use Rattle.sw_core.specs.Worlds.{keeper_seen}
 use Rattle.std.proofs.Common.{◌≡◌, ◌+◌, ◌∙◌, ◌^◌, suc, ℕ, arith, refl, rules, subst}
 use Rattle.std.proofs.lemmas.Result.{err_from_is_err_and}
 use Rattle.sw_nodes.proofs.Restarting.{none-called}
@@ -15,10 +16,11 @@ loop-device-init g c = record {
 
 pub loop-device-preserved : goal.loop-device-preserved
 loop-device-preserved g c =
-    let s = g.S.Stores in let v = g.S.V.Volume in
+    let s = g.S.Stores in let v = g.S.V.Volume in let keeper = g.S.K.Keeper in
     let next : suc c.loop-device.device ≡ c.loop-device.device + 1 = omega arith in
     record {
-      restarted = subst (λ (n : ℕ). RestartsFirst v.tells v.holds v.faults c.args.ring.now n c.args.world.now c.restart.new.world) next
+      restarted = subst (λ (n : ℕ). RestartsFirst v.tells v.holds v.faults (keeper_seen keeper.tells keeper.holds keeper.faults) c.args.ring.now n
+          c.args.world.now c.restart.new.world) next
           (c.loop-device.world, c.loop-device.invariant.restarted, c.in_ok-restart.ensures.restarted);
       ready = c.in_ok-restart.ensures.ready;
       calls = restarts-on c.loop-device.device (2 ^ c.args.ring.now.lock_bits) (s.calls c.args.stores.now) (s.calls c.loop-device.stores)

@@ -1,3 +1,4 @@
+use Rattle.sw_core.specs.Worlds.{keeper_seen}
 use Rattle.std.proofs.Common.{refl, inr}
 use Rattle.sw_nodes.proofs.Readying.{ready-nodes}
 use Rattle.sw_cluster.proofs.Rounding.{one-stopped}
@@ -10,19 +11,20 @@ serve_one-requires-clause-nodes g c = ready-nodes g.S.Stores.out c.args.ring.now
 
 pub restart_all-requires : goal.restart_all-requires
 restart_all-requires g c =
-    let v = g.S.V.Volume in let one = c.in-Ok.ensures.one in
+    let v = g.S.V.Volume in let keeper = g.S.K.Keeper in let one = c.in-Ok.ensures.one in
     record {
-      ready = ready-after v.tells v.holds v.faults c.args.ring.now g.S.Stores.out c.args.world.now c.serve_one.new.door c.args.stores.now one.0 c.requires.ready
+      ready = ready-after v.tells v.holds v.faults (keeper_seen keeper.tells keeper.holds keeper.faults) c.args.ring.now g.S.Stores.out c.args.world.now
+          c.serve_one.new.door c.args.stores.now one.0 c.requires.ready
           one.1;
     }
 
 pub returns-in-Err-Failed-restart_all-clause-stops : goal.returns-in-Err-Failed-restart_all-clause-stops
 returns-in-Err-Failed-restart_all-clause-stops g c =
-    let s = g.S.Stores in let v = g.S.V.Volume in let n = g.N.Doors in
+    let s = g.S.Stores in let v = g.S.V.Volume in let keeper = g.S.K.Keeper in let n = g.N.Doors in
     let one = c.in-Ok.ensures.one in let stops = c.in-Err-Failed-restart_all.ensures.stops in (
       stops.0,
       (
-        one-stopped v.tells v.holds v.faults c.args.ring.now c.args.world.now c.serve_one.new.door
+        one-stopped v.tells v.holds v.faults (keeper_seen keeper.tells keeper.holds keeper.faults) c.args.ring.now c.args.world.now c.serve_one.new.door
             (doors_told n.accepts n.finished n.calls n.faults c.args.doors.now) (doors_told n.accepts n.finished n.calls n.faults c.serve_one.new.doors)
             (g.C.Clock.readings c.args.clock.now) (g.C.Clock.readings c.serve_one.new.clock) one.0 one.1 one.2 c.serve_one.ensures.calls
             s.calls s.rests s.out stops.0 c.restart_all.new.world c.args.stores.now c.restart_all.new.stores
@@ -35,11 +37,11 @@ returns-in-Err-Failed-restart_all-clause-stops g c =
 
 pub returns-in-Err-NoMemory-restart_all-clause-stops : goal.returns-in-Err-NoMemory-restart_all-clause-stops
 returns-in-Err-NoMemory-restart_all-clause-stops g c =
-    let s = g.S.Stores in let v = g.S.V.Volume in let n = g.N.Doors in
+    let s = g.S.Stores in let v = g.S.V.Volume in let keeper = g.S.K.Keeper in let n = g.N.Doors in
     let one = c.in-Ok.ensures.one in let stops = c.in-Err-NoMemory-restart_all.ensures.stops in (
       stops.0,
       (
-        inr (one-stopped v.tells v.holds v.faults c.args.ring.now c.args.world.now c.serve_one.new.door
+        inr (one-stopped v.tells v.holds v.faults (keeper_seen keeper.tells keeper.holds keeper.faults) c.args.ring.now c.args.world.now c.serve_one.new.door
             (doors_told n.accepts n.finished n.calls n.faults c.args.doors.now) (doors_told n.accepts n.finished n.calls n.faults c.serve_one.new.doors)
             (g.C.Clock.readings c.args.clock.now) (g.C.Clock.readings c.serve_one.new.clock) one.0 one.1 one.2 c.serve_one.ensures.calls
             s.calls s.rests s.out stops.0 c.restart_all.new.world c.args.stores.now c.restart_all.new.stores

@@ -1,13 +1,19 @@
 use Rattle.std.proofs.Common.{◌≡◌, ℕ, ◌+◌, ◌*◌, ◌^◌, true, List, ◌++◌, length, length-append, refl, sym, ap, subst, ◌∙◌, Some, arith}
+use Rattle.std.proofs.Math.Nat.{mul-le-mul_right}
 use Rattle.sw_core.specs.Stopping.{gap_first, gap_past}
 use Rattle.sw_stores.specs.Places.{ComeHome, IsSameBut, at_place, is_around}
-use Rattle.sw_stores.specs.Volumes.{AreResting}
+use Rattle.sw_stores.specs.Starting.{AreResting}
 use Rattle.sw_cluster.proofs.Resting.{all-home, around-out, gap-same, rests-each}
 use Rattle.sw_cluster.proofs.volumes.give_back.Goals as goal
 
 abbrev of_four : (P : ℕ → ℕ → ℕ → ℕ → Type 0) (a b c d e f g h : ℕ) → a ≡ e → b ≡ f → c ≡ g → d ≡ h → P a b c d → P e f g h
 of_four P a b c d e f g h p q r s x =
     subst (λ (y : ℕ). P y f g h) p (subst (λ (y : ℕ). P a y g h) q (subst (λ (y : ℕ). P a b y h) r (subst (λ (y : ℕ). P a b c y) s x)))
+
+pub give_around-requires-clause-within : goal.give_around-requires-clause-within
+give_around-requires-clause-within g c =
+    rw (c.as_slice.ensures, c.from.ensures, sym c.requires.devices)
+    (mul-le-mul_right {m = c.args.world.devices} {n = 256} c.stripes-stripes.result c.stop.ensures.world.devices)
 
 pub give_around-requires-clause-each : goal.give_around-requires-clause-each
 give_around-requires-clause-each g c =
@@ -17,7 +23,7 @@ give_around-requires-clause-each g c =
     let first : c.gap_of-first.result.0 ≡ gap_first bits c.args.world.lifted = gap.0 ∙ ap (gap_first bits) c.lifted.ensures in
     let past : c.gap_of-first.result.1 ≡ gap_past bits c.args.world.lifted = gap.1 ∙ ap (gap_past bits) c.lifted.ensures in
     let gives = c.stop.ensures.gives in
-    let whole : length c.stop.result.volumes.items ≡ length gives.before + length gives.behind =
+    let whole : length c.stop.result ≡ length gives.before + length gives.behind =
     ap length gives.all ∙ length-append gives.before gives.behind in
     let count : length c.as_slice.result.now * c.from.result ≡ c.args.world.devices * 2 ^ bits =
     rw (c.as_slice.ensures, c.from.ensures, stripes_are, sym c.requires.devices) refl in
@@ -48,19 +54,19 @@ returns-clause-home g c =
     c.requires.out
 
 pub returns-clause-rests : goal.returns-clause-rests
-returns-clause-rests g c l k at =
+returns-clause-rests g c l k d at beside =
     let stripes_are : c.stripes-stripes.result ≡ 2 ^ c.args.world.lock_bits = c.stripes-stripes.ensures.value
     ∙ ap (λ (b : ℕ). 2 ^ b) (sym c.requires.lock_bits) in
-    subst (λ (b : ℕ). at_place (g.S.Stores.rests c.give_around.new.stores) (2 ^ b) l ≡ Some k.volume) c.requires.lock_bits
-    (rests-each c.args.world c.stop.ensures.world (g.S.Stores.rests c.give_around.new.stores) c.stop.result.volumes.items c.stop.ensures.gives
-    (of_four (λ (s f p n : ℕ). (before behind : List _) → c.stop.result.volumes.items ≡ before ++ behind → length before ≡ f
+    subst (λ (b : ℕ). at_place (g.S.Stores.rests c.give_around.new.stores) (2 ^ b) l ≡ Some (k.volume, d.keeper)) c.requires.lock_bits
+    (rests-each c.args.world c.stop.ensures.world (g.S.Stores.rests c.give_around.new.stores) c.stop.result c.stop.ensures.gives
+    (of_four (λ (s f p n : ℕ). (before behind : List _) → c.stop.result ≡ before ++ behind → length before ≡ f
     → AreResting (g.S.Stores.rests c.give_around.new.stores) s 0 before × AreResting (g.S.Stores.rests c.give_around.new.stores) s p behind) _ _ _ 0 _ _ _ 0
     stripes_are
     ((c.gap_of-first.ensures c.args.world.lock_bits stripes_are).0 ∙ ap (gap_first c.args.world.lock_bits) c.lifted.ensures)
     ((c.gap_of-first.ensures c.args.world.lock_bits stripes_are).1 ∙ ap (gap_past c.args.world.lock_bits) c.lifted.ensures)
     refl
     c.give_around.ensures.rests)
-    l k at)
+    l k d at beside)
 
 pub returns-clause-others : goal.returns-clause-others
 returns-clause-others g c device out =

@@ -5,9 +5,9 @@ use Rattle.sw_cluster.proofs.connection.DoorServer.serve.Goals as goal
 pub returns-in-Ok-clause-answers : goal.returns-in-Ok-clause-answers
 returns-in-Ok-clause-answers g c =
     answers-objects g.D.Door.sight c.args.self.now.ring.now c.args.self.now.door.now c.answer.new.door c.args.request c.args.now c.in-Ok.response
-    c.requires.nodes c.requires.objects (inl c.in-Ok.ensures.ok)
+    c.requires.nodes c.requires.no_replicas c.requires.objects (inl c.in-Ok.ensures.ok)
 
 pub returns-in-Err-clause-answers : goal.returns-in-Err-clause-answers
 returns-in-Err-clause-answers g c =
     answers-objects g.D.Door.sight c.args.self.now.ring.now c.args.self.now.door.now c.answer.new.door c.args.request c.args.now c.bare.result
-    c.requires.nodes c.requires.objects (inr (c.bare.ensures, c.in-Err.ensures.err))
+    c.requires.nodes c.requires.no_replicas c.requires.objects (inr (c.bare.ensures, c.in-Err.ensures.err))

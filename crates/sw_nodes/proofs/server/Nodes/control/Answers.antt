@@ -1,3 +1,4 @@
+use Rattle.sw_core.specs.Worlds.{keeper_seen}
 use Rattle.std.proofs.Common.{ap, subst, inl, inr, refl}
 use Rattle.sw_control.specs.Asking.{IsControl, IsPlaced}
 use Rattle.sw_nodes.proofs.Controlling.{came_again, done_nothing, files_listed, push_ready, stayed_away, trail_told, was_pushed}
@@ -6,7 +7,8 @@ use Rattle.sw_nodes.proofs.server.Nodes.control.Goals as goal
 
 pub returns-in-Ok-Files-clause-served : goal.returns-in-Ok-Files-clause-served
 returns-in-Ok-Files-clause-served g c =
-    files_listed g.S.V.Volume.tells g.S.V.Volume.holds g.S.V.Volume.faults g.S.Stores.faults g.S.Stores.calls g.S.Stores.out c.args.self.now.ring.now
+    files_listed g.S.V.Volume.tells g.S.V.Volume.holds g.S.V.Volume.faults (keeper_seen g.S.K.Keeper.tells g.S.K.Keeper.holds g.S.K.Keeper.faults)
+    g.S.Stores.faults g.S.Stores.calls g.S.Stores.out c.args.self.now.ring.now
     c.files.new.self.ring.now c.args.self.now.network.door c.files.new.self.network.door c.args.self.now.stores c.files.new.self.stores c.args.request.now
     c.args._now
     c.files.result c.in-Ok-Files.device c.requires.control
@@ -15,7 +17,8 @@ returns-in-Ok-Files-clause-served g c =
 
 pub returns-in-Ok-Restart-clause-served : goal.returns-in-Ok-Restart-clause-served
 returns-in-Ok-Restart-clause-served g c =
-    came_again g.S.V.Volume.tells g.S.V.Volume.holds g.S.V.Volume.faults g.S.Stores.faults g.S.Stores.calls g.S.Stores.out c.args.self.now.ring.now
+    came_again g.S.V.Volume.tells g.S.V.Volume.holds g.S.V.Volume.faults (keeper_seen g.S.K.Keeper.tells g.S.K.Keeper.holds g.S.K.Keeper.faults)
+    g.S.Stores.faults g.S.Stores.calls g.S.Stores.out c.args.self.now.ring.now
     c.restart.new.self.ring.now c.args.self.now.network.door c.restart.new.self.network.door c.args.self.now.stores c.restart.new.self.stores c.args.request.now
     c.args._now
     c.restart.result c.in-Ok-Restart.device c.requires.control
@@ -24,7 +27,8 @@ returns-in-Ok-Restart-clause-served g c =
 
 pub returns-in-Ok-Restart-clause-halted : goal.returns-in-Ok-Restart-clause-halted
 returns-in-Ok-Restart-clause-halted g c =
-    stayed_away g.S.V.Volume.tells g.S.V.Volume.holds g.S.V.Volume.faults g.S.Stores.faults g.S.Stores.calls g.S.Stores.out c.args.self.now.ring.now
+    stayed_away g.S.V.Volume.tells g.S.V.Volume.holds g.S.V.Volume.faults (keeper_seen g.S.K.Keeper.tells g.S.K.Keeper.holds g.S.K.Keeper.faults)
+    g.S.Stores.faults g.S.Stores.calls g.S.Stores.out c.args.self.now.ring.now
     c.restart.new.self.ring.now c.args.self.now.network.door c.restart.new.self.network.door c.args.self.now.stores c.restart.new.self.stores c.args.request.now
     g.S.Stores.rests c.restart.result c.in-Ok-Restart.device c.requires.control
     (subst (IsControl c.args.self.now.ring.now c.args.request.now) c.in-Ok-Restart.field-0-is c.in-Ok-Restart.ensures.exact)
@@ -32,7 +36,8 @@ returns-in-Ok-Restart-clause-halted g c =
 
 pub returns-in-Ok-Replicate-clause-served : goal.returns-in-Ok-Replicate-clause-served
 returns-in-Ok-Replicate-clause-served g c =
-    was_pushed g.S.V.Volume.tells g.S.V.Volume.holds g.S.V.Volume.faults g.S.Stores.faults g.S.Stores.calls g.S.Stores.out c.args.self.now.ring.now
+    was_pushed g.S.V.Volume.tells g.S.V.Volume.holds g.S.V.Volume.faults (keeper_seen g.S.K.Keeper.tells g.S.K.Keeper.holds g.S.K.Keeper.faults)
+    g.S.Stores.faults g.S.Stores.calls g.S.Stores.out c.args.self.now.ring.now
     c.replicate.new.self.ring.now c.args.self.now.network.door c.replicate.new.self.network.door c.args.self.now.stores c.replicate.new.self.stores
     c.args.request.now
     c.args._now c.replicate.result c.in-Ok-Replicate.asked c.requires.control
@@ -42,7 +47,8 @@ returns-in-Ok-Replicate-clause-served g c =
 
 pub returns-in-Ok-Replicate-clause-ready : goal.returns-in-Ok-Replicate-clause-ready
 returns-in-Ok-Replicate-clause-ready g c =
-    push_ready g.S.V.Volume.tells g.S.V.Volume.holds g.S.V.Volume.faults g.S.Stores.faults g.S.Stores.calls g.S.Stores.out c.args.self.now.ring.now
+    push_ready g.S.V.Volume.tells g.S.V.Volume.holds g.S.V.Volume.faults (keeper_seen g.S.K.Keeper.tells g.S.K.Keeper.holds g.S.K.Keeper.faults)
+    g.S.Stores.faults g.S.Stores.calls g.S.Stores.out c.args.self.now.ring.now
     c.replicate.new.self.ring.now c.args.self.now.network.door c.replicate.new.self.network.door c.args.self.now.stores c.replicate.new.self.stores
     c.args.request.now
     c.in-Ok-Replicate.asked c.replicate.result
@@ -51,16 +57,19 @@ returns-in-Ok-Replicate-clause-ready g c =
 
 pub returns-in-Ok-Trail-clause-served : goal.returns-in-Ok-Trail-clause-served
 returns-in-Ok-Trail-clause-served g c =
-    done_nothing g.S.V.Volume.tells g.S.V.Volume.holds g.S.V.Volume.faults g.S.Stores.faults g.S.Stores.calls g.S.Stores.out c.args.self.now.ring.now
+    done_nothing g.S.V.Volume.tells g.S.V.Volume.holds g.S.V.Volume.faults (keeper_seen g.S.K.Keeper.tells g.S.K.Keeper.holds g.S.K.Keeper.faults)
+    g.S.Stores.faults g.S.Stores.calls g.S.Stores.out c.args.self.now.ring.now
     c.args.self.now.network.door c.args.self.now.stores c.args.request.now c.args._now c.or_wanting.result c.requires.control c.requires.ready
-    (trail_told g.S.V.Volume.tells g.S.V.Volume.holds g.S.V.Volume.faults c.args.self.now.ring.now c.args.self.now.network.door c.args.request.now
+    (trail_told g.S.V.Volume.tells g.S.V.Volume.holds g.S.V.Volume.faults (keeper_seen g.S.K.Keeper.tells g.S.K.Keeper.holds g.S.K.Keeper.faults)
+    c.args.self.now.ring.now c.args.self.now.network.door c.args.request.now
     c.trail.result c.or_wanting.result
     (subst (IsControl c.args.self.now.ring.now c.args.request.now) c.in-Ok-Trail.field-0-is c.in-Ok-Trail.ensures.exact)
     c.trail.ensures c.or_wanting.ensures.ok c.or_wanting.ensures.err)
 
 pub returns-in-Ok-Refused-clause-served : goal.returns-in-Ok-Refused-clause-served
 returns-in-Ok-Refused-clause-served g c =
-    done_nothing g.S.V.Volume.tells g.S.V.Volume.holds g.S.V.Volume.faults g.S.Stores.faults g.S.Stores.calls g.S.Stores.out c.args.self.now.ring.now
+    done_nothing g.S.V.Volume.tells g.S.V.Volume.holds g.S.V.Volume.faults (keeper_seen g.S.K.Keeper.tells g.S.K.Keeper.holds g.S.K.Keeper.faults)
+    g.S.Stores.faults g.S.Stores.calls g.S.Stores.out c.args.self.now.ring.now
     c.args.self.now.network.door c.args.self.now.stores c.args.request.now c.args._now c.bare.result c.requires.control c.requires.ready
     (inl (
       controls.Refused,
@@ -70,6 +79,7 @@ returns-in-Ok-Refused-clause-served g c =
 
 pub returns-in-Err-clause-served : goal.returns-in-Err-clause-served
 returns-in-Err-clause-served g c =
-    done_nothing g.S.V.Volume.tells g.S.V.Volume.holds g.S.V.Volume.faults g.S.Stores.faults g.S.Stores.calls g.S.Stores.out c.args.self.now.ring.now
+    done_nothing g.S.V.Volume.tells g.S.V.Volume.holds g.S.V.Volume.faults (keeper_seen g.S.K.Keeper.tells g.S.K.Keeper.holds g.S.K.Keeper.faults)
+    g.S.Stores.faults g.S.Stores.calls g.S.Stores.out c.args.self.now.ring.now
     c.args.self.now.network.door c.args.self.now.stores c.args.request.now c.args._now c.bare-in-Err.result c.requires.control c.requires.ready
     (inr (refl, c.bare-in-Err.ensures))
