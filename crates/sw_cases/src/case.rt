@@ -18,6 +18,7 @@ pub struct Script {
     /// The connections that come, in that order.
     pub connections: Vec<Connection>,
     pub failing_calls: Vec<LockCall>,
+    pub failing_keeper_calls: Vec<LockCall>,
     /// The files that stand in volumes before the run.
     pub standing: Vec<LockFile>,
     /// The locks of these calls and files, each once.
@@ -53,6 +54,7 @@ impl Script {
             failing_doors: Vec::new(alloc),
             connections: Vec::new(alloc),
             failing_calls: Vec::new(alloc),
+            failing_keeper_calls: Vec::new(alloc),
             standing: Vec::new(alloc),
             locks: Vec::new(alloc),
             clock: Vec::new(alloc),
@@ -68,14 +70,14 @@ impl Script {
     }
 }
 
-/// An object lock: the place of a device in the ring's list, and a stripe. Each has a volume.
+/// A lock: the place of a device in the ring's list, and a stripe. Each has a volume, and a keeper.
 #[derive(Clone, Copy, Debug, PartialEq, Eq)]
 pub struct Lock {
     pub device: u8,
     pub stripe: u8,
 }
 
-/// A call of a lock's volume that fails. Its number counts from 0 over the calls of the run alone.
+/// A call of a lock's volume, or of its keeper, that fails. Its number counts from 0 over the calls of the run alone.
 #[derive(Clone, Copy, Debug, PartialEq, Eq)]
 pub struct LockCall {
     pub lock: Lock,

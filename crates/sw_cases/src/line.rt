@@ -1,6 +1,6 @@
 use crate::case::{Again, Filling, Mark, Script};
 use crate::connection_line::{add_connection, add_to_connection};
-use crate::volume_line::{add_failing_calls, add_file, add_files};
+use crate::volume_line::{add_failing_calls, add_failing_keeper_calls, add_file, add_files};
 use std::alloc::{AllocError, AllocFailed, Global};
 use sw_outside::{FailingPut, NoMemory};
 use thiserror::Error;
@@ -72,6 +72,7 @@ pub fn add_line(
         "failing-puts" => add_puts(&mut script.failing_puts, value),
         "failing-error-puts" => add_puts(&mut script.failing_error_puts, value),
         "failing-calls" => add_failing_calls(script, value),
+        "failing-keeper-calls" => add_failing_keeper_calls(script, value),
         "file" => add_file(alloc, script, value),
         "files" => add_files(alloc, script, value),
         "connection" => add_connection(alloc, script, value),

@@ -3,7 +3,7 @@ ghost use Rattle.sw_stores.specs.Shelf.{is_out};
 
 use crate::case::Case;
 use crate::connections::doors;
-use crate::volumes::{files_left, volumes};
+use crate::volumes::{files_left, parts};
 use crate::way::Change;
 use std::alloc::Global;
 use sw_cluster::cluster;
@@ -51,7 +51,7 @@ pub fn run(
         &mut clock,
         &mut trail,
     );
-    let mut slots = stores.into_volumes().into_slots();
+    let mut slots = stores.into_parts().into_slots();
     let files = files_left(alloc, &script.files, &mut slots)?;
     Ok(Ended {
         status,
@@ -96,9 +96,9 @@ fn puts(
     Ok(puts)
 }
 
-/// Stores with these rings and the volumes of a case.
+/// Stores with these rings, and the volumes and keepers of a case.
 fn stores(alloc: Global, case: &Case, rings: &[RingText]) -> Result<MemStores, NoMemory>
-    ensures { IfOk result (λ stores. (d s : ℕ) → is_out stores.volumes d s ≡ false) }
+    ensures { IfOk result (λ stores. (d s : ℕ) → is_out stores.parts d s ≡ false) }
 {
     let mut copies = Vec::new(alloc);
     for ring in rings {
@@ -110,7 +110,7 @@ fn stores(alloc: Global, case: &Case, rings: &[RingText]) -> Result<MemStores, N
     Ok(MemStores::new(
         copies,
         Vec::from_slice(alloc, &case.script.failing_stores)?,
-        volumes(alloc, &case.script)?,
+        parts(alloc, &case.script)?,
     ))
 }
 

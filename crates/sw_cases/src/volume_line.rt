@@ -6,12 +6,24 @@ use sw_outside::{Bytes, FailingCall};
 
 /// Adds the calls that fail of a lock's volume: for each its number, and 1 where its change is made all the same, else 0.
 pub fn add_failing_calls(script: &mut Script, value: &str) -> Result<(), LineFault> {
+    let lock = add_calls(&mut script.failing_calls, value)?;
+    add_lock(script, lock)
+}
+
+/// Adds the calls that fail of a lock's keeper, which are told in the same way.
+pub fn add_failing_keeper_calls(script: &mut Script, value: &str) -> Result<(), LineFault> {
+    let lock = add_calls(&mut script.failing_keeper_calls, value)?;
+    add_lock(script, lock)
+}
+
+/// Adds the calls that a line tells, and answers of which lock they are.
+fn add_calls(failing_calls: &mut Vec<LockCall>, value: &str) -> Result<Lock, LineFault> {
     let (lock, calls) = lock(value).ok_or(LineFault::NotCalls)?;
     for text in calls.split(' ') {
         let failing = failing_call(text).ok_or(LineFault::NotCalls)?;
-        script.failing_calls.push(LockCall { lock, failing })?;
+        failing_calls.push(LockCall { lock, failing })?;
     }
-    add_lock(script, lock)
+    Ok(lock)
 }
 
 /// Adds a file that stands in a lock's volume before the run: its path, and its bytes as escaped text.
