@@ -49,7 +49,8 @@ module _ (s t : DiskState) (folders : t.folders ≡ s.folders) (files : (d f : L
       (λ same. subst (λ (x : List ℕ). IsOnDisk s x) ((bytes_eq-Decides writing d).0 same) o.writing)
       (λ other. o.ordered.filled d (inl (file.0, subst (λ (x : Option DiskFile). IsSome x) (files d file.0 (λ e. cc (equals writing d (sym e)))) file.1)))
       (cases_Bool (bytes_eq writing d))
-  filled-written o d (inr below) = o.ordered.filled d (inr (below.0, below.1, below.2, subst (λ (fs : List ℕ → Option Bool). IsSome (fs below.0)) folders below.3))
+  filled-written o d (inr below) = o.ordered.filled d
+      (inr (below.0, below.1, below.2, subst (λ (fs : List ℕ → Option Bool). IsSome (fs below.0)) folders below.3))
 
   stood-written : IsInOrder s → (d : List ℕ) → HasStood t d → IsOnDisk s d
   stood-written o d has = ⊎_elim

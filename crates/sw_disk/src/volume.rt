@@ -202,6 +202,8 @@ impl<D: Disk + Drop> Volume for DiskVolume<D> {
         ensures set { OnOk result (D.tells self.old.disk ≡ true → Sets (kept (D.now self.old.disk)) (kept (D.now self.new.disk)) dir.now file.now None) }
         ensures durable { OnOk result (D.tells self.old.disk ≡ true → IsInOrder (D.now self.old.disk) →
             IsDurable (D.now self.new.disk) dir.now file.now None) }
+        ensures durable_stood { OnOk result (D.tells self.old.disk ≡ true → IsSome (kept (D.now self.old.disk) dir.now file.now) →
+            IsDurable (D.now self.new.disk) dir.now file.now None) }
         ensures time { D.tells self.old.disk ≡ true →
             Passes (Turns dir.now file.now None) (D.now self.old.disk) (D.past self.old.disk) (D.now self.new.disk) (D.past self.new.disk) }
         ensures disk_told { D.tells self.new.disk ≡ D.tells self.old.disk }

@@ -1,7 +1,7 @@
 //! How files get to their places. Of each folder this is kept true at every moment, so also after a kill: one in which anything stands was synced into the one
 //! above it before its first entry was made, and so outlives each crash. A folder that is found and in which nothing stands may be one that a kill left before
 //! that, so it is synced too.
-ghost use Rattle.std.specs.Prelude.{◌≡◌, ℕ, List, [], true, Some, None, OnOk};
+ghost use Rattle.std.specs.Prelude.{◌≡◌, ℕ, List, [], true, Some, None, IsSome, OnOk};
 ghost use Rattle.sw_disk.specs.Crash.{IsOnDisk};
 ghost use Rattle.sw_disk.specs.Keeping.{kept, IsDurable, IsInOrder, IsOrdered, Rests, Turns, writing};
 ghost use Rattle.sw_disk.specs.Moments.{Passes};
@@ -84,6 +84,8 @@ pub(crate) fn take_away<D: Disk>(disk: &mut D, dir: &[u8], file: &[u8]) -> Resul
     requires below { ¬ (dir.now ≡ []) }
     ensures set { OnOk result (D.tells disk.old ≡ true → Sets (kept (D.now disk.old)) (kept (D.now disk.new)) dir.now file.now None) }
     ensures durable { OnOk result (D.tells disk.old ≡ true → IsInOrder (D.now disk.old) → IsDurable (D.now disk.new) dir.now file.now None) }
+    ensures durable_stood { OnOk result (D.tells disk.old ≡ true → IsSome (kept (D.now disk.old) dir.now file.now) →
+        IsDurable (D.now disk.new) dir.now file.now None) }
     ensures time { D.tells disk.old ≡ true → Passes (Turns dir.now file.now None) (D.now disk.old) (D.past disk.old) (D.now disk.new) (D.past disk.new) }
     ensures told { D.tells disk.new ≡ D.tells disk.old }
     ensures placed { D.place disk.new ≡ D.place disk.old }

@@ -1,7 +1,7 @@
 use Rattle.std.proofs.Common.{◌≡◌, ◌∙◌, true, false, sym, ap, subst, None, Bool, if◌then◌else◌}
 use Rattle.sw_disk.proofs.Moments.{as_turns, on_ok, rests-call, rests-look, rests-then, then_rests, turns-call}
 use Rattle.sw_disk.proofs.States.{rests-folder_synced}
-use Rattle.sw_disk.proofs.Turning.{durable-missing, durable-none, durable-removed, same-sets, sets-nothing, sets-removed, turns-removed}
+use Rattle.sw_disk.proofs.Turning.{durable-missing, durable-none, durable-removed, kept-none, same-sets, sets-nothing, sets-removed, turns-removed}
 use Rattle.sw_disk.specs.Calls.{folder_synced}
 use Rattle.sw_disk.specs.Disk.{DiskState}
 use Rattle.sw_disk.specs.Keeping.{IsDurable, IsInOrder, Rests, kept}
@@ -39,6 +39,15 @@ returns-then-branch-clause-set g c = on_ok c.sync_folder.result _ _
 pub returns-then-branch-clause-durable : goal.returns-then-branch-clause-durable
 returns-then-branch-clause-durable g c = on_ok c.sync_folder.result _ _
     (λ synced tells o.
+    let D = g.D.Disk.now in
+    let is_removed = stood c.in_ok-unlink.field-0 _ _ (D c.unlink.new.self) c.if-branch.true (c.in_ok-unlink.ensures.ok tells) in
+    durable-removed (D c.args.disk.now) (D c.unlink.new.self) (D c.sync_folder.new.self) c.args.dir.now c.args.file.now is_removed
+    (synced (c.unlink.ensures.told ∙ tells)))
+    c.sync_folder.ensures.ok
+
+pub returns-then-branch-clause-durable_stood : goal.returns-then-branch-clause-durable_stood
+returns-then-branch-clause-durable_stood g c = on_ok c.sync_folder.result _ _
+    (λ synced tells there.
     let D = g.D.Disk.now in
     let is_removed = stood c.in_ok-unlink.field-0 _ _ (D c.unlink.new.self) c.if-branch.true (c.in_ok-unlink.ensures.ok tells) in
     durable-removed (D c.args.disk.now) (D c.unlink.new.self) (D c.sync_folder.new.self) c.args.dir.now c.args.file.now is_removed
@@ -85,6 +94,10 @@ returns-in-Missing-clause-durable g c = λ tells o.
     (durable-missing (D c.args.disk.now) c.args.dir.now c.args.file.now o.ordered c.requires.below missing
     ((c.in_ok-unlink.ensures.found tells).1 c.if-branch.false))
 
+pub returns-in-Missing-clause-durable_stood : goal.returns-in-Missing-clause-durable_stood
+returns-in-Missing-clause-durable_stood g c = λ tells there.
+    absurd (kept-none (g.D.Disk.now c.args.disk.now) c.args.dir.now c.args.file.now ((c.in_ok-unlink.ensures.found tells).1 c.if-branch.false) there)
+
 pub returns-in-Missing-clause-time : goal.returns-in-Missing-clause-time
 returns-in-Missing-clause-time g c = λ tells.
     let D = g.D.Disk.now in
@@ -110,6 +123,17 @@ returns-in-Empty-clause-set g c = on_ok c.sync_folder-in-Empty.result _ _
 pub returns-in-Empty-clause-durable : goal.returns-in-Empty-clause-durable
 returns-in-Empty-clause-durable g c = on_ok c.sync_folder-in-Empty.result _ _
     (λ synced tells o.
+    let D = g.D.Disk.now in
+    let t1 = c.unlink.ensures.told ∙ tells in
+    let same = none_stood c.in_ok-unlink.field-0 _ _ (D c.unlink.new.self) c.if-branch.false (c.in_ok-unlink.ensures.ok tells) in
+    durable-none (D c.args.disk.now) (D c.sync_folder-in-Empty.new.self) c.args.dir.now c.args.file.now
+    ((c.in_ok-unlink.ensures.found tells).1 c.if-branch.false)
+    (synced (c.look.ensures.told ∙ t1) ∙ ap (λ (x : DiskState). folder_synced x c.args.dir.now) (c.look.ensures.same t1 ∙ same)))
+    c.sync_folder-in-Empty.ensures.ok
+
+pub returns-in-Empty-clause-durable_stood : goal.returns-in-Empty-clause-durable_stood
+returns-in-Empty-clause-durable_stood g c = on_ok c.sync_folder-in-Empty.result _ _
+    (λ synced tells there.
     let D = g.D.Disk.now in
     let t1 = c.unlink.ensures.told ∙ tells in
     let same = none_stood c.in_ok-unlink.field-0 _ _ (D c.unlink.new.self) c.if-branch.false (c.in_ok-unlink.ensures.ok tells) in
