@@ -56,6 +56,8 @@ BAD_CHUNKS = [b"\r\n", b"g\r\nabc\r\n0\r\n\r\n", b"3\nabc\r\n0\r\n\r\n", b"3\r\n
 
 # How often requests are for objects, for containers and rows, for replicas, for control, and odd ones: scripts of all, of objects, of rows, of pushes.
 WEIGHTS = [[50, 28, 6, 15, 0.6], [80, 5, 5, 9, 1], [5, 90, 2, 3, 0.3], [45, 5, 6, 45, 0.3]]
+# The same of what `serve` is asked, which makes no push.
+SERVE_WEIGHTS = [[40, 28, 6, 2, 0.5], [80, 5, 6, 2, 1], [5, 90, 2, 2, 0.3]]
 
 
 class Draw:
@@ -70,7 +72,7 @@ class Draw:
         self.objects = [self.one(OBJECTS) for _ in range(self.one([1, 2, 3, 5, 8, 20]))]
         if self.chance(25):
             self.objects += [b"p/a", b"p/b", b"p/a/x", b"p/", b"q/", b"q/a", b"p0", b"a b"]
-        self.weights = [40, 4, 6, 2, 0.5] if serves else self.one(WEIGHTS)
+        self.weights = self.one(SERVE_WEIGHTS if serves else WEIGHTS)
         self.times = self.random.sample(TIMES, self.one([3, 5, len(TIMES)]))
         self.devices = self.random.sample(self.ring.devices, min(2, len(self.ring.devices)))
 

@@ -11,7 +11,7 @@ from .rings import Ring, is_bad_name, suffix_of
 
 
 def answer(nodes, request, now, serves=False):
-    """The reply to a request. On a connection of `serve` no control request and none for containers is answered."""
+    """The reply to a request. On a connection of `serve` no control request is answered."""
     segments = request.segments()
     try:
         if segments[0] == b".swc":
@@ -19,7 +19,7 @@ def answer(nodes, request, now, serves=False):
         if len(segments) in (2, 3) and request.method == b"REPLICATE":
             return answer_replicas(nodes, segments)
         is_row = len(segments) > 4 and request.last(b"x-swc-server") == b"container"
-        if len(segments) < 4 or (serves and (len(segments) == 4 or is_row)):
+        if len(segments) < 4:
             raise Refused(400)
         if len(segments) == 4 or is_row:
             return answer_container(nodes, request, segments)
