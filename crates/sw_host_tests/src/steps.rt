@@ -22,8 +22,8 @@ const TIME: &[u8] = b"0000000006.00000.data";
 
 /// Calls, and the steps of the host that they take: a file is synced before it is moved to its place, and its folder after that; each folder is synced
 /// into the one above it before anything is made in it. The first object of a lock takes six syncs, one in a new partition five, in a new suffix four,
-/// beside others of its suffix three, and one over another two.
-const STEPS: [(Call, &[u8]); 8] = [
+/// beside others of its suffix three, and one over another two. An unlink syncs its folder, also where nothing stands, as long as the folder is there.
+const STEPS: [(Call, &[u8]); 9] = [
     (Put(HASH, DATA, b"old"), b"cwsmsmsmsmsrs"),
     (Put(ELSEWHERE, DATA, b"new partition"), b"cwsmsmsmsrs"),
     (Put(IN_PARTITION, DATA, b"new suffix"), b"cwsmsmsrs"),
@@ -31,7 +31,8 @@ const STEPS: [(Call, &[u8]); 8] = [
     (Put(HASH, TIME, b"new"), b"cwsrs"),
     (Put(HASH, TIME, b"newer"), b"cwsrs"),
     (Unlink(HASH, DATA), b"us"),
-    (Unlink(HASH, DATA), b""),
+    (Unlink(HASH, DATA), b"s"),
+    (Unlink(b"objects/5/59e", DATA), b""),
 ];
 
 #[test]

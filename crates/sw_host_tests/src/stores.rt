@@ -32,7 +32,7 @@ const REBALANCED: &str =
     r#"{"devices":["sda","sdb"],"part_power":2,"lock_bits":2,"replicas":2,"hash_prefix":"","hash_suffix":"endcap",
     "object":[[1,0],[0,1],[1,0],[1,0]],"container":[[0,1],[0,1],[1,0],[1,0]]}"#;
 
-/// Starts the volume of a lock, makes these calls, and gives it back: the number of the first call that answers otherwise.
+/// Starts the volume and the keeper of a lock, makes these calls at the volume, and gives both back: the number of the first call that answers otherwise.
 fn visit<S: Stores>(
     alloc: Global,
     stores: &mut S,
@@ -43,22 +43,22 @@ fn visit<S: Stores>(
     requires { (d s : ℕ) → S.out stores.old d s ≡ false }
     ensures { (d s : ℕ) → S.out stores.new d s ≡ false }
 {
-    let mut volume = stores.start(alloc, device, stripe)?;
+    let (mut volume, keeper) = stores.start(alloc, device, stripe)?;
     let other = first_other(alloc, &mut volume, calls, Ok(true));
-    stores.give_back(device, stripe, volume);
+    stores.give_back(device, stripe, volume, keeper);
     Ok(other)
 }
 
 /// A folder of a test: in it stand a ring, and the folder of a node.
 #[derive(Drop)]
-struct Place<'a> {
+pub(crate) struct Place<'a> {
     rt: &'a HostRuntime,
     folder: String,
 }
 
 impl<'a> Place<'a> {
     /// A place with this ring, and without a node's folder.
-    fn new(rt: &'a HostRuntime, test: &str) -> Result<Place<'a>, Fail> {
+    pub(crate) fn new(rt: &'a HostRuntime, test: &str) -> Result<Place<'a>, Fail> {
         let folder = fresh_folder(rt, test)?;
         fs::create_dir(rt, folder.as_str())?;
         let place = Place { rt, folder };
@@ -66,7 +66,7 @@ impl<'a> Place<'a> {
         Ok(place)
     }
 
-    fn path(&self, name: &str) -> Result<String, Fail> {
+    pub(crate) fn path(&self, name: &str) -> Result<String, Fail> {
         let folder = self.folder.as_str();
         Ok(format!(in self.rt.alloc(); "{folder}/{name}")?)
     }
@@ -89,7 +89,7 @@ impl<'a> Place<'a> {
     }
 
     /// Whether these calls go well, after a start by this process.
-    fn goes(&self, stripe: u8, calls: &[Call]) -> Result<bool, Fail> {
+    pub(crate) fn goes(&self, stripe: u8, calls: &[Call]) -> Result<bool, Fail> {
         Ok(self.visited(stripe, calls)? == Ok(None))
     }
 
@@ -103,7 +103,7 @@ impl<'a> Place<'a> {
         Ok(())
     }
 
-    fn has(&self, name: &str) -> Result<bool, Fail> {
+    pub(crate) fn has(&self, name: &str) -> Result<bool, Fail> {
         Ok(fs::exists(self.rt, self.path(name)?)?)
     }
 
@@ -112,7 +112,7 @@ impl<'a> Place<'a> {
         Ok(found.as_str() == text)
     }
 
-    fn end(self) -> Result<(), Fail> {
+    pub(crate) fn end(self) -> Result<(), Fail> {
         end_folder(self.rt, &self.folder)
     }
 }
@@ -147,14 +147,14 @@ fn keeps_others_out(place: &Place<'_>, base: &str, ring: &str) -> Result<bool, F
     let alloc = place.rt.alloc();
     let mut first = HostStores::below(place.rt, &NoNotes, 1, base);
     first.ring(alloc, ring)?;
-    let volume = first.start(alloc, 1, 3)?;
+    let (volume, keeper) = first.start(alloc, 1, 3)?;
     fs::write(
         place.rt,
         place.path("data/1/03/tmp/put-1-1")?,
         "what the first one writes",
     )?;
     let out = place.fails()?;
-    first.give_back(1, 3, volume);
+    first.give_back(1, 3, volume, keeper);
     Ok(out)
 }
 

@@ -1,4 +1,4 @@
-ghost use Rattle.std.specs.Prelude.{◌≡◌, ◌≤◌, ℕ, [], true, false, List, Some, None, is_some, IfOk, OnOk, OnErr, string_bytes};
+ghost use Rattle.std.specs.Prelude.{◌≡◌, ◌≤◌, ℕ, [], true, false, List, Some, None, is_some, codes, IfOk, OnOk, OnErr, string_bytes};
 ghost use Rattle.std.specs.Option.{option_map};
 ghost use Rattle.sw_outside.specs.Counts.{raised};
 ghost use Rattle.sw_store.specs.Folders.{lock_folder, untold};
@@ -46,6 +46,9 @@ impl<'a, N: Notes> HostStores<'a, N> {
     pub fn new(rt: &'a HostRuntime, notes: &'a N, owner: u32) -> HostStores<'a, N>
         ensures parts { result.parts ≡ [] }
         ensures counts { (result.calls ≡ 0) × (result.faults ≡ 0) }
+        ensures base { result.base.now ≡ codes "swc-data" }
+        ensures owner { result.owner ≡ owner }
+        ensures unread { (is_some result.layout ≡ false) × (is_some result.lock ≡ false) }
     {
         HostStores::below(rt, notes, owner, "swc-data")
     }
@@ -54,6 +57,9 @@ impl<'a, N: Notes> HostStores<'a, N> {
     pub fn below(rt: &'a HostRuntime, notes: &'a N, owner: u32, base: &'a str) -> HostStores<'a, N>
         ensures parts { result.parts ≡ [] }
         ensures counts { (result.calls ≡ 0) × (result.faults ≡ 0) }
+        ensures base { result.base.now ≡ base.now }
+        ensures owner { result.owner ≡ owner }
+        ensures unread { (is_some result.layout ≡ false) × (is_some result.lock ≡ false) }
     {
         HostStores {
             host: Host { rt, notes },
@@ -80,9 +86,7 @@ impl<'a, N: Notes> HostStores<'a, N> {
         ensures beside { IfOk result (λ part. string_bytes part.1.databases.root ≡ lock_folder self.old.base.now device stripe) }
         ensures power { IfOk result (λ part. Some part.1.databases.power ≡ option_map (λ layout. layout.power) self.old.layout) }
         ensures faults { self.new.faults ≡ faults_after self.old.faults result }
-        ensures calls { self.new.calls ≡ self.old.calls }
-        ensures layout { self.new.layout ≡ self.old.layout }
-        ensures parts { self.new.parts ≡ self.old.parts }
+        ensures same { self.new ≡ record self.old { lock = self.new.lock; faults = self.new.faults } }
     {
         let opened = self.open_owned(alloc, device, stripe);
         if let Err(StoreError::Failed) = &opened {
@@ -102,10 +106,7 @@ impl<'a, N: Notes> HostStores<'a, N> {
         ensures root { IfOk result (λ part. string_bytes part.0.volume.disk.root ≡ lock_folder self.old.base.now device stripe) }
         ensures beside { IfOk result (λ part. string_bytes part.1.databases.root ≡ lock_folder self.old.base.now device stripe) }
         ensures power { IfOk result (λ part. Some part.1.databases.power ≡ option_map (λ layout. layout.power) self.old.layout) }
-        ensures faults { self.new.faults ≡ self.old.faults }
-        ensures calls { self.new.calls ≡ self.old.calls }
-        ensures layout { self.new.layout ≡ self.old.layout }
-        ensures parts { self.new.parts ≡ self.old.parts }
+        ensures same { self.new ≡ record self.old { lock = self.new.lock } }
     {
         let power = match self.claimed() {
             Ok(power) => power,
@@ -184,6 +185,7 @@ impl<'a, N: Notes> Stores for HostStores<'a, N> {
         ensures layout { IfOk result (λ text. is_some self.old.lock ≡ false → IsLayoutIn self.new.layout text) }
         ensures owned { is_some self.old.lock ≡ true → self.new.layout ≡ self.old.layout }
         ensures unread { OnErr result (self.new.layout ≡ self.old.layout) }
+        ensures same { self.new ≡ record self.old { layout = self.new.layout; faults = self.new.faults; calls = self.new.calls } }
     {
         self.calls = self.calls.saturating_add(1);
         let read = fs::read(self.host.rt, name);
@@ -224,7 +226,7 @@ impl<'a, N: Notes> Stores for HostStores<'a, N> {
             IfOk result (λ part. string_bytes part.1.databases.root ≡ lock_folder self.old.base.now device stripe) }
         ensures power { rests_in self.old.parts device stripe ≡ None →
             IfOk result (λ part. Some part.1.databases.power ≡ option_map (λ layout. layout.power) self.old.layout) }
-        ensures layout { self.new.layout ≡ self.old.layout }
+        ensures same { self.new ≡ record self.old { lock = self.new.lock; faults = self.new.faults; calls = self.new.calls; parts = self.new.parts } }
     {
         self.calls = self.calls.saturating_add(1);
         if self.parts.rests(device, stripe) {
@@ -253,7 +255,7 @@ impl<'a, N: Notes> Stores for HostStores<'a, N> {
         ensures kept { (other : List ℕ) → untold ≡ untold }
         ensures faults { self.new.faults ≡ self.old.faults }
         ensures calls { self.new.calls ≡ self.old.calls }
-        ensures layout { self.new.layout ≡ self.old.layout }
+        ensures same { self.new ≡ record self.old { parts = self.new.parts } }
     {
         self.parts.give_back(device, stripe, (volume, keeper));
     }
