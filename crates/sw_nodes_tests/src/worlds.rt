@@ -7,13 +7,14 @@ use crate::asked::{Asked, change_of, name_under};
 use crate::obj_dirs::O;
 use std::alloc::Global;
 use std::test::Fail;
-use sw_core::{Parts, World};
+use sw_core::World;
+use sw_keeper::MemKeeper;
 use sw_lossy::{Acts, Lossy};
 use sw_peer::{Event, KeptLine, Line, Link, PartRead};
 use sw_ring::{Ring, read};
 use sw_steps::{Step, run_steps};
-use sw_stores::volumes::start_range;
-use sw_stores::{MemStores, VolumeShelf};
+use sw_stores::ranges::start_range;
+use sw_stores::{MemStores, PartShelf, Parts};
 use sw_volume::MemVolume;
 
 /// A ring of two devices, each of two locks.
@@ -86,14 +87,14 @@ fn are_told(lines: &[KeptLine], wanted: &[Came]) -> bool {
             .all(|(line, came)| told(line.line()) == *came)
 }
 
-/// Empty volumes for both locks of both devices.
-fn four_volumes(alloc: Global) -> Result<Parts<MemVolume>, Fail>
-    ensures { IfOk result (λ parts. length parts.volumes.items ≡ 4) }
+/// Empty volumes and keepers for both locks of both devices.
+fn four_parts(alloc: Global) -> Result<Parts<MemVolume, MemKeeper>, Fail>
+    ensures { IfOk result (λ parts. length parts ≡ 4) }
 {
-    let shelf = VolumeShelf::new(alloc);
+    let shelf = PartShelf::new(alloc);
     let mut stores = MemStores::new(Vec::new(alloc), Vec::new(alloc), shelf);
     match start_range(alloc, &mut stores, 2, 0, 4) {
-        Ok(volumes) => Ok(Parts { volumes }),
+        Ok(parts) => Ok(parts),
         Err(_) => Err(Fail::from("a volume isn't started")),
     }
 }
@@ -105,7 +106,7 @@ fn ran(alloc: Global, ring: &Ring, steps: &[Step], wanted: &[Came]) -> Result<bo
     if ring.devices.as_slice().len() != 2 || ring.lock_bits != 1 {
         return Ok(false);
     }
-    let Ok(world) = World::open(alloc, ring, JOURNAL_BYTES, four_volumes(alloc)?) else {
+    let Ok(world) = World::open(alloc, ring, JOURNAL_BYTES, four_parts(alloc)?) else {
         return Ok(false);
     };
     let mut door = Lossy::new(world, FAITHFUL);

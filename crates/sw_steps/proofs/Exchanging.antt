@@ -1,5 +1,5 @@
 -- A push and a later one back, in a list of steps that was made.
-use Rattle.std.proofs.Common.{◌≡◌, ◌≢◌, ℕ, Bool, true, false, nat_eq, List, [], ◌∷◌, ◌++◌, refl, sym, ◌∙◌, ap, subst, ◌⊎◌, inl, inr, Result, Ok}
+use Rattle.std.proofs.Common.{◌≡◌, ◌≢◌, ℕ, Bool, true, false, nat_eq, List, [], ◌∷◌, ◌++◌, refl, sym, ◌∙◌, ap, subst, append_assoc, ◌⊎◌, inl, inr, Result, Ok}
 use Rattle.std.proofs.lemmas.Bool.{eq-eqb, eqb-true}
 use Rattle.sw_hashpath.specs.HashParts.{suffix_of}
 use Rattle.sw_lossy.specs.Losses.{begun}
@@ -24,9 +24,19 @@ use Rattle.sw_steps.specs.Stepping.{AreMade, IsStepMade}
 use Rattle.sw_steps.specs.declared.step.Step.{Step}
 use Rattle.sw_steps.specs.declared.step.Step.TheVariants as steps
 
-split-made : (xs ys : List Step) (s t : Sight) → AreMade (xs ++ ys) s t → (mid : Sight) × AreMade xs s mid × AreMade ys mid t
-split-made [] ys s t made = (s, refl, made)
-split-made (x ∷ xs) ys s t made = let rest = split-made xs ys made.0 t made.2 in (rest.0, (made.0, made.1, rest.1), rest.2)
+-- what a list told is what its front told, and behind it what its back told
+split-made : (xs ys : List Step) (told : List Outcome) (s t : Sight) → AreMade (xs ++ ys) told s t
+    → (front : List Outcome) × (back : List Outcome) × (told ≡ front ++ back) × (mid : Sight) × AreMade xs front s mid × AreMade ys back mid t
+split-made [] ys told s t made = ([], told, refl, s, (refl, refl), made)
+split-made (x ∷ xs) ys told s t made =
+    let rest = split-made xs ys made.1 made.3 t made.5 in (
+      made.0 ++ rest.0,
+      rest.1,
+      made.2 ∙ (ap (λ (l : List Outcome). made.0 ++ l) rest.2 ∙ sym (append_assoc made.0 rest.0 rest.1)),
+      rest.3,
+      (made.0, rest.0, refl, made.3, made.4, rest.4),
+      rest.5,
+    )
 
 -- a hash of the partition is under its lock
 part-at : (nodes : Nodes) (device part : ℕ) (hash : Hash) → IsOfPart nodes.power part hash → nodes.lock device hash ≡ nodes.part_lock device part
@@ -70,24 +80,27 @@ module _ (hash : Hash) where
           apart : d ≢ device
           apart equal = let yes_match : nat_eq d device ≡ true = eq-eqb d device equal in cc
 
-  step-stays : (step : Step) (s t : Sight) → IsStepMade step s t → Stays s t
-  step-stays (steps.Change device name change) s t made =
-      stays-moved (IsAt device name.hash) s t
-      (calls-moves (Moves (IsAt device name.hash)) (IsMade Local device name change) (made-step Local device name change) s Local (Ok made.0) t made.2)
-  step-stays (steps.Read device name) s t made =
-      stays-moved (IsAt device name.hash) s t
-      (calls-moves (Moves (IsAt device name.hash)) (IsRead Local device name) (read-step Local device name) s Local (Ok made.0) t made.2)
-  step-stays (steps.List device) s t made = record {
-    nodes = made.1.nodes;
-    alone = λ alone. sym made.1.alone ∙ alone;
-    tells = λ d told. told-still s t d made.1.nodes (ap (λ (h : ObjHistory). h.told) (made.1.same (s.nodes.lock d hash)) ∙ told);
-  }
-  step-stays (steps.Restart device) s t made = stays-restarted device s t made
-  step-stays (steps.Push from to part acts) s t made =
+  over-stays : (from to part : ℕ) (acts : Acts) (s : Sight) (outcome : Outcome) (t : Sight) → IsPushedOver from to part acts s (Ok outcome) t → Stays s t
+  over-stays from to part acts s outcome t over =
       let p =
-      stays-moved (IsOfPair s.nodes.power from to part) (begun acts s) (sight_after made.1)
-      (over-moves from to part acts s (Ok made.0) t made.1) in
+      stays-moved (IsOfPair s.nodes.power from to part) (begun acts s) (sight_after over)
+      (over-moves from to part acts s (Ok outcome) t over) in
       record { nodes = p.nodes; alone = p.alone; tells = p.tells }
+
+  step-stays : (step : Step) (told : List Outcome) (s t : Sight) → IsStepMade step told s t → Stays s t
+  step-stays (steps.Change device name change) told s t made =
+      stays-moved (IsAt device name.hash) s t
+      (calls-moves (Moves (IsAt device name.hash)) (IsMade Local device name change) (made-step Local device name change) s Local (Ok made.1) t made.3)
+  step-stays (steps.Read device name) told s t made =
+      stays-moved (IsAt device name.hash) s t
+      (calls-moves (Moves (IsAt device name.hash)) (IsRead Local device name) (read-step Local device name) s Local (Ok made.1) t made.3)
+  step-stays (steps.List device) told s t made = record {
+    nodes = made.2.nodes;
+    alone = λ alone. sym made.2.alone ∙ alone;
+    tells = λ d told. told-still s t d made.2.nodes (ap (λ (h : ObjHistory). h.told) (made.2.same (s.nodes.lock d hash)) ∙ told);
+  }
+  step-stays (steps.Restart device) told s t made = stays-restarted device s t made.1
+  step-stays (steps.Push from to part acts) told s t made = over-stays from to part acts s made.0 t made.2
 
   stays-trans : (a b c : Sight) → Stays a b → Stays b c → Stays a c
   stays-trans a b c p q = record {
@@ -96,9 +109,10 @@ module _ (hash : Hash) where
     tells = λ d told. q.tells d (p.tells d told);
   }
 
-  made-stays : (all : List Step) (s t : Sight) → AreMade all s t → Stays s t
-  made-stays [] s t made = subst (λ (x : Sight). Stays s x) (sym made) (record { nodes = refl; alone = λ alone. alone; tells = λ d told. told })
-  made-stays (step ∷ all) s t made = stays-trans s made.0 t (step-stays step s made.0 made.1) (made-stays all made.0 t made.2)
+  made-stays : (all : List Step) (told : List Outcome) (s t : Sight) → AreMade all told s t → Stays s t
+  made-stays [] told s t made = subst (λ (x : Sight). Stays s x) (sym made.1) (record { nodes = refl; alone = λ alone. alone; tells = λ d told. told })
+  made-stays (step ∷ all) told s t made =
+      stays-trans s made.3 t (step-stays step made.0 s made.3 made.4) (made-stays all made.1 made.3 t made.5)
 
 -- ---- the exchange
 
@@ -119,52 +133,68 @@ collides-out from to part suffix acts s result t over c = record {
   collide = c.collide;
 }
 
-module _ (a b part : ℕ) (all : List Step) (has : HasExchange a b part all) (s t : Sight) (made : AreMade all s t) where
+-- what a list told that begins with a push
+told-first : (one rest told : List Outcome) (outcome : Outcome) → told ≡ one ++ rest → one ≡ outcome ∷ [] → told ≡ outcome ∷ rest
+told-first one rest told outcome are is = are ∙ ap (λ (l : List Outcome). l ++ rest) is
+
+module _ (a b part : ℕ) (all : List Step) (has : HasExchange a b part all) (told : List Outcome) (s t : Sight) (made : AreMade all told s t) where
+  abbrev Behind : List Step
+  Behind = steps.Push b a part has.back ∷ has.behind
+
+  abbrev From_first : List Step
+  From_first = steps.Push a b part has.there ∷ (has.between ++ Behind)
+
   -- up to the first of the two pushes, and the rest
-  one : (mid : Sight) × AreMade has.before s mid × AreMade (steps.Push a b part has.there ∷ (has.between ++ steps.Push b a part has.back ∷ has.behind)) mid t
-  one =
-      split-made has.before (steps.Push a b part has.there ∷ (has.between ++ steps.Push b a part has.back ∷ has.behind)) s t
-      (subst (λ (l : List Step). AreMade l s t) has.all_are made)
+  one : (front : List Outcome) × (back : List Outcome) × (told ≡ front ++ back) × (mid : Sight) × AreMade has.before front s mid × AreMade From_first back mid t
+  one = split-made has.before From_first told s t (subst (λ (l : List Step). AreMade l told s t) has.all_are made)
 
   -- up to the second one
-  two : (mid : Sight) × AreMade has.between one.2.0 mid × AreMade (steps.Push b a part has.back ∷ has.behind) mid t
-  two = split-made has.between (steps.Push b a part has.back ∷ has.behind) one.2.0 t one.2.2
+  two : (front : List Outcome) × (back : List Outcome) × (one.5.1 ≡ front ++ back) × (mid : Sight) × AreMade has.between front one.5.3 mid
+      × AreMade Behind back mid t
+  two = split-made has.between Behind one.5.1 one.5.3 t one.5.5
 
-  exchanges : Exchanges a b part all has s t
+  exchanges : Exchanges a b part all has told s t
   exchanges = record {
-    first = one.0;
-    made_before = one.1;
-    there = one.2.1.0;
-    second = one.2.0;
-    pushed = one.2.1.1;
-    third = two.0;
-    made_between = two.1;
-    back = two.2.1.0;
-    fourth = two.2.0;
-    pushed_back = two.2.1.1;
-    made_behind = two.2.2;
+    told_before = one.0;
+    first = one.3;
+    made_before = one.4;
+    there = one.5.4.0;
+    second = one.5.3;
+    pushed = one.5.4.2;
+    told_between = two.0;
+    third = two.3;
+    made_between = two.4;
+    back = two.5.4.0;
+    fourth = two.5.3;
+    pushed_back = two.5.4.2;
+    told_behind = two.5.1;
+    made_behind = two.5.5;
+    told_are = one.2
+        ∙ ap (λ (l : List Outcome). one.0 ++ l) (told-first one.5.0 one.5.1 one.1 one.5.4.0 one.5.2 one.5.4.1
+        ∙ ap (λ (l : List Outcome). one.5.4.0 ∷ l)
+        (two.2 ∙ ap (λ (l : List Outcome). two.0 ++ l) (told-first two.5.0 two.5.1 two.1 two.5.4.0 two.5.2 two.5.4.1)));
   }
 
 pub steps_meet : StepsMeet
-steps_meet all s t made alone a b part has apart told hash is = (e, meets)
+steps_meet all outcomes s t made alone a b part has apart told hash is = (e, meets)
   where
-    e : Exchanges a b part all has s t
-    e = exchanges a b part all has s t made
+    e : Exchanges a b part all has outcomes s t
+    e = exchanges a b part all has outcomes s t made
 
     to_first : Stays hash s e.first
-    to_first = made-stays hash has.before s e.first e.made_before
+    to_first = made-stays hash has.before e.told_before s e.first e.made_before
 
     to_second : Stays hash e.first e.second
-    to_second = step-stays hash (steps.Push a b part has.there) e.first e.second (e.there, e.pushed)
+    to_second = over-stays hash a b part has.there e.first e.there e.second e.pushed
 
     to_third : Stays hash e.second e.third
-    to_third = made-stays hash has.between e.second e.third e.made_between
+    to_third = made-stays hash has.between e.told_between e.second e.third e.made_between
 
     to_fourth : Stays hash e.third e.fourth
-    to_fourth = step-stays hash (steps.Push b a part has.back) e.third e.fourth (e.back, e.pushed_back)
+    to_fourth = over-stays hash b a part has.back e.third e.back e.fourth e.pushed_back
 
     to_last : Stays hash e.fourth t
-    to_last = made-stays hash has.behind e.fourth t e.made_behind
+    to_last = made-stays hash has.behind e.told_behind e.fourth t e.made_behind
 
     part-kept : (x y : Sight) → y.nodes ≡ x.nodes → IsOfPart x.nodes.power part hash → IsOfPart y.nodes.power part hash
     part-kept x y nodes there = subst (λ (n : Nodes). IsOfPart n.power part hash) (sym nodes) there

@@ -19,10 +19,10 @@ abbrev pub PushingRuns : Type 0
 PushingRuns = (from to part : ℕ) (acts : Acts) (s : Sight) (result : Result Outcome NoMemory) (t : Sight) → IsPushedOver from to part acts s result t
     → from ≢ to → t.alone ≡ true → RunsOn s t
 
--- Where a list of steps is made that has a push from a to b and a later one back, and both are done, both devices hold the join of what both
--- held, of each hash that the steps between them left
+-- Where a list of steps is made that has a push from a to b and a later one back, and what the list told of both says that they are done, both
+-- devices hold the join of what both held, of each hash that the steps between them left
 abbrev pub StepsMeet : Type 0
-StepsMeet = (all : List Step) (s t : Sight) → AreMade all s t → t.alone ≡ true → AreMet all s t
+StepsMeet = (all : List Step) (told : List Outcome) (s t : Sight) → AreMade all told s t → t.alone ≡ true → AreMet all told s t
 
 -- a lock of a world is one of one device
 abbrev pub WorldsAreApart : Type 0

@@ -20,14 +20,16 @@ MayBeMade devices power secrets (steps.List device) = device < devices
 MayBeMade devices power secrets (steps.Restart device) = device < devices
 MayBeMade devices power secrets (steps.Push from to part acts) = (from < devices) × (to < devices) × (from ≢ to) × (part < 2 ^ power)
 
--- the step was made, of nodes that were seen so before it, and so after it. A push that was hindered, or lost messages, was made
-abbrev pub IsStepMade : Step → Sight → Sight → Type 0
-IsStepMade (steps.Change device name change) s t = (answer : Answer) × (is_wanting answer ≡ false) × Calls (IsMade Local device name change) s Local (Ok answer)
-    t
-IsStepMade (steps.Read device name) s t = (got : Got) × (is_wanting_read got ≡ false) × Calls (IsRead Local device name) s Local (Ok got) t
-IsStepMade (steps.List device) s t = (failed : Bool) × IsListed device failed s t
-IsStepMade (steps.Restart device) s t = Restarts device s t
-IsStepMade (steps.Push from to part acts) s t = (outcome : Outcome) × IsPushedOver from to part acts s (Ok outcome) t
+-- The step was made, of nodes that were seen so before it, and so after it, and told this: a push told its one outcome, any other step none. A push
+-- that was hindered, or lost messages, was made
+abbrev pub IsStepMade : Step → List Outcome → Sight → Sight → Type 0
+IsStepMade (steps.Change device name change) told s t =
+    (told ≡ []) × (answer : Answer) × (is_wanting answer ≡ false) × Calls (IsMade Local device name change) s Local (Ok answer) t
+IsStepMade (steps.Read device name) told s t =
+    (told ≡ []) × (got : Got) × (is_wanting_read got ≡ false) × Calls (IsRead Local device name) s Local (Ok got) t
+IsStepMade (steps.List device) told s t = (told ≡ []) × (failed : Bool) × IsListed device failed s t
+IsStepMade (steps.Restart device) told s t = (told ≡ []) × Restarts device s t
+IsStepMade (steps.Push from to part acts) told s t = (outcome : Outcome) × (told ≡ outcome ∷ []) × IsPushedOver from to part acts s (Ok outcome) t
 
 -- It was tried, and wanted memory: it didn't come, or came as far as it could. A restart wants memory before it comes alone
 abbrev pub IsStepTried : Step → Sight → Sight → Type 0
@@ -36,19 +38,21 @@ IsStepTried (steps.Change device name change) s t =
 IsStepTried (steps.Read device name) s t = (t ≡ s) ⊎ ((got : Got) × (is_wanting_read got ≡ true) × Calls (IsRead Local device name) s Local (Ok got) t)
 IsStepTried (steps.List device) s t = (t ≡ s) ⊎ IsListed device false s t
 IsStepTried (steps.Restart device) s t = t ≡ s
-IsStepTried (steps.Push from to part acts) s t = (wanting : NoMemory) × IsPushedOver from to part acts s (Err wanting) t
+IsStepTried (steps.Push from to part acts) s t = (t ≡ s) ⊎ ((wanting : NoMemory) × IsPushedOver from to part acts s (Err wanting) t)
 
--- the steps were made in this order
-abbrev pub AreMade : List Step → Sight → Sight → Type 0
-AreMade [] s t = t ≡ s
-AreMade (step ∷ steps) s t = (mid : Sight) × IsStepMade step s mid × AreMade steps mid t
+-- the steps were made in this order, and told this, one behind the other
+abbrev pub AreMade : List Step → List Outcome → Sight → Sight → Type 0
+AreMade [] told s t = (told ≡ []) × (t ≡ s)
+AreMade (step ∷ steps) told s t = (one : List Outcome) × (rest : List Outcome) × (told ≡ one ++ rest) × (mid : Sight) × IsStepMade step one s mid
+    × AreMade steps rest mid t
 
--- those before one of them were, and that one was tried
+-- those before one of them were, whatever they told, and that one was tried
 pub record AreMadeUpTo (all : List Step) (s t : Sight) : Type 0 where
   pub done : List Step
   pub step : Step
   pub rest : List Step
   pub all_are : all ≡ done ++ step ∷ rest
+  pub told : List Outcome
   pub mid : Sight
-  pub made : AreMade done s mid
+  pub made : AreMade done told s mid
   pub tried : IsStepTried step mid t

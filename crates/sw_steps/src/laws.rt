@@ -7,7 +7,7 @@ pub fn pushing_runs()
     ensures { PushingRuns }
 {}
 
-/// A push that is done and a later one back, in a list of steps, leave both devices with the join of what both held.
+/// A push that is told as done and a later one back, in a list of steps, leave both devices with the join of what both held.
 pub fn steps_meet()
     ensures { StepsMeet }
 {}

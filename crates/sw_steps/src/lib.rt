@@ -1,11 +1,11 @@
 //! Lists of steps, and the passes among them.
 //!
 //! [`run_steps`] makes a list of steps of a world: changes, reads, listings and restarts at its devices, and pushes between them through a door
-//! that loses and repeats messages as each push says ([`push_over`]).
+//! that loses and repeats messages as each push says ([`push_over`]). It answers what the pushes came to, in their order.
 //!
 //! What is promised: whatever the list and the failures, what came and went is a run of the machine, so that the files of each hash at each
-//! device stand for the state of exactly the writes that reached it. A push that is done, and a later one back, leave both with the join of
-//! what both held ([`laws`]).
+//! device stand for the state of exactly the writes that reached it. A push that is answered as done, and a later one back, leave both with the
+//! join of what both held ([`laws`]).
 #![tactic(auto)]
 
 pub mod laws;

@@ -1,4 +1,4 @@
-use Rattle.std.proofs.Common.{Bool, Err, inl, inr, ap, subst, ◌∙◌}
+use Rattle.std.proofs.Common.{Bool, Err, inl, inr, refl, ap, subst, ◌∙◌}
 use Rattle.sw_core.specs.Listing.{is_failed}
 use Rattle.sw_core.specs.Worlds.{keeper_seen, sight_of}
 use Rattle.sw_peer.specs.Sights.{IsListed}
@@ -9,11 +9,11 @@ use Rattle.sw_steps.proofs.run.list_at.Goals.{in-Ok, in-Err-Failed, in-Err-NoMem
 pub returns-clause-made : goal.returns-clause-made
 returns-clause-made g c = elim c.match-files.branch [
   | in-Ok w ↦ rw w.result-is (elim c.files.ensures.listed [
-    | inl listed ↦ (is_failed c.files.result, listed)
+    | inl listed ↦ (refl, is_failed c.files.result, listed)
     | inr none ↦ absurd (let wanting = none.0 in let ok = w.in-Ok.is in cc)
   ])
   | in-Err-Failed w ↦ rw w.result-is (elim c.files.ensures.listed [
-    | inl listed ↦ (is_failed c.files.result, listed)
+    | inl listed ↦ (refl, is_failed c.files.result, listed)
     | inr none ↦ absurd (let wanting = none.0 in let err = w.in-Err-Failed.is in let failed = w.in-Err-Failed.field-0-is in cc)
   ])
   | in-Err-NoMemory w ↦ rw w.result-is tt
