@@ -1,3 +1,4 @@
+mod Composing
 mod Connecting
 mod OpeningLemmas
 mod Resting

@@ -1,6 +1,5 @@
 -- How the nodes of a ring are left where their devices were to be restarted: what is asked for so that their volumes and keepers can be given
--- back. (This
--- project's own.)
+-- back. (This project's own.)
 use Rattle.std.specs.Prelude.{◌≡◌, ℕ, ◌+◌, ◌*◌, ◌^◌, ◌<◌, ◌≤◌, Bool, Option, length, ◌⊎◌}
 use Rattle.sw_core.specs.Worlds.{KeeperSeen, AllNodes}
 use Rattle.sw_ring.specs.declared.ring.Ring.{Ring}

@@ -1,3 +1,4 @@
+pub mod Composing
 pub mod Connections
 pub mod Ending
 pub mod Leaving

@@ -64,7 +64,8 @@ fn session<R: Source, W: Sink, S: Stores, C: Clock>(
 ) -> u8
     requires no_steps { trail.old.steps ≡ [] }
     requires no_moments { trail.old.moments ≡ [] }
-    requires begun { (parts : List (S.V × S.K)) × (length parts ≡ length ring.now.devices * 2 ^ ring.now.lock_bits) × (world ≡ opened run_bytes ring.now parts) }
+    requires begun { (parts : List (S.V × S.K)) × (length parts ≡ length ring.now.devices * 2 ^ ring.now.lock_bits)
+        × (world ≡ opened run_bytes ring.now parts) }
     requires out { (d s : ℕ) → S.out stores.old d s ≡ places_of ring.now d s }
     ensures home { (d s : ℕ) → S.out stores.new d s ≡ false }
     ensures run { IsRunOver S.V.tells S.V.holds S.V.faults (keeper_seen S.K.tells S.K.holds S.K.faults) ring.now world (S.rests stores.new)

@@ -23,9 +23,8 @@ use sw_ring::Ring;
 use sw_stores::Stores;
 use sw_stores::ranges::{give_around, give_range, start_range};
 
-/// Opens the nodes of a ring over the volumes and keepers of all its locks, which the stores start, those of a lock by one call. Where that can't be done,
-/// those that were
-/// started rest in the stores again. The bodies in the journal of an object lock have at most `max_bytes` together.
+/// Opens the nodes of a ring over the volumes and keepers of all its locks, which the stores start, those of a lock by one call. Where that can't be
+/// done, those that were started rest in the stores again. The bodies in the journal of an object lock have at most `max_bytes` together.
 pub fn open_nodes<S: Stores>(
     alloc: Global,
     ring: &Ring,

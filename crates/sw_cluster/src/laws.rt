@@ -1,0 +1,20 @@
+//! Laws of commands that follow each other. Each function does nothing: its clause is the law.
+
+ghost use Rattle.sw_cluster.specs.Composing.{ObjectsCompose, RunsLead, ServingLeads, TablesCompose};
+ghost use Rattle.sw_core.specs.Worlds.{keeper_seen};
+ghost use Rattle.sw_ring.specs.declared.ring.Ring.{Ring};
+
+use sw_stores::Stores;
+
+/// A session, and connections that are served, lead from what rested in the stores to what rests then.
+pub fn commands_lead<S: Stores>()
+    ensures sessions { (ring : Ring) → RunsLead S.V.tells S.V.holds S.V.faults (keeper_seen S.K.tells S.K.holds S.K.faults) S.first ring }
+    ensures serving { (ring : Ring) → ServingLeads S.V.tells S.V.holds S.V.faults (keeper_seen S.K.tells S.K.holds S.K.faults) S.first ring }
+{}
+
+/// What two commands come to, one after the other, is what one comes to that got the writes of both, of each hash whose lock told its contents at first; and of
+/// each container whose lock did the second begins with what the first left.
+pub fn commands_compose<S: Stores>()
+    ensures objects { (ring : Ring) → ObjectsCompose S.V.tells S.V.holds S.V.faults (keeper_seen S.K.tells S.K.holds S.K.faults) S.first ring }
+    ensures tables { (ring : Ring) → TablesCompose S.V.tells S.V.holds S.V.faults (keeper_seen S.K.tells S.K.holds S.K.faults) S.first ring }
+{}
