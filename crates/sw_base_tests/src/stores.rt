@@ -4,7 +4,7 @@ use crate::fixtures::is_some_of;
 use std::alloc::Global;
 use std::test::Fail;
 use sw_outside::{Bytes, StoreError};
-use sw_stores::{MemStores, RingText, Stores, VolumeShelf};
+use sw_stores::{MemStores, PartShelf, RingText, Stores};
 use sw_volume::{Volume, VolumeError};
 
 /// A call of stores, with what it tells.
@@ -53,9 +53,9 @@ fn is_as_told<S: Stores>(alloc: Global, stores: &mut S, call: Call) -> Result<bo
     match call {
         Ring(name, text) => Ok(stores.ring(alloc, name)?.as_slice() == text),
         Visit(stripe, was, put) => {
-            let mut volume = stores.start(alloc, 0, stripe)?;
+            let (mut volume, keeper) = stores.start(alloc, 0, stripe)?;
             let told = replaces(alloc, &mut volume, was, put);
-            stores.give_back(0, stripe, volume);
+            stores.give_back(0, stripe, volume, keeper);
             Ok(told == Ok(true))
         }
     }
@@ -70,7 +70,7 @@ fn volumes_start_as_they_were_given_back(rt: HostRuntime) -> Result<(), Fail> {
         text: Bytes::copy(alloc, b"text")?,
     })?;
     let failing = Vec::from_slice(alloc, &FAILING)?;
-    let mut stores = MemStores::new(rings, failing, VolumeShelf::new(alloc));
+    let mut stores = MemStores::new(rings, failing, PartShelf::new(alloc));
     for (call, fails) in CALLS {
         let wanted = if fails {
             Err(StoreError::Failed)

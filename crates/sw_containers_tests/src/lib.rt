@@ -10,6 +10,8 @@ mod keeper;
 #[cfg(test)]
 mod listing;
 #[cfg(test)]
+mod loads;
+#[cfg(test)]
 mod locks;
 #[cfg(test)]
 mod making;
