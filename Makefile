@@ -1,5 +1,5 @@
 # `make run` shows the product at work, `make test` passes all its tests. Both need only the Rattle toolchain (`rt`) and Python 3.
-.PHONY: run build example serve test check runs on-demand
+.PHONY: run build example serve containers test check runs on-demand
 
 # The worked example: a PUT and a GET of one object, from standard input to standard output.
 run:
@@ -14,9 +14,13 @@ build:
 example:
 	@tools/run-example examples/writes-and-trail.http
 
-# A PUT and a GET over TCP: starts the node, asks it as a client does, looks at all that comes back, kills it and starts it again.
+# A PUT and a GET over TCP, and a container with its row: starts the node, asks it as a client does, looks at all that comes back, kills it and starts it again.
 serve:
 	@tools/serve-run
+
+# The worked cases of containers once more, over TCP and with databases on the disk.
+containers:
+	@tools/container-cases
 
 # The merge gate: proves everything from nothing where no earlier run did, and runs every test and program.
 test:

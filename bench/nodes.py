@@ -1,14 +1,18 @@
-"""What the benchmarks share: a node that is started and ended, the paths of objects, and the files that a node leaves on the disk."""
+"""What the benchmarks share: a node that is started and ended, the paths of objects, and the files and databases that a node leaves on the disk."""
+import atexit
 import functools
 import hashlib
 import json
 import os
 import pathlib
 import re
+import shutil
 import signal
 import socket
+import sqlite3
 import subprocess
 import sys
+import tempfile
 
 TOP = pathlib.Path(__file__).resolve().parent.parent
 RING = TOP / "examples" / "two-devices.ring.json"
@@ -33,7 +37,7 @@ class Ring:
         self.power, self.lock_bits, self.devices = told["part_power"], told["lock_bits"], told["devices"]
 
     def hash_of(self, name):
-        """The hash path of an object, of which `name` is `account/container/object`."""
+        """The hash path of an object, of which `name` is `account/container/object`, or of a container."""
         return hashlib.md5(self.prefix + b"/" + name.encode() + self.suffix).digest()
 
     def partition_of(self, name):
@@ -42,12 +46,23 @@ class Ring:
     def target(self, device, name):
         return f"/{device}/{self.partition_of(name)}/{name}"
 
+    def row_target(self, device, container, name):
+        """The target of a row, whose partition is that of its container."""
+        return f"{self.target(device, container)}/{name}"
+
     def directory(self, device, name):
         """Where the files of an object stand, below the folder of the node."""
+        return self.place(device, "objects", name)
+
+    def database(self, device, container):
+        """Where the database of a container stands."""
+        return f"{self.place(device, 'containers', container)}/{self.hash_of(container).hex()}.db"
+
+    def place(self, device, half, name):
         digest = self.hash_of(name)
         stripe = digest[0] >> (8 - self.lock_bits)
         digits = digest.hex()
-        return f"swc-data/{self.devices.index(device)}/{stripe:02}/objects/{self.partition_of(name)}/{digits[-3:]}/{digits}"
+        return f"swc-data/{self.devices.index(device)}/{stripe:02}/{half}/{self.partition_of(name)}/{digits[-3:]}/{digits}"
 
 
 class Node:
@@ -57,6 +72,7 @@ class Node:
         self.port = free_port()
         words = [program(), "serve", str(RING), "--port", str(self.port), "--workers", "1", "--connections", str(connections), "--passes", "0"]
         self.process = subprocess.Popen(words, cwd=folder, stdout=subprocess.PIPE, stderr=subprocess.PIPE)
+        atexit.register(self.process.kill)  # so that none is left where a script ends by a fault
         line = self.process.stdout.readline()
         if line != b"listening %d\n" % self.port:
             self.process.kill()
@@ -120,3 +136,23 @@ def fault_of(path):
 def files_below(folder):
     """All files below `objects` of all locks."""
     return [path for path in pathlib.Path(folder, "swc-data").glob("*/*/objects/**/*") if path.is_file()]
+
+
+def databases_below(folder):
+    """All databases of containers of all locks."""
+    return sorted(pathlib.Path(folder, "swc-data").glob("*/*/containers/*/*/*/*.db"))
+
+
+def fault_of_database(path):
+    """What SQLite finds wrong with a database that a node left, or None. What was committed last stands in a file beside it (`-wal`), and whoever opens the two
+    may bring them together; so copies are opened, and what the node left stays as it is."""
+    with tempfile.TemporaryDirectory(prefix="sw-database-") as room:
+        for it in (path, *path.parent.glob(f"{path.name}-*")):
+            shutil.copy(it, room)
+        try:
+            database = sqlite3.connect(pathlib.Path(room, path.name))
+            told = [it[0] for it in database.execute("PRAGMA integrity_check")]
+            database.close()
+        except sqlite3.Error as error:
+            told = [str(error)]
+    return None if told == ["ok"] else f"SQLite says {told[:3]}"
