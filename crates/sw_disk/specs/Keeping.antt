@@ -32,8 +32,7 @@ pub record Rests (Order : DiskState → Type 0) (old new : DiskState) : Type 0 w
   pub left : (dir file : List ℕ) (w : Option (List ℕ)) → ¬ (dir ≡ writing) → MayLeave new dir file w → MayLeave old dir file w
 
 -- From old to new this one path was set to w, or nothing has changed; and a crash leaves w there, or what it might have left before, and of no other file
--- anything
--- else than before.
+-- anything else than before.
 pub record Turns (dir file : List ℕ) (w : Option (List ℕ)) (old new : DiskState) : Type 0 where
   pub order : IsInOrder old → IsInOrder new
   pub now : MaySet (kept old) (kept new) dir file w
