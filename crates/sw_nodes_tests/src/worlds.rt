@@ -10,6 +10,7 @@ use std::test::Fail;
 use sw_core::World;
 use sw_keeper::MemKeeper;
 use sw_lossy::{Acts, Lossy};
+use sw_pass::Outcome;
 use sw_peer::{Event, KeptLine, Line, Link, PartRead};
 use sw_ring::{Ring, read};
 use sw_steps::{Step, run_steps};
@@ -66,6 +67,26 @@ const PUSHED: &[Came] = &[
     Came::Changes(1, Link::Sent),
 ];
 
+/// What these pushes came to: the first one lost the message that asked for hashes. The other one asked for hashes and for files, and sent a write.
+const OUTCOMES: &[Outcome] = &[
+    Outcome {
+        done: false,
+        lost: 1,
+        kept: None,
+        asked: 1,
+        sent: 0,
+        left: 1,
+    },
+    Outcome {
+        done: true,
+        lost: 0,
+        kept: None,
+        asked: 2,
+        sent: 1,
+        left: 0,
+    },
+];
+
 fn told(line: &Line) -> Came {
     match &line.event {
         Event::Changed(_, _, _) => Came::Changes(line.device, line.link),
@@ -87,6 +108,15 @@ fn are_told(lines: &[KeptLine], wanted: &[Came]) -> bool {
             .all(|(line, came)| told(line.line()) == *came)
 }
 
+/// Whether the pushes came to this, in this order, and there were no more.
+fn are_outcomes(outcomes: &[Outcome], wanted: &[Outcome]) -> bool {
+    outcomes.len() == wanted.len()
+        && outcomes
+            .iter()
+            .zip(wanted)
+            .all(|(outcome, wanted)| *outcome == *wanted)
+}
+
 /// Empty volumes and keepers for both locks of both devices.
 fn four_parts(alloc: Global) -> Result<Parts<MemVolume, MemKeeper>, Fail>
     ensures { IfOk result (λ parts. length parts ≡ 4) }
@@ -99,8 +129,14 @@ fn four_parts(alloc: Global) -> Result<Parts<MemVolume, MemKeeper>, Fail>
     }
 }
 
-/// Whether the lines of these steps tell what came.
-fn ran(alloc: Global, ring: &Ring, steps: &[Step], wanted: &[Came]) -> Result<bool, Fail>
+/// Whether the lines of these steps tell what came, and the pushes among them came to these outcomes.
+fn ran(
+    alloc: Global,
+    ring: &Ring,
+    steps: &[Step],
+    wanted: &[Came],
+    outcomes: &[Outcome],
+) -> Result<bool, Fail>
     requires { All (MayBeMade (length ring.now.devices) ring.now.power ring.now.secrets) steps.now }
 {
     if ring.devices.as_slice().len() != 2 || ring.lock_bits != 1 {
@@ -110,8 +146,8 @@ fn ran(alloc: Global, ring: &Ring, steps: &[Step], wanted: &[Came]) -> Result<bo
         return Ok(false);
     };
     let mut door = Lossy::new(world, FAITHFUL);
-    run_steps(alloc, &mut door, steps)?;
-    Ok(are_told(door.door.lines(), wanted))
+    let pushed = run_steps(alloc, &mut door, steps)?;
+    Ok(are_outcomes(&pushed, outcomes) && are_told(door.door.lines(), wanted))
 }
 
 fn lists_and_restarts(alloc: Global, ring: &Ring) -> Result<bool, Fail> {
@@ -123,7 +159,7 @@ fn lists_and_restarts(alloc: Global, ring: &Ring) -> Result<bool, Fail> {
         Step::Restart { device: 1 },
         Step::List { device: 1 },
     ];
-    ran(alloc, ring, &steps, LISTED)
+    ran(alloc, ring, &steps, LISTED, &[])
 }
 
 /// The partition of the object is the first one.
@@ -154,7 +190,7 @@ fn pushes(alloc: Global, ring: &Ring) -> Result<bool, Fail> {
             acts: FAITHFUL,
         },
     ];
-    ran(alloc, ring, &steps, PUSHED)
+    ran(alloc, ring, &steps, PUSHED, OUTCOMES)
 }
 
 #[test]
