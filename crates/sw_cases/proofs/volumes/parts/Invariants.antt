@@ -1,6 +1,6 @@
 use Rattle.std.proofs.Common.{◌≡◌, ℕ, false}
 use Rattle.sw_stores.specs.Shelf.{is_out}
-use Rattle.sw_cases.proofs.volumes.volumes.Given as goal
+use Rattle.sw_cases.proofs.volumes.parts.Given as goal
 
 -- no volume is out
 abbrev pub invariant-loop-lock : goal.invariant-loop-lock
