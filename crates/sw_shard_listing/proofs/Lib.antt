@@ -1,0 +1,9 @@
+pub mod Lasts
+pub mod Members
+pub mod Order
+pub mod Rolling
+pub mod Sorting
+pub mod Showing
+pub mod Bounds
+pub mod Clearing
+pub mod Splitting
