@@ -6,6 +6,7 @@ use sw_listing::{BadQuery, Query, list, to_text};
 use sw_listing_json::{laws, listed_time, to_json};
 use sw_outside::Bytes;
 use sw_rows::Rows;
+use sw_shard_listing::{begun, moved, pass};
 use sw_timestamp::Timestamp;
 
 /// Queries and their listings of the live names `a`, `p`, `p/a`, `p/b`, `p/b/c`, `q` and `é`, beside the deleted one `z`.
@@ -51,6 +52,9 @@ const LISTINGS: [(&str, &str); 40] = [
     ("reverse=y&delimiter=/&limit=3", "é\nq\np/\n"),
     ("reverse=no&limit=1", "a\n"),
 ];
+
+/// Ranges of names in order. One bound is what names are rolled up to, and names that are rolled up to it lie in two ranges.
+const RANGES: [(&[u8], &[u8]); 4] = [(b"", b"a"), (b"a", b"p/"), (b"p/", b"p/b"), (b"p/b", b"")];
 
 /// Queries that aren't read, and why. Of several faults the first in the stated order is told.
 const FAULTS: [(&[u8], BadQuery); 12] = [
@@ -105,6 +109,32 @@ fn text_of(alloc: Global, rows: &Rows, query: &[u8]) -> Result<Bytes, BadQuery> 
     Ok(to_text(alloc, &list(alloc, rows, &query)?)?)
 }
 
+/// The text of the listing that is put together from those of the ranges.
+fn text_in_turn(rt: &impl Abort, alloc: Global, rows: &Rows, query: &[u8]) -> Result<Bytes, Fail> {
+    let mut query = begun(alloc, &Query::read(alloc, query)?)?;
+    let mut text = Vec::new(alloc);
+    for place in 0..4 {
+        let range = RANGES[if query.reverse { 3 - place } else { place }];
+        let listed = text_within(rt, alloc, rows, &mut query, range)?;
+        text.extend_from_slice(listed.as_slice())?;
+    }
+    Ok(text.into())
+}
+
+/// The text of what is listed of a range, behind which the query is moved on.
+fn text_within(
+    rt: &impl Abort,
+    alloc: Global,
+    rows: &Rows,
+    query: &mut Query,
+    (lower, upper): (&[u8], &[u8]),
+) -> Result<Bytes, Fail> {
+    let entries = list(alloc, rows, &moved(alloc, query, lower, upper)?)?;
+    assert!(rt; entries.as_slice().len() <= query.limit as usize);
+    pass(alloc, query, entries.as_slice())?;
+    Ok(to_text(alloc, &entries)?)
+}
+
 fn json_of(alloc: Global, rows: &Rows, query: &[u8]) -> Result<Bytes, BadQuery> {
     let query = Query::read(alloc, query)?.copy(alloc)?;
     Ok(to_json(alloc, &list(alloc, rows, &query)?.copy(alloc)?)?)
@@ -116,6 +146,17 @@ fn queries_are_answered(rt: HostRuntime) -> Result<(), Fail> {
     let rows = names(&rt, alloc)?;
     for (query, listing) in LISTINGS {
         let text = text_of(alloc, &rows, query.as_bytes())?;
+        assert!(rt; text.as_slice() == listing.as_bytes(), "at {query}");
+    }
+    Ok(())
+}
+
+#[test]
+fn queries_are_answered_range_by_range(rt: HostRuntime) -> Result<(), Fail> {
+    let alloc = rt.alloc();
+    let rows = names(&rt, alloc)?;
+    for (query, listing) in LISTINGS {
+        let text = text_in_turn(&rt, alloc, &rows, query.as_bytes())?;
         assert!(rt; text.as_slice() == listing.as_bytes(), "at {query}");
     }
     Ok(())
