@@ -4,7 +4,7 @@ use std::alloc::Global;
 use std::test::Fail;
 use sw_keeper::{Batch, Change, Keeper, KeeperError};
 use sw_outside::{Bytes, NoMemory};
-use sw_store::{HostStores, NoNotes};
+use sw_store::{HostKeeper, HostStores, NoNotes};
 use sw_stores::Stores;
 use sw_timestamp::Timestamp;
 
@@ -31,15 +31,19 @@ fn creation(alloc: Global) -> Result<Batch, NoMemory> {
     Ok(Batch::from(vec![in alloc; times]?))
 }
 
-/// Creates the container at the keeper of this lock.
+/// Creates the container at this keeper.
+fn created(alloc: Global, keeper: &mut HostKeeper<NoNotes>) -> Result<(), KeeperError> {
+    let creation = creation(alloc)?;
+    keeper.commit(alloc, &container(alloc)?, &creation)
+}
+
+/// The same at the keeper of this lock.
 fn create(rt: &HostRuntime, base: &str, ring: &str, stripe: u8) -> Result<(), Fail> {
     let alloc = rt.alloc();
-    let container = container(alloc)?;
-    let creation = creation(alloc)?;
     let mut stores = HostStores::below(rt, &NoNotes, OWNER, base);
     stores.ring(alloc, ring)?;
     let (volume, mut keeper) = stores.start(alloc, 1, stripe)?;
-    let created = keeper.commit(alloc, &container, &creation);
+    let created = created(alloc, &mut keeper);
     stores.give_back(1, stripe, volume, keeper);
     Ok(created?)
 }
@@ -50,7 +54,7 @@ fn loaded<K: Keeper>(alloc: Global, keeper: &mut K) -> Result<u64, KeeperError> 
     Ok(tables.map_or(0, |tables| tables.put_time.units()))
 }
 
-/// The same at the keeper of this lock, in stores that are made anew.
+/// That at the keeper of this lock, in stores that are made anew.
 fn put_time(rt: &HostRuntime, base: &str, ring: &str, stripe: u8) -> Result<u64, Fail> {
     let alloc = rt.alloc();
     let mut stores = HostStores::below(rt, &NoNotes, OWNER, base);
