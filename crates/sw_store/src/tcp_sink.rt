@@ -93,7 +93,7 @@ impl<R: Clock> Sink for TcpSink<'_, R> {
 
     ghost number = { λ s. s.number };
 
-    // A writer that takes nothing of a piece that isn't empty has failed.
+    // Where a write takes none of the bytes that are left, nothing more can be sent.
     fn put(&mut self, bytes: &[u8]) -> Result<(), Failed> {
         self.calls = self.calls.saturating_add(1);
         self.pace.begin();
