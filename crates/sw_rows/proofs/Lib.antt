@@ -1,3 +1,4 @@
+pub mod Above
 pub mod Copying
 pub mod Entries
 pub mod Exchanging

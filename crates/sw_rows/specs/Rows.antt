@@ -1,6 +1,6 @@
 -- Rows of a container: one for each name, and numbers that are used once. (OpenStack Swift's container server numbers its
 -- rows and orders those of one name by created_at; that the deleted row wins at one time is this project's own.)
-use Rattle.std.specs.Prelude.{◌≡◌, ℕ, ◌+◌, ◌<◌, ◌≤◌, Bool, true, not, ◌&&◌, ◌||◌, ◌==◌, nat_lt, nat_le, List, [], ◌∷◌, ◌++◌, filter, find, is_none, Option}
+use Rattle.std.specs.Prelude.{◌≡◌, ℕ, ◌+◌, ◌<◌, ◌≤◌, Bool, true, not, ◌&&◌, ◌||◌, ◌==◌, nat_lt, nat_le, List, [], ◌∷◌, ◌++◌, filter, find, is_none, map, Option}
 use Rattle.std.specs.Prelude.{None, Some}
 use Rattle.std.specs.Prelude.{if◌then◌else◌, All, ⊤}
 use Rattle.std.specs.List.{list_all}
@@ -67,6 +67,10 @@ is_numbered rowid n = n.rowid == rowid
 -- a row put behind all others under this number, which is then the greatest given out
 abbrev pub with_numbered : Listed → Row → ℕ → Listed
 with_numbered l row rowid = record { list = l.list ++ record { rowid = rowid; row = row } ∷ []; top = rowid }
+
+-- the rows whose numbers are above this one, in the order in which they stand; the row of the number itself is not among them
+abbrev pub rows_above : ℕ → List Numbered → List Row
+rows_above rowid list = map (λ n. n.row) (filter (λ n. nat_lt rowid n.rowid) list)
 
 -- the rows without the one of this number
 abbrev pub without_numbered : Listed → ℕ → Listed

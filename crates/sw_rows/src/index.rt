@@ -1,4 +1,4 @@
-ghost use Rattle.std.specs.Prelude.{◌≡◌, ◌<◌, ◌^◌, ◌++◌, ◌∷◌, [], IfOk, OnOk, OnErr, All, false, length, nat_lt};
+ghost use Rattle.std.specs.Prelude.{◌≡◌, ◌<◌, ◌^◌, ◌++◌, ◌∷◌, [], ◌≢◌, IfOk, OnOk, OnErr, All, false, length, nat_lt};
 ghost use Rattle.std.specs.Arc.{arc_value};
 ghost use Rattle.std.specs.List.{list_all};
 ghost use Rattle.std.specs.Cmp.Lexicographic.{slice_cmp};
@@ -6,7 +6,7 @@ ghost use Rattle.std.specs.Option.{option_copied, option_map};
 ghost use Rattle.std.specs.Ordering.{is_gt, nat_cmp};
 ghost use Rattle.sw_rows.specs.Left.{rows_left};
 ghost use Rattle.sw_rows.specs.Names.{ListsBetween};
-ghost use Rattle.sw_rows.specs.Rows.{find_named, number_named, without, IsNamedOnce, IsRising};
+ghost use Rattle.sw_rows.specs.Rows.{find_named, number_named, rows_above, without, IsNamedOnce, IsRising};
 
 use crate::held::Held;
 use crate::named_rows::NamedRows;
@@ -111,6 +111,14 @@ impl Index {
         ensures rising { IsRising 0 self.now }
     {
         self.numbers.iter()
+    }
+
+    /// Copies of the rows above a number, in the order of their numbers. Memory is wanted only where there is such a row.
+    pub(crate) fn copies_above(&self, alloc: Global, rowid: u64) -> Result<Vec<Row>, NoMemory>
+        ensures ok { IfOk result (λ rows. rows.items ≡ rows_above rowid self.now) }
+        ensures starved { OnErr result (rows_above rowid self.now ≢ []) }
+    {
+        self.numbers.copies_above(alloc, rowid)
     }
 
     /// Puts the row behind all others, and takes away the one that had its name, which is answered.

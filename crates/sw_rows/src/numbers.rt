@@ -1,16 +1,17 @@
-ghost use Rattle.std.specs.Prelude.{◌≡◌, ◌<◌, ◌^◌, ◌++◌, ◌∷◌, [], OnOk, OnErr, All, length, nat_lt};
+ghost use Rattle.std.specs.Prelude.{◌≡◌, ◌<◌, ◌^◌, ◌++◌, ◌∷◌, [], ◌≢◌, IfOk, OnOk, OnErr, All, length, nat_lt};
 ghost use Rattle.std.specs.Arc.{arc_value};
 ghost use Rattle.std.specs.List.{list_all};
 ghost use Rattle.std.specs.Option.{option_map};
 ghost use Rattle.sw_rows.specs.Index.{but, row_numbered};
 ghost use Rattle.sw_rows.specs.Left.{rows_left, shared_left};
-ghost use Rattle.sw_rows.specs.Rows.{IsRising};
+ghost use Rattle.sw_rows.specs.Rows.{rows_above, IsRising};
 
 use crate::row::Row;
 use crate::rows_iter::{RowsIter, SharedRows};
 use std::alloc::Global;
 use std::collections::BTreeMap;
 use std::marker::Model;
+use std::ops::Bound;
 use std::sync::Arc;
 use sw_outside::NoMemory;
 
@@ -82,6 +83,18 @@ impl Numbers {
         SharedRows {
             entries: self.rows.iter(),
         }
+    }
+
+    /// Copies of the rows above a number, in the order of their numbers. Memory is wanted only where there is such a row.
+    pub(crate) fn copies_above(&self, alloc: Global, rowid: u64) -> Result<Vec<Row>, NoMemory>
+        ensures ok { IfOk result (λ rows. rows.items ≡ rows_above rowid self.now) }
+        ensures starved { OnErr result (rows_above rowid self.now ≢ []) }
+    {
+        let mut rows = Vec::new(alloc);
+        for (_, row) in self.rows.range((Bound::Excluded(rowid), Bound::Unbounded)) {
+            rows.push(row.copy(alloc)?)?;
+        }
+        Ok(rows)
     }
 
     /// Puts the row behind all others. After [`NoMemory`] the rows are what they were.

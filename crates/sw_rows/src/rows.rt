@@ -1,9 +1,9 @@
-ghost use Rattle.std.specs.Prelude.{◌≡◌, ◌<◌, ◌≤◌, ◌^◌, ◌-◌, ◌++◌, ◌∷◌, [], All, length, max, true, IsTrue, IfOk, OnOk, OnErr};
+ghost use Rattle.std.specs.Prelude.{◌≡◌, ◌<◌, ◌≤◌, ◌^◌, ◌-◌, ◌++◌, ◌∷◌, [], ◌≢◌, All, length, max, true, IsTrue, IfOk, OnOk, OnErr};
 ghost use Rattle.std.specs.Arc.{arc_value};
 ghost use Rattle.std.specs.Option.{option_copied, option_map};
 ghost use Rattle.sw_rows.specs.Left.{rows_left};
 ghost use Rattle.sw_rows.specs.Names.{ListsBetween};
-ghost use Rattle.sw_rows.specs.Rows.{can_restore, find_named, fits, merged, no_rows, no_rows_at, number_named, restored, with_row, without, IsListed, IsRising};
+ghost use Rattle.sw_rows.specs.Rows.{can_restore, find_named, fits, merged, no_rows, no_rows_at, number_named, restored, rows_above, with_row, without, IsListed, IsRising};
 ghost use Rattle.sw_rows.specs.Sums.{bytes_of, count_of, hash_of};
 
 use crate::index::Index;
@@ -185,6 +185,17 @@ impl Rows {
         ensures rule { IsListed self.now }
     {
         self.index.between(alloc, lower, upper)
+    }
+
+    /// Copies of the rows above a number (ROWID), in the order of their numbers, or [`NoMemory`], which comes only where there
+    /// is such a row.
+    ///
+    /// Its time grows with the logarithm of the number of rows and with the rows that it gives.
+    pub fn above(&self, alloc: Global, rowid: u64) -> Result<Vec<Row>, NoMemory>
+        ensures ok { IfOk result (λ rows. rows.items ≡ rows_above rowid self.now.list) }
+        ensures starved { OnErr result (rows_above rowid self.now.list ≢ []) }
+    {
+        self.index.copies_above(alloc, rowid)
     }
 
     /// The greatest number given out; 0 where there is none.
