@@ -20,7 +20,7 @@ use Rattle.sw_rows.proofs.Named.{find-without, same_name, without-none}
 use Rattle.sw_container_steps.specs.Batches.{batch_for, changes_of, cut, replacement, row_changes}
 use Rattle.sw_container_steps.specs.Entries.{all_entered, entered, is_merge, row_count, rows_in, rows_of, top_of}
 use Rattle.sw_container_steps.specs.declared.cont_entry.ContEntry.{ContEntry}
-use Rattle.sw_container_steps.specs.declared.cont_entry.ContEntry.TheVariants.{Created, Removed, Merged}
+use Rattle.sw_container_steps.specs.declared.cont_entry.ContEntry.TheVariants.{Created, Removed, Merged, Synced}
 use Rattle.sw_container_steps.proofs.Over.{merged-top, step-at}
 
 -- ---- the row of a name is the row of its number
@@ -134,9 +134,11 @@ changes-make : (t : Option Tables) (entry : ContEntry) → IsListed (rows_of t) 
 changes-make None (Created place time) is = (refl, (tt, tt))
 changes-make None (Removed place time) is = (refl, tt)
 changes-make None (Merged place row) is = (refl, tt)
+changes-make None (Synced place device rowid) is = (refl, tt)
 changes-make (Some t) (Created place time) is = (refl, (tt, tt))
 changes-make (Some t) (Removed place time) is = (refl, (tt, tt))
 changes-make (Some t) (Merged place row) is = row-makes t row is
+changes-make (Some t) (Synced place device rowid) is = (refl, (tt, tt))
 
 no_rows-listed : IsListed no_rows
 no_rows-listed = record { rising = tt; within = λ k d within. absurd (omega (arith, within)); once = tt }
@@ -145,8 +147,10 @@ pub listed-entered : (t : Option Tables) (entry : ContEntry) → IsListed (rows_
 listed-entered None (Created place time) is = no_rows-listed
 listed-entered None (Removed place time) is = no_rows-listed
 listed-entered None (Merged place row) is = no_rows-listed
+listed-entered None (Synced place device rowid) is = no_rows-listed
 listed-entered (Some t) (Created place time) is = is
 listed-entered (Some t) (Removed place time) is = is
+listed-entered (Some t) (Synced place device rowid) is = is
 listed-entered (Some t) (Merged place row) is = at (fits (find_named t.rows.list row.name) row)
   where
     at : (b : Bool) → IsListed (cond b (with_row t.rows row) t.rows)
@@ -187,9 +191,11 @@ entered-top : (t : Option Tables) (entry : ContEntry) → top_of (entered t entr
 entered-top None (Created place time) = omega arith
 entered-top None (Removed place time) = omega arith
 entered-top None (Merged place row) = omega arith
+entered-top None (Synced place device rowid) = omega arith
 entered-top (Some t) (Created place time) = omega arith
 entered-top (Some t) (Removed place time) = omega arith
 entered-top (Some t) (Merged place row) = merged-top t.rows row
+entered-top (Some t) (Synced place device rowid) = omega arith
 
 pub left-room : (t : Option Tables) (all : List ContEntry) (now : Option Tables) (i : ℕ) (changes : List Change) (entry : ContEntry)
     → Left t all now i changes → i < length all → entry ≡ get_or all i entry → top_of now + row_count entry ≤ 2 ^ 64 - 1

@@ -7,15 +7,16 @@ use Rattle.sw_hashpath.specs.declared.place.Place.{Place}
 use Rattle.sw_rows.specs.Rows.{Listed, find_named, fits, merged}
 use Rattle.sw_rows.specs.declared.row.Row.{Row}
 use Rattle.sw_keeper.specs.declared.tables.Tables.{Tables}
+use Rattle.sw_sync.specs.Points.{is_above, point_at}
 use Rattle.sw_step.specs.Rules.{AllAt}
 use Rattle.sw_container_steps.specs.Entries.{about, is_same_place, place_in, rows_of}
 use Rattle.sw_container_steps.specs.Laws.{EntriesAreOfThePlace}
 use Rattle.sw_container_steps.specs.Rules.{cont_rules}
 use Rattle.sw_container_steps.specs.Steps.{created_by, creator, entries_for, merging_entries, rows_entries}
 use Rattle.sw_container_steps.specs.declared.cont_change.ContChange.{ContChange}
-use Rattle.sw_container_steps.specs.declared.cont_change.ContChange.TheVariants.{Create, Remove, MergeRow, MergeRows}
+use Rattle.sw_container_steps.specs.declared.cont_change.ContChange.TheVariants.{Create, Remove, MergeRow, MergeRows, SetSync}
 use Rattle.sw_container_steps.specs.declared.cont_entry.ContEntry.{ContEntry}
-use Rattle.sw_container_steps.specs.declared.cont_entry.ContEntry.TheVariants.{Created, Merged}
+use Rattle.sw_container_steps.specs.declared.cont_entry.ContEntry.TheVariants.{Created, Merged, Synced}
 
 both : (p q : Bool) → (p && q) ≡ true → (p ≡ true) × (q ≡ true)
 both true q is = (refl, is)
@@ -97,6 +98,12 @@ entries-at (Some t) place (Create time) = by (nat_lt t.put_time time)
 entries-at t place (Remove time) = (refl, tt)
 entries-at t place (MergeRow row) = rows-at t place (row ∷ [])
 entries-at t place (MergeRows rows) = rows-at t place rows
+entries-at None place (SetSync device rowid) = tt
+entries-at (Some t) place (SetSync device rowid) = by (is_above rowid (point_at t.syncs 0 device))
+  where
+    by : (b : Bool) → AllAt cont_rules place (cond b (Synced place device rowid ∷ []) [])
+    by true = (refl, tt)
+    by false = tt
 
 pub entries-are-of-the-place : EntriesAreOfThePlace
 entries-are-of-the-place t place change = (

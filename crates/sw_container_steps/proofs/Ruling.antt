@@ -18,7 +18,7 @@ use Rattle.sw_container_steps.specs.Steps.{stale_creation}
 use Rattle.sw_container_steps.specs.declared.cont_answer.ContAnswer.{ContAnswer}
 use Rattle.sw_container_steps.specs.declared.cont_answer.ContAnswer.TheVariants as answers
 use Rattle.sw_container_steps.specs.declared.cont_change.ContChange.{ContChange}
-use Rattle.sw_container_steps.specs.declared.cont_change.ContChange.TheVariants.{Create, Remove, MergeRow, MergeRows}
+use Rattle.sw_container_steps.specs.declared.cont_change.ContChange.TheVariants.{Create, Remove, MergeRow, MergeRows, SetSync}
 use Rattle.sw_container_steps.specs.declared.cont_entry.ContEntry.{ContEntry}
 
 never : true ≡ false → ⊥
@@ -64,6 +64,7 @@ made-ends t (Create time) front = by (is_present t)
 made-ends t (Remove time) front = refl
 made-ends t (MergeRow row) front = refl
 made-ends t (MergeRows rows) front = refl
+made-ends t (SetSync device rowid) front = refl
 
 abbrev EndsSo : Option ContAnswer → Type 0
 EndsSo None = ⊤
@@ -97,6 +98,11 @@ ends-so (Some t) place (Remove time) = by (is_no_time (deletion_after t.put_time
         at false = refl
 ends-so t place (MergeRow row) = rows-so (is_present t) (is_a_row (creator t place (row ∷ [])))
 ends-so t place (MergeRows rows) = rows-so (is_present t) (is_a_row (creator t place rows))
+ends-so t place (SetSync device rowid) = by (is_present t)
+  where
+    by : (b : Bool) → EndsSo (if b then None else Some answers.Absent)
+    by true = tt
+    by false = refl
 
 pub refusal-ends : (t : Option Tables) (place : Place) (change : ContChange) (answer : ContAnswer) → cont_refusal t place change ≡ Some answer
     → cont_ending answer ≡ Refuses

@@ -9,15 +9,17 @@ use Rattle.sw_rows.specs.Rows.{Listed, find_named, fits, merged, with_row}
 use Rattle.sw_rows.specs.Sums.{count_of}
 use Rattle.sw_rows.specs.declared.row.Row.{Row}
 use Rattle.sw_keeper.specs.declared.tables.Tables.{Tables}
+use Rattle.sw_sync.specs.Points.{is_above, point_at, with_point}
+use Rattle.sw_sync.proofs.Setting.{point-set}
 use Rattle.sw_container_steps.specs.Entries.{all_entered, rows_of}
 use Rattle.sw_container_steps.specs.Laws.{EntriesAreSeen, StepsHold, left, sign_of}
 use Rattle.sw_container_steps.specs.Presence.{deletion_after, is_dotted, is_no_time, is_present}
 use Rattle.sw_container_steps.specs.Steps.{cont_refusal, created_by, creator, entries_for, first_live, merging_entries, merging_refusal, removal_refusal_over}
 use Rattle.sw_container_steps.specs.Steps.{rows_entries}
 use Rattle.sw_container_steps.specs.declared.cont_answer.ContAnswer.TheVariants as answers
-use Rattle.sw_container_steps.specs.declared.cont_change.ContChange.TheVariants.{Create, Remove, MergeRow, MergeRows}
+use Rattle.sw_container_steps.specs.declared.cont_change.ContChange.TheVariants.{Create, Remove, MergeRow, MergeRows, SetSync}
 use Rattle.sw_container_steps.specs.declared.cont_entry.ContEntry.{ContEntry}
-use Rattle.sw_container_steps.specs.declared.cont_entry.ContEntry.TheVariants.{Created, Merged}
+use Rattle.sw_container_steps.specs.declared.cont_entry.ContEntry.TheVariants.{Created, Merged, Synced}
 use Rattle.sw_container_steps.proofs.Leaving.{rows-are-merged}
 
 clash : false ≡ true → ⊥
@@ -38,25 +40,35 @@ steps-hold None place (Remove time) allowed = cc
 steps-hold (Some t) place (Remove time) allowed = refl
 steps-hold t place (MergeRow row) allowed = held (left t place (MergeRow row)) (rows-are-merged t place (row ∷ []) allowed).0
 steps-hold t place (MergeRows rows) allowed = held (left t place (MergeRows rows)) (rows-are-merged t place rows allowed).0
+steps-hold None place (SetSync device rowid) allowed = cc
+steps-hold (Some t) place (SetSync device rowid) allowed = by (is_above rowid (point_at t.syncs 0 device))
+  where
+    by : (b : Bool) → IsSome (all_entered (Some t) (cond b (Synced place device rowid ∷ []) []))
+    by true = refl
+    by false = refl
 
 -- ---- presence, by the times
 
-present_of : Option (ℕ × Option ℕ × ℕ) → Bool
+present_of : Option (ℕ × Option ℕ × ℕ × Option ℕ) → Bool
 present_of None = false
 present_of (Some s) = is_no_time (deletion_after s.0 s.1)
 
-present-sign : (t : Option Tables) → present_of (sign_of t) ≡ is_present t
+present-sign : (es : List ContEntry) (t : Option Tables) → present_of (sign_of es t) ≡ is_present t
 unfolding present_of
-present-sign None = refl
-present-sign (Some t) = refl
+present-sign es None = refl
+present-sign es (Some t) = refl
 
-put_of : Option (ℕ × Option ℕ × ℕ) → ℕ
+put_of : Option (ℕ × Option ℕ × ℕ × Option ℕ) → ℕ
 put_of None = 0
 put_of (Some s) = s.0
 
-top_in : Option (ℕ × Option ℕ × ℕ) → ℕ
+top_in : Option (ℕ × Option ℕ × ℕ × Option ℕ) → ℕ
 top_in None = 0
 top_in (Some s) = s.2
+
+point_in : Option (ℕ × Option ℕ × ℕ × Option ℕ) → Option ℕ
+point_in None = None
+point_in (Some s) = s.3
 
 -- ---- rows that are put in raise the greatest number
 
@@ -91,12 +103,13 @@ merging-rises l place (row ∷ rows) full = by (fits (find_named l.list row.name
 -- ---- each kind of step
 
 creation-seen : (t : Tables) (place : Place) (time : ℕ) → entries_for (Some t) place (Create time) ≢ [] →
-    sign_of (left (Some t) place (Create time)) ≢ sign_of (Some t)
+    sign_of (entries_for (Some t) place (Create time)) (left (Some t) place (Create time)) ≢ sign_of (entries_for (Some t) place (Create time)) (Some t)
 unfolding put_of
 creation-seen t place time full same = by (nat_lt t.put_time time) refl full same
   where
     by : (b : Bool) → nat_lt t.put_time time ≡ b → cond b (Created place time ∷ []) [] ≢ [] →
-        sign_of (all_entered (Some t) (cond b (Created place time ∷ []) [])) ≡ sign_of (Some t) → ⊥
+        sign_of (cond b (Created place time ∷ []) []) (all_entered (Some t) (cond b (Created place time ∷ []) []))
+        ≡ sign_of (cond b (Created place time ∷ []) []) (Some t) → ⊥
     by true later full same =
         let times : time ≡ t.put_time = ap put_of same in
         let earlier : nat_lt t.put_time time ≡ false = le-ltb t.put_time time (omega (arith, times)) in
@@ -108,13 +121,14 @@ removed-absent : (t : Tables) (time : ℕ) → is_present (Some t) ≡ true → 
 removed-absent t time is later = ap (λ (b : Bool). is_no_time (cond b (Some time) None)) later
 
 removal-seen : (t : Tables) (place : Place) (time : ℕ) → cont_refusal (Some t) place (Remove time) ≡ None →
-    sign_of (left (Some t) place (Remove time)) ≢ sign_of (Some t)
+    sign_of (entries_for (Some t) place (Remove time)) (left (Some t) place (Remove time)) ≢ sign_of (entries_for (Some t) place (Remove time)) (Some t)
 removal-seen t place time allowed same = by (is_present (Some t)) (count_of t.rows.list) refl allowed
   where
     at : (b : Bool) → nat_lt t.put_time time ≡ b → is_present (Some t) ≡ true → cond b None (Some (answers.Stale t.put_time)) ≡ None → ⊥
     at true later is allowed =
         let now : is_present (left (Some t) place (Remove time)) ≡ is_present (Some t) =
-        sym (present-sign (left (Some t) place (Remove time))) ∙ (ap present_of same ∙ present-sign (Some t)) in
+        sym (present-sign (entries_for (Some t) place (Remove time)) (left (Some t) place (Remove time)))
+        ∙ (ap present_of same ∙ present-sign (entries_for (Some t) place (Remove time)) (Some t)) in
         clash (sym (removed-absent t time is later) ∙ (now ∙ is))
     at false later is allowed = cc
 
@@ -124,14 +138,14 @@ removal-seen t place time allowed same = by (is_present (Some t)) (count_of t.ro
     by false n is allowed = cc
 
 -- a container that is there keeps its times, and the greatest number rises
-top-sign : (t : Option Tables) → top_in (sign_of t) ≡ (rows_of t).top
+top-sign : (es : List ContEntry) (t : Option Tables) → top_in (sign_of es t) ≡ (rows_of t).top
 unfolding top_in
-top-sign None = refl
-top-sign (Some t) = refl
+top-sign es None = refl
+top-sign es (Some t) = refl
 
 present-rows-seen : (t : Option Tables) (place : Place) (rows : List Row) → is_present t ≡ true →
     rows_of (left t place (MergeRows rows)) ≡ fold merged (rows_of t) rows
-    → rows_entries t place rows ≢ [] → sign_of (left t place (MergeRows rows)) ≡ sign_of t → ⊥
+    → rows_entries t place rows ≢ [] → sign_of (rows_entries t place rows) (left t place (MergeRows rows)) ≡ sign_of (rows_entries t place rows) t → ⊥
 present-rows-seen t place rows is rows_are full same =
     let none : created_by t place (creator t place rows) ≡ [] =
     ap (λ (b : Bool). created_by t place (cond b None (cond (is_dotted place) (first_live rows) None))) is in
@@ -139,22 +153,42 @@ present-rows-seen t place rows is rows_are full same =
     (ap (λ (es : List ContEntry). es ++ merging_entries (rows_of t) place rows) none ∙ empty) in
     let rises : (rows_of t).top < (fold merged (rows_of t) rows).top = merging-rises (rows_of t) place rows some in
     let top : (fold merged (rows_of t) rows).top ≡ (rows_of t).top =
-    ap (λ (l : Listed). l.top) (sym rows_are) ∙ (sym (top-sign (left t place (MergeRows rows))) ∙ (ap top_in same ∙ top-sign t)) in
+    ap (λ (l : Listed). l.top) (sym rows_are)
+    ∙ (sym (top-sign (rows_entries t place rows) (left t place (MergeRows rows))) ∙ (ap top_in same ∙ top-sign (rows_entries t place rows) t)) in
     absurd (omega (arith, rises, top))
 
 rows-seen : (t : Option Tables) (place : Place) (rows : List Row) → merging_refusal t place rows ≡ None → rows_entries t place rows ≢ [] →
-    sign_of (left t place (MergeRows rows)) ≢ sign_of t
+    sign_of (rows_entries t place rows) (left t place (MergeRows rows)) ≢ sign_of (rows_entries t place rows) t
 rows-seen t place rows allowed full same = by (is_present t) refl
   where
     there : is_present (left t place (MergeRows rows)) ≡ true
     there = (rows-are-merged t place rows allowed).0
 
     now : is_present (left t place (MergeRows rows)) ≡ is_present t
-    now = sym (present-sign (left t place (MergeRows rows))) ∙ (ap present_of same ∙ present-sign t)
+    now = sym (present-sign (rows_entries t place rows) (left t place (MergeRows rows))) ∙ (ap present_of same ∙ present-sign (rows_entries t place rows) t)
 
     by : (b : Bool) → is_present t ≡ b → ⊥
     by false is = clash (sym is ∙ (sym now ∙ there))
     by true is = present-rows-seen t place rows is (rows-are-merged t place rows allowed).1 full same
+
+-- a number that is set is above the one that was kept, so it isn't that one
+above-itself : (rowid : ℕ) → is_above rowid (Some rowid) ≡ true → ⊥
+above-itself rowid is = clash (sym (le-ltb rowid rowid (omega arith)) ∙ is)
+
+sync-seen : (t : Tables) (place : Place) (device rowid : ℕ) → entries_for (Some t) place (SetSync device rowid) ≢ [] →
+    sign_of (entries_for (Some t) place (SetSync device rowid)) (left (Some t) place (SetSync device rowid))
+    ≢ sign_of (entries_for (Some t) place (SetSync device rowid)) (Some t)
+unfolding point_in
+sync-seen t place device rowid full same = by (is_above rowid (point_at t.syncs 0 device)) refl full same
+  where
+    by : (b : Bool) → is_above rowid (point_at t.syncs 0 device) ≡ b → cond b (Synced place device rowid ∷ []) [] ≢ [] →
+        sign_of (cond b (Synced place device rowid ∷ []) []) (all_entered (Some t) (cond b (Synced place device rowid ∷ []) []))
+        ≡ sign_of (cond b (Synced place device rowid ∷ []) []) (Some t) → ⊥
+    by true above full same =
+        let points : point_at (with_point t.syncs 0 device rowid) 0 device ≡ point_at t.syncs 0 device = ap point_in same in
+        let kept : point_at t.syncs 0 device ≡ Some rowid = sym points ∙ point-set t.syncs 0 device rowid in
+        above-itself rowid (ap (λ (o : Option ℕ). is_above rowid o) (sym kept) ∙ above)
+    by false above full same = full refl
 
 pub entries-are-seen : EntriesAreSeen
 entries-are-seen None place (Create time) allowed full same = cc
@@ -163,3 +197,5 @@ entries-are-seen None place (Remove time) allowed full same = cc
 entries-are-seen (Some t) place (Remove time) allowed full same = removal-seen t place time allowed same
 entries-are-seen t place (MergeRow row) allowed full same = rows-seen t place (row ∷ []) allowed full same
 entries-are-seen t place (MergeRows rows) allowed full same = rows-seen t place rows allowed full same
+entries-are-seen None place (SetSync device rowid) allowed full same = cc
+entries-are-seen (Some t) place (SetSync device rowid) allowed full same = sync-seen t place device rowid full same

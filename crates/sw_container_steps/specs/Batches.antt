@@ -1,14 +1,14 @@
 -- Entries as a batch of a keeper's changes. (This project's own.)
 use Rattle.std.specs.Prelude.{◌+◌, if◌then◌else◌, List, [], ◌∷◌, ◌++◌, find, Option, None, Some}
 use Rattle.sw_keeper.specs.declared.batch.Change.{Change}
-use Rattle.sw_keeper.specs.declared.batch.Change.TheVariants.{Times, PutRow, CutRow}
+use Rattle.sw_keeper.specs.declared.batch.Change.TheVariants.{Times, PutRow, CutRow, SetSync}
 use Rattle.sw_rows.specs.Rows.{Listed, find_named, fits, is_named}
 use Rattle.sw_rows.specs.declared.numbered.Numbered.{Numbered}
 use Rattle.sw_rows.specs.declared.row.Row.{Row}
 use Rattle.sw_keeper.specs.declared.tables.Tables.{Tables}
 use Rattle.sw_container_steps.specs.Entries.{entered}
 use Rattle.sw_container_steps.specs.declared.cont_entry.ContEntry.{ContEntry}
-use Rattle.sw_container_steps.specs.declared.cont_entry.ContEntry.TheVariants.{Created, Removed, Merged}
+use Rattle.sw_container_steps.specs.declared.cont_entry.ContEntry.TheVariants.{Created, Removed, Merged, Synced}
 
 abbrev pub cut : Option Numbered → List Change
 cut None = []
@@ -27,9 +27,11 @@ abbrev pub changes_of : Option Tables → ContEntry → List Change
 changes_of None (Created place time) = Times time None ∷ []
 changes_of None (Removed place time) = []
 changes_of None (Merged place row) = []
+changes_of None (Synced place device rowid) = []
 changes_of (Some t) (Created place time) = Times time t.delete_time ∷ []
 changes_of (Some t) (Removed place time) = Times t.put_time (Some time) ∷ []
 changes_of (Some t) (Merged place row) = row_changes t.rows row
+changes_of (Some t) (Synced place device rowid) = SetSync device rowid ∷ []
 
 -- the changes that make entries, one after the other
 abbrev pub batch_for : Option Tables → List ContEntry → List Change

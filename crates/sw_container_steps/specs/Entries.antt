@@ -6,8 +6,9 @@ use Rattle.sw_hashpath.specs.declared.place.Place.{Place}
 use Rattle.sw_keeper.specs.Changes.{begun}
 use Rattle.sw_rows.specs.Rows.{Listed, merged, no_rows}
 use Rattle.sw_keeper.specs.declared.tables.Tables.{Tables}
+use Rattle.sw_sync.specs.Points.{with_point}
 use Rattle.sw_container_steps.specs.declared.cont_entry.ContEntry.{ContEntry}
-use Rattle.sw_container_steps.specs.declared.cont_entry.ContEntry.TheVariants.{Created, Removed, Merged}
+use Rattle.sw_container_steps.specs.declared.cont_entry.ContEntry.TheVariants.{Created, Removed, Merged, Synced}
 
 -- the rows of a container, none where it was never created
 abbrev pub rows_of : Option Tables → Listed
@@ -25,9 +26,11 @@ abbrev pub entered : Option Tables → ContEntry → Option Tables
 entered None (Created place time) = Some (begun time None)
 entered None (Removed place time) = None
 entered None (Merged place row) = None
+entered None (Synced place device rowid) = None
 entered (Some t) (Created place time) = Some (record t { put_time = time })
 entered (Some t) (Removed place time) = Some (record t { delete_time = Some time })
 entered (Some t) (Merged place row) = Some (record t { rows = merged t.rows row })
+entered (Some t) (Synced place device rowid) = Some (record t { syncs = with_point t.syncs 0 device rowid })
 
 -- what entries leave, one after the other
 abbrev pub all_entered : Option Tables → List ContEntry → Option Tables
@@ -39,6 +42,7 @@ abbrev pub place_in : ContEntry → Place
 place_in (Created place time) = place
 place_in (Removed place time) = place
 place_in (Merged place row) = place
+place_in (Synced place device rowid) = place
 
 -- whether two places are one, in all that they have
 abbrev pub is_same_place : Place → Place → Bool
@@ -54,6 +58,7 @@ abbrev pub is_merge : ContEntry → Bool
 is_merge (Created place time) = false
 is_merge (Removed place time) = false
 is_merge (Merged place row) = true
+is_merge (Synced place device rowid) = false
 
 abbrev pub row_count : ContEntry → ℕ
 row_count entry = if is_merge entry then 1 else 0

@@ -1,5 +1,5 @@
 -- What is promised of the definitions on steps at containers. (This project's own.)
-use Rattle.std.specs.Prelude.{◌≡◌, ◌≢◌, ℕ, true, false, List, [], fold, Option, None, Some, IsSome}
+use Rattle.std.specs.Prelude.{◌≡◌, ◌≢◌, ℕ, true, false, List, [], ◌∷◌, fold, Option, None, Some, IsSome}
 use Rattle.sw_hashpath.specs.declared.place.Place.{Place}
 use Rattle.sw_rows.specs.Rows.{merged}
 use Rattle.sw_rows.specs.declared.row.Row.{Row}
@@ -11,6 +11,9 @@ use Rattle.sw_container_steps.specs.Rules.{cont_rules}
 use Rattle.sw_container_steps.specs.Steps.{cont_refusal, entries_for}
 use Rattle.sw_container_steps.specs.declared.cont_change.ContChange.{ContChange}
 use Rattle.sw_container_steps.specs.declared.cont_change.ContChange.TheVariants.{Create, Remove, MergeRow, MergeRows}
+use Rattle.sw_container_steps.specs.declared.cont_entry.ContEntry.{ContEntry}
+use Rattle.sw_container_steps.specs.declared.cont_entry.ContEntry.TheVariants.{Created, Removed, Merged, Synced}
+use Rattle.sw_sync.specs.Points.{PointList, point_at}
 
 abbrev pub ContainersAreRules : Type 0
 ContainersAreRules = AreRules cont_rules
@@ -49,12 +52,24 @@ EntriesAreOfThePlace = (t : Option Tables) (place : Place) (change : ContChange)
 abbrev pub StepsHold : Type 0
 StepsHold = (t : Option Tables) (place : Place) (change : ContChange) → cont_refusal t place change ≡ None → IsSome (left t place change)
 
--- the times of a container, and the greatest number given out
-abbrev pub sign_of : Option Tables → Option (ℕ × Option ℕ × ℕ)
-sign_of None = None
-sign_of (Some t) = Some (t.put_time, t.delete_time, t.rows.top)
+-- the device whose sync point the first of these entries sets, where it sets one
+abbrev pub synced_by : List ContEntry → Option ℕ
+synced_by [] = None
+synced_by (Created place time ∷ entries) = None
+synced_by (Removed place time ∷ entries) = None
+synced_by (Merged place row ∷ entries) = None
+synced_by (Synced place device rowid ∷ entries) = Some device
+
+abbrev pub kept_for : Option ℕ → PointList → Option ℕ
+kept_for None points = None
+kept_for (Some device) points = point_at points 0 device
+
+-- what these entries are seen by: the times of the container, the greatest number given out, and the sync point that they set
+abbrev pub sign_of : List ContEntry → Option Tables → Option (ℕ × Option ℕ × ℕ × Option ℕ)
+sign_of entries None = None
+sign_of entries (Some t) = Some (t.put_time, t.delete_time, t.rows.top, kept_for (synced_by entries) t.syncs)
 
 -- a step that isn't refused and has entries changes these; so they tell whether it was made
 abbrev pub EntriesAreSeen : Type 0
 EntriesAreSeen = (t : Option Tables) (place : Place) (change : ContChange) → cont_refusal t place change ≡ None
-    → entries_for t place change ≢ [] → sign_of (left t place change) ≢ sign_of t
+    → entries_for t place change ≢ [] → sign_of (entries_for t place change) (left t place change) ≢ sign_of (entries_for t place change) t

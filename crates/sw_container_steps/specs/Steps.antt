@@ -7,14 +7,15 @@ use Rattle.sw_rows.specs.Rows.{Listed, find_named, fits, merged}
 use Rattle.sw_rows.specs.Sums.{count_of}
 use Rattle.sw_rows.specs.declared.row.Row.{Row}
 use Rattle.sw_keeper.specs.declared.tables.Tables.{Tables}
+use Rattle.sw_sync.specs.Points.{is_above, point_at}
 use Rattle.sw_container_steps.specs.Entries.{rows_of}
 use Rattle.sw_container_steps.specs.Presence.{deletion, deletion_after, is_dotted, is_no_time, is_present}
 use Rattle.sw_container_steps.specs.declared.cont_answer.ContAnswer.{ContAnswer}
 use Rattle.sw_container_steps.specs.declared.cont_answer.ContAnswer.TheVariants as answers
 use Rattle.sw_container_steps.specs.declared.cont_change.ContChange.{ContChange}
-use Rattle.sw_container_steps.specs.declared.cont_change.ContChange.TheVariants.{Create, Remove, MergeRow, MergeRows}
+use Rattle.sw_container_steps.specs.declared.cont_change.ContChange.TheVariants.{Create, Remove, MergeRow, MergeRows, SetSync}
 use Rattle.sw_container_steps.specs.declared.cont_entry.ContEntry.{ContEntry}
-use Rattle.sw_container_steps.specs.declared.cont_entry.ContEntry.TheVariants.{Created, Removed, Merged}
+use Rattle.sw_container_steps.specs.declared.cont_entry.ContEntry.TheVariants.{Created, Removed, Merged, Synced}
 
 -- ---- refusals
 
@@ -51,12 +52,17 @@ is_a_row (Some row) = true
 abbrev pub merging_refusal : Option Tables → Place → List Row → Option ContAnswer
 merging_refusal t place rows = if is_present t then None else if is_a_row (creator t place rows) then None else Some answers.Absent
 
+-- a sync point of a container that is absent
+abbrev pub sync_refusal : Option Tables → Option ContAnswer
+sync_refusal t = if is_present t then None else Some answers.Absent
+
 -- how what stands refuses the step; none where the step is made
 abbrev pub cont_refusal : Option Tables → Place → ContChange → Option ContAnswer
 cont_refusal t place (Create time) = creation_refusal t time
 cont_refusal t place (Remove time) = removal_refusal t time
 cont_refusal t place (MergeRow row) = merging_refusal t place (row ∷ [])
 cont_refusal t place (MergeRows rows) = merging_refusal t place rows
+cont_refusal t place (SetSync device rowid) = sync_refusal t
 
 -- ---- what a step that isn't refused enters
 
@@ -83,11 +89,17 @@ created_by t place (Some row) = Created place (creation_time t row) ∷ []
 abbrev pub rows_entries : Option Tables → Place → List Row → List ContEntry
 rows_entries t place rows = created_by t place (creator t place rows) ++ merging_entries (rows_of t) place rows
 
+-- nothing where the number isn't above the one that is kept. Sync points are kept for the first range, 0
+abbrev pub sync_entries : Option Tables → Place → ℕ → ℕ → List ContEntry
+sync_entries None place device rowid = []
+sync_entries (Some t) place device rowid = if is_above rowid (point_at t.syncs 0 device) then Synced place device rowid ∷ [] else []
+
 abbrev pub entries_for : Option Tables → Place → ContChange → List ContEntry
 entries_for t place (Create time) = creation_entries t place time
 entries_for t place (Remove time) = Removed place time ∷ []
 entries_for t place (MergeRow row) = rows_entries t place (row ∷ [])
 entries_for t place (MergeRows rows) = rows_entries t place rows
+entries_for t place (SetSync device rowid) = sync_entries t place device rowid
 
 -- ---- answers
 
@@ -101,3 +113,4 @@ cont_made_answer t (Create time) front = creation_answer (is_present t) front
 cont_made_answer t (Remove time) front = answers.Done front
 cont_made_answer t (MergeRow row) front = answers.Done front
 cont_made_answer t (MergeRows rows) front = answers.Done front
+cont_made_answer t (SetSync device rowid) front = answers.Done front

@@ -16,4 +16,6 @@ pub enum ContChange {
     MergeRow { row: Row },
     /// The same of all these rows, one after the other, in one batch.
     MergeRows { rows: RowList },
+    /// Keeps that the device has all rows up to this number, where that is above the number that is kept.
+    SetSync { device: u8, rowid: u64 },
 }

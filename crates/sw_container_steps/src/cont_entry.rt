@@ -15,6 +15,8 @@ pub enum ContEntry {
     Removed(Place, Timestamp),
     /// This row was merged.
     Merged(Place, Row),
+    /// The device has all rows up to this number.
+    Synced(Place, u8, u64),
 }
 
 impl ContEntry {
@@ -28,6 +30,11 @@ impl ContEntry {
             ContEntry::Merged(place, row) => ContEntry::Merged(
                 place.copy(alloc)?,
                 row.copy(alloc)?,
+            ),
+            ContEntry::Synced(place, device, rowid) => ContEntry::Synced(
+                place.copy(alloc)?,
+                *device,
+                *rowid,
             ),
         })
     }

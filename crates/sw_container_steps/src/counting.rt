@@ -34,5 +34,6 @@ fn is_merge(entry: &ContEntry) -> bool
         ContEntry::Merged(_, _) => true,
         ContEntry::Created(_, _) => false,
         ContEntry::Removed(_, _) => false,
+        ContEntry::Synced(_, _, _) => false,
     }
 }

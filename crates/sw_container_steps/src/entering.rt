@@ -1,13 +1,17 @@
-ghost use Rattle.std.specs.Prelude.{◌≡◌, ◌+◌, ◌-◌, ◌^◌, ◌≤◌, ◌<◌, ◌++◌, [], if◌then◌else◌, find, Some, None, IfOk};
+ghost use Rattle.std.specs.Prelude.{◌≡◌, ◌+◌, ◌-◌, ◌^◌, ◌≤◌, ◌<◌, ◌++◌, ◌∷◌, [], if◌then◌else◌, find, Some, None, IfOk};
 ghost use Rattle.sw_container_steps.specs.Batches.{changes_of, cut, row_changes};
 ghost use Rattle.sw_container_steps.specs.Entries.{entered, row_count, top_of};
+ghost use Rattle.sw_keeper.specs.declared.batch.Change.TheVariants.{SetSync};
 ghost use Rattle.sw_rows.specs.Rows.{find_named, fits, is_named, merged};
+ghost use Rattle.sw_sync.specs.Points.{with_point};
 
 use crate::cont_entry::ContEntry;
+use crate::syncing::SYNC_RANGE;
 use std::alloc::Global;
 use sw_keeper::{Change, Tables};
 use sw_outside::NoMemory;
 use sw_rows::{Row, Rows};
+use sw_sync::Points;
 
 /// Enters an entry: gives the tables after it, and adds to the changes those that make it.
 pub(crate) fn enter(
@@ -45,10 +49,12 @@ fn enter_first(
                 put_time: *time,
                 delete_time: None,
                 rows: Rows::empty(alloc),
+                syncs: Points::new(alloc),
             }))
         }
         ContEntry::Removed(_, _) => Ok(None),
         ContEntry::Merged(_, _) => Ok(None),
+        ContEntry::Synced(_, _, _) => Ok(None),
     }
 }
 
@@ -67,6 +73,7 @@ fn enter_more(
         put_time,
         delete_time,
         rows,
+        syncs,
     } = tables;
     match entry {
         ContEntry::Created(_, time) => {
@@ -78,6 +85,7 @@ fn enter_more(
                 put_time: *time,
                 delete_time,
                 rows,
+                syncs,
             })
         }
         ContEntry::Removed(_, time) => {
@@ -89,14 +97,37 @@ fn enter_more(
                 put_time,
                 delete_time: Some(*time),
                 rows,
+                syncs,
             })
         }
         ContEntry::Merged(_, row) => Ok(Tables {
             put_time,
             delete_time,
             rows: enter_row(alloc, rows, changes, row)?,
+            syncs,
+        }),
+        ContEntry::Synced(_, device, rowid) => Ok(Tables {
+            put_time,
+            delete_time,
+            rows,
+            syncs: enter_sync(syncs, changes, *device, *rowid)?,
         }),
     }
+}
+
+/// Sets a sync point, and adds the change that sets it.
+fn enter_sync(
+    mut syncs: Points,
+    changes: &mut Vec<Change>,
+    device: u8,
+    rowid: u64,
+) -> Result<Points, NoMemory>
+    ensures syncs { IfOk result (λ after. after ≡ with_point syncs 0 device rowid) }
+    ensures changes { IfOk result (λ _. changes.new.items ≡ changes.old.items ++ SetSync device rowid ∷ []) }
+{
+    changes.push(Change::SetSync { device, rowid })?;
+    syncs.set(SYNC_RANGE, device, rowid)?;
+    Ok(syncs)
 }
 
 /// Merges a row, and adds the changes that put it in.

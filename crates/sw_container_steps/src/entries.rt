@@ -1,12 +1,13 @@
 ghost use Rattle.std.specs.Prelude.{◌≡◌, [], ◌∷◌, IfOk};
 ghost use Rattle.std.specs.Option.{option_copied};
-ghost use Rattle.sw_container_steps.specs.Steps.{created_by, creation_entries, creation_time, entries_for, rows_entries};
+ghost use Rattle.sw_container_steps.specs.Steps.{created_by, creation_entries, creation_time, entries_for, rows_entries, sync_entries};
 
 use crate::cont_change::ContChange;
 use crate::cont_entry::ContEntry;
 use crate::merging::merging_entries;
 use crate::presence::deletion;
 use crate::refusing::creator;
+use crate::syncing::SYNC_RANGE;
 use std::alloc::Global;
 use std::slice;
 use sw_hashpath::Place;
@@ -29,6 +30,9 @@ pub(crate) fn entries_for(
         ContChange::Remove { time } => one(alloc, ContEntry::Removed(place.copy(alloc)?, *time)),
         ContChange::MergeRow { row } => { rows_entries(alloc, tables, place, slice::from_ref(row)) }
         ContChange::MergeRows { rows } => rows_entries(alloc, tables, place, rows.as_slice()),
+        ContChange::SetSync { device, rowid } => sync_entries(
+            alloc, tables, place, *device, *rowid,
+        ),
     }
 }
 
@@ -43,6 +47,24 @@ fn creation_entries(
     match tables {
         Some(tables) if tables.put_time >= time => Ok(Vec::new(alloc)),
         _ => one(alloc, ContEntry::Created(place.copy(alloc)?, time)),
+    }
+}
+
+/// None where the number isn't above the one that is kept.
+fn sync_entries(
+    alloc: Global,
+    tables: &Option<Tables>,
+    place: &Place,
+    device: u8,
+    rowid: u64,
+) -> Result<Vec<ContEntry>, NoMemory>
+    ensures { IfOk result (λ entries. entries.items ≡ sync_entries tables.now place.now device rowid) }
+{
+    match tables {
+        Some(tables) if tables.syncs.rises(SYNC_RANGE, device, rowid) => {
+            one(alloc, ContEntry::Synced(place.copy(alloc)?, device, rowid))
+        }
+        _ => Ok(Vec::new(alloc)),
     }
 }
 

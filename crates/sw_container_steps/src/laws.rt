@@ -38,7 +38,8 @@ pub fn steps_hold()
     ensures { StepsHold }
 {}
 
-/// A step that isn't refused and has entries changes a time of the container or the greatest number of a row.
+/// A step that isn't refused and has entries changes what they are seen by: a time of the container, the greatest number of a row, or the sync point
+/// that they set.
 pub fn entries_are_seen()
     ensures { EntriesAreSeen }
 {}

@@ -2,7 +2,7 @@
 //!
 //! A step is one [`ContChange`]. [`decide`] says over the tables of a container what the step comes to: the answer that
 //! refuses it, or exactly the entries ([`ContEntry`]) that it adds. [`batch_of`] makes those entries one batch of changes that
-//! a keeper takes. [`info_of`], [`times_of`] and [`list`] are what is read of tables.
+//! a keeper takes. [`info_of`], [`times_of`], [`list`] and [`sync_rows`] are what is read of tables.
 //!
 //! `specs/Rules` has the rules by which the steps at one lock go, in the words of `sw_step`, and what a step that changes or reads a container is by
 //! them; [`laws`] has that they are rules. No call of a keeper is made here; the next layer up makes them.
@@ -22,6 +22,7 @@ mod merging;
 mod presence;
 mod reading;
 mod refusing;
+mod syncing;
 
 pub use batching::{Entered, batch_of};
 pub use cont_answer::ContAnswer;
@@ -32,3 +33,4 @@ pub use deciding::{Decision, decide, made_answer};
 pub use info::Info;
 pub use presence::is_present;
 pub use reading::{info_of, list, times_of};
+pub use syncing::{Parcel, sync_rows};

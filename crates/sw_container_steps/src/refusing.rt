@@ -1,6 +1,6 @@
 ghost use Rattle.std.specs.Prelude.{◌≡◌};
 ghost use Rattle.std.specs.Option.{option_copied};
-ghost use Rattle.sw_container_steps.specs.Steps.{cont_refusal, creation_refusal, creator, first_live, merging_refusal, removal_refusal};
+ghost use Rattle.sw_container_steps.specs.Steps.{cont_refusal, creation_refusal, creator, first_live, merging_refusal, removal_refusal, sync_refusal};
 
 use crate::cont_answer::ContAnswer;
 use crate::cont_change::ContChange;
@@ -24,6 +24,7 @@ pub(crate) fn refusal(
         ContChange::Remove { time } => removal_refusal(tables, *time),
         ContChange::MergeRow { row } => merging_refusal(tables, place, slice::from_ref(row)),
         ContChange::MergeRows { rows } => merging_refusal(tables, place, rows.as_slice()),
+        ContChange::SetSync { .. } => sync_refusal(tables),
     }
 }
 
@@ -61,6 +62,16 @@ fn merging_refusal(tables: &Option<Tables>, place: &Place, rows: &[Row]) -> Opti
     ensures { result ≡ merging_refusal tables.now place.now rows.now }
 {
     if is_present(tables) || creator(tables, place, rows).is_some() {
+        None
+    } else {
+        Some(ContAnswer::Absent)
+    }
+}
+
+fn sync_refusal(tables: &Option<Tables>) -> Option<ContAnswer>
+    ensures { result ≡ sync_refusal tables.now }
+{
+    if is_present(tables) {
         None
     } else {
         Some(ContAnswer::Absent)

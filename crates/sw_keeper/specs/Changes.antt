@@ -1,36 +1,41 @@
 -- Changes of a container's tables, and batches of them. (This project's own.)
 use Rattle.std.specs.Prelude.{◌≡◌, ℕ, ◌<◌, ⊤, List, [], ◌∷◌, fold, find, Option, None, Some, IsSome}
 use Rattle.sw_keeper.specs.declared.batch.Change.{Change}
-use Rattle.sw_keeper.specs.declared.batch.Change.TheVariants.{Times, PutRow, CutRow}
+use Rattle.sw_keeper.specs.declared.batch.Change.TheVariants.{Times, PutRow, CutRow, SetSync}
 use Rattle.sw_rows.specs.Rows.{find_named, is_numbered, no_rows, with_numbered, without_numbered}
 use Rattle.sw_keeper.specs.declared.tables.Tables.{Tables}
+use Rattle.sw_sync.specs.Points.{with_point}
 
--- a container with these times and no rows
+-- a container with these times, no rows and no sync points
 abbrev pub begun : ℕ → Option ℕ → Tables
-begun put_time delete_time = record { put_time = put_time; delete_time = delete_time; rows = no_rows }
+begun put_time delete_time = record { put_time = put_time; delete_time = delete_time; rows = no_rows; syncs = [] }
 
 -- the tables at a place after a change
 abbrev pub changed : Option Tables → Change → Option Tables
 changed None (Times put_time delete_time) = Some (begun put_time delete_time)
 changed None (PutRow row rowid) = None
 changed None (CutRow rowid) = None
+changed None (SetSync device rowid) = None
 changed (Some t) (Times put_time delete_time) = Some (record t { put_time = put_time; delete_time = delete_time })
 changed (Some t) (PutRow row rowid) = Some (record t { rows = with_numbered t.rows row rowid })
 changed (Some t) (CutRow rowid) = Some (record t { rows = without_numbered t.rows rowid })
+changed (Some t) (SetSync device rowid) = Some (record t { syncs = with_point t.syncs 0 device rowid })
 
 -- the tables at a place after these changes, in their order
 abbrev pub all_changed : Option Tables → List Change → Option Tables
 all_changed tables changes = fold changed tables changes
 
 -- a change that may be made: at a place that isn't held its times alone; a row under a number above the greatest given
--- out, with a name that isn't there; a number that is there
+-- out, with a name that isn't there; a number that is there; any sync point
 abbrev pub CanChange : Option Tables → Change → Type 0
 CanChange None (Times put_time delete_time) = ⊤
 CanChange None (PutRow row rowid) = ⊥
 CanChange None (CutRow rowid) = ⊥
+CanChange None (SetSync device rowid) = ⊥
 CanChange (Some t) (Times put_time delete_time) = ⊤
 CanChange (Some t) (PutRow row rowid) = (t.rows.top < rowid) × (find_named t.rows.list row.name ≡ None)
 CanChange (Some t) (CutRow rowid) = IsSome (find (is_numbered rowid) t.rows.list)
+CanChange (Some t) (SetSync device rowid) = ⊤
 
 -- each change may be made after those before it, and the place is held in the end
 abbrev pub IsBatch : Option Tables → List Change → Type 0

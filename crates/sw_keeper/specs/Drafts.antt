@@ -7,7 +7,7 @@ use Rattle.sw_rows.specs.Rows.{IsListed, IsRising}
 
 -- the tables that a draft makes of tables
 abbrev pub drafted : Tables → Draft → Tables
-drafted t d = record { put_time = d.put_time; delete_time = d.delete_time; rows = exchanged t.rows d.numbers.items d.rows.items d.top }
+drafted t d = record { put_time = d.put_time; delete_time = d.delete_time; rows = exchanged t.rows d.numbers.items d.rows.items d.top; syncs = d.syncs }
 
 -- a draft that may be made of tables: the numbers of the rows that go were given out before, those of the rows that come are
 -- above them and rise, and what it makes are rows of a container

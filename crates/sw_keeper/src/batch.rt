@@ -17,6 +17,11 @@ pub enum Change {
     PutRow(Row, u64),
     /// The row of this number is gone.
     CutRow(u64),
+    /// The device has all rows up to this number.
+    SetSync {
+        device: u8,
+        rowid: u64,
+    },
 }
 
 impl Change {
@@ -34,6 +39,10 @@ impl Change {
             },
             Change::PutRow(row, rowid) => Change::PutRow(row.copy(alloc)?, *rowid),
             Change::CutRow(rowid) => Change::CutRow(*rowid),
+            Change::SetSync { device, rowid } => Change::SetSync {
+                device: *device,
+                rowid: *rowid,
+            },
         })
     }
 }

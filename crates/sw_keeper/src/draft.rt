@@ -9,10 +9,14 @@ use crate::kept::Kept;
 use std::alloc::Global;
 use sw_outside::NoMemory;
 use sw_rows::Numbered;
+use sw_sync::Points;
 use sw_timestamp::Timestamp;
 
+/// Sync points are kept for the whole of a container, and not for a range of its names: by the number of the first range.
+const WHOLE: u32 = 0;
+
 /// What a batch makes of tables, taken together: the numbers of the rows that go, the rows that come, the greatest number given
-/// out then and the times. No change of the batch is made yet.
+/// out then, the times and the sync points. No change of the batch is made yet.
 #[derive(Debug, Drop)]
 pub(crate) struct Draft {
     pub(crate) put_time: Timestamp,
@@ -20,6 +24,7 @@ pub(crate) struct Draft {
     pub(crate) numbers: Vec<u64>,
     pub(crate) rows: Vec<Numbered>,
     pub(crate) top: u64,
+    pub(crate) syncs: Points,
 }
 
 /// The draft of a batch.
@@ -28,25 +33,27 @@ pub(crate) fn draft_of(alloc: Global, tables: &Kept, batch: &Batch) -> Result<Dr
     ensures is { IfOk result (λ draft. IsDraft tables.now draft) }
     ensures tables { IfOk result (λ draft. Some (drafted tables.now draft) ≡ all_changed (Some tables.now) batch.now) }
 {
-    let mut draft = begin(alloc, tables);
+    let mut draft = begin(alloc, tables)?;
     for change in batch.as_slice() {
         add(alloc, tables, &mut draft, change)?;
     }
     Ok(draft)
 }
 
-/// The draft of no changes. It takes no memory.
-fn begin(alloc: Global, tables: &Kept) -> Draft
-    ensures is { IsDraft tables.now result }
-    ensures tables { drafted tables.now result ≡ tables.now }
+/// The draft of no changes.
+fn begin(alloc: Global, tables: &Kept) -> Result<Draft, NoMemory>
+    ensures is { IfOk result (λ draft. IsDraft tables.now draft) }
+    ensures tables { IfOk result (λ draft. drafted tables.now draft ≡ tables.now) }
 {
-    Draft {
+    let syncs = tables.syncs().copy()?;
+    Ok(Draft {
         put_time: tables.put_time(),
         delete_time: tables.delete_time(),
         numbers: Vec::new(alloc),
         rows: Vec::new(alloc),
         top: tables.top(),
-    }
+        syncs,
+    })
 }
 
 /// The draft with a change more.
@@ -71,6 +78,7 @@ fn add(alloc: Global, tables: &Kept, draft: &mut Draft, change: &Change) -> Resu
         }
         Change::CutRow(rowid) if *rowid > tables.top() => cut(&mut draft.rows, *rowid),
         Change::CutRow(rowid) => draft.numbers.push(*rowid)?,
+        Change::SetSync { device, rowid } => draft.syncs.set(WHOLE, *device, *rowid)?,
     }
     Ok(())
 }

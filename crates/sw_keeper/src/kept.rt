@@ -9,6 +9,7 @@ use std::alloc::Global;
 use std::marker::Model;
 use sw_outside::NoMemory;
 use sw_rows::NumberedRows;
+use sw_sync::Points;
 use sw_timestamp::Timestamp;
 
 /// Tables as a keeper in memory holds them: it looks for no name, so of the rows it has the numbers alone. Contracts see the
@@ -18,6 +19,7 @@ pub(crate) struct Kept {
     put_time: Timestamp,
     delete_time: Option<Timestamp>,
     rows: NumberedRows,
+    syncs: Points,
 }
 
 impl Model for Kept {
@@ -25,7 +27,7 @@ impl Model for Kept {
 
     ghost Value = { Tables };
 
-    ghost view = { λ k. record { put_time = k.put_time; delete_time = k.delete_time; rows = k.rows } };
+    ghost view = { λ k. record { put_time = k.put_time; delete_time = k.delete_time; rows = k.rows; syncs = k.syncs } };
 }
 
 impl Kept {
@@ -37,6 +39,7 @@ impl Kept {
             put_time: Timestamp::from_units(0).unwrap(),
             delete_time: None,
             rows: NumberedRows::empty(alloc),
+            syncs: Points::new(alloc),
         }
     }
 
@@ -50,6 +53,12 @@ impl Kept {
         ensures { result ≡ self.now.delete_time }
     {
         self.delete_time
+    }
+
+    pub(crate) fn syncs(&self) -> &Points
+        ensures { result.now ≡ self.now.syncs }
+    {
+        &self.syncs
     }
 
     /// The greatest number given out.
@@ -68,6 +77,7 @@ impl Kept {
             put_time: self.put_time,
             delete_time: self.delete_time,
             rows: self.rows.indexed(alloc)?,
+            syncs: self.syncs.copy()?,
         })
     }
 
@@ -83,10 +93,12 @@ impl Kept {
             numbers,
             rows,
             top,
+            syncs,
         } = draft;
         self.rows.exchange(alloc, &numbers, rows, top)?;
         self.put_time = put_time;
         self.delete_time = delete_time;
+        self.syncs = syncs;
         Ok(())
     }
 }
