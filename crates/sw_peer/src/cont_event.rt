@@ -1,4 +1,4 @@
-use sw_container_steps::{ContAnswer, ContChange, Info};
+use sw_container_steps::{ContAnswer, ContChange, Info, Parcel};
 use sw_hashpath::Place;
 use sw_history::Seen;
 use sw_listing::{Entries, Query};
@@ -16,4 +16,6 @@ pub enum ContEvent {
     Informed(Seen<Place>, Seen<Result<Info, ContAnswer>>),
     /// A listing by this query.
     Listed(Seen<Place>, Seen<Query>, Seen<Result<Entries, ContAnswer>>),
+    /// A read of the rows that the device of this number isn't known to have.
+    Parceled(Seen<Place>, u8, Seen<Result<Parcel, ContAnswer>>),
 }

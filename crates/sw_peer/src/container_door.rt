@@ -1,13 +1,13 @@
 ghost use Rattle.std.specs.Prelude.{◌≡◌, ◌<◌, true};
-ghost use Rattle.sw_container_steps.specs.Reads.{info_of, listing_of, times_of};
+ghost use Rattle.sw_container_steps.specs.Reads.{info_of, listing_of, parcel_of, times_of};
 ghost use Rattle.sw_peer.specs.ContSights.{IsContMade, IsLooked};
 ghost use Rattle.sw_peer.specs.Sights.{Calls, Sight};
-ghost use Rattle.sw_peer.specs.declared.cont_event.ContEvent.TheVariants.{Informed, Listed, Timed};
+ghost use Rattle.sw_peer.specs.declared.cont_event.ContEvent.TheVariants.{Informed, Listed, Parceled, Timed};
 
 use crate::door::Door;
 use crate::link::{Link, Lost};
 use std::alloc::Global;
-use sw_container_steps::{ContAnswer, ContChange, Info};
+use sw_container_steps::{ContAnswer, ContChange, Info, Parcel};
 use sw_hashpath::Place;
 use sw_listing::{Entries, Query};
 use sw_timestamp::Timestamp;
@@ -69,6 +69,22 @@ pub trait ContainerDoor: Door {
         requires device { device < (Self.sight self.old).nodes.devices }
         requires fits { (Self.sight self.old).nodes.fits_place place.now ≡ true }
         ensures read { Calls (IsLooked link device place.now (listing_of query.now) (λ got. Listed place.now query.now got)) (Self.sight self.old) link result
+            (Self.sight self.new) }
+        ensures asks { (Self.sight self.new).asks ≡ (Self.sight self.old).asks };
+
+    /// Reads the rows above the sync point that the container keeps for the device `to`, and the greatest number given out. [`ContAnswer::Absent`]
+    /// exactly where there is no container.
+    fn sync_rows(
+        &mut self,
+        alloc: Global,
+        link: Link,
+        device: u8,
+        place: &Place,
+        to: u8,
+    ) -> Result<Result<Parcel, ContAnswer>, Lost>
+        requires device { device < (Self.sight self.old).nodes.devices }
+        requires fits { (Self.sight self.old).nodes.fits_place place.now ≡ true }
+        ensures read { Calls (IsLooked link device place.now (parcel_of to) (λ got. Parceled place.now to got)) (Self.sight self.old) link result
             (Self.sight self.new) }
         ensures asks { (Self.sight self.new).asks ≡ (Self.sight self.old).asks };
 }
