@@ -1,18 +1,21 @@
 -- What a pass came to, and what each event counts for. (This project's own.)
-use Rattle.std.specs.Prelude.{◌==◌, ℕ, Bool, true, false, Option, None, Some}
+use Rattle.std.specs.Prelude.{◌==◌, ◌&&◌, ℕ, Bool, false, Option, None, Some}
 use Rattle.sw_outside.specs.Counts.{raised}
+use Rattle.sw_container_steps.specs.declared.cont_answer.ContAnswer.{ContAnswer}
+use Rattle.sw_container_steps.specs.declared.cont_answer.ContAnswer.TheVariants as conts
 use Rattle.sw_object_steps.specs.declared.answer.Answer.{Answer}
 use Rattle.sw_object_steps.specs.declared.answer.Answer.TheVariants as answers
 use Rattle.sw_object_steps.specs.declared.dir_fault.DirFault.{DirFault}
 use Rattle.sw_object_steps.specs.declared.dir_fault.DirFault.TheVariants as faults
 use Rattle.sw_pass.specs.declared.hindrance.Hindrance.{Hindrance}
-use Rattle.sw_pass.specs.declared.hindrance.Hindrance.TheVariants.{Failed, JournalFull, Missing}
+use Rattle.sw_pass.specs.declared.hindrance.Hindrance.TheVariants.{Conflict, Failed, JournalFull, Missing}
 use Rattle.sw_pass.specs.declared.outcome.Outcome.{Outcome}
 
 -- ---- hindrances
 
 abbrev pub status_of : Hindrance → ℕ
 status_of Missing = 404
+status_of Conflict = 409
 status_of JournalFull = 503
 status_of Failed = 507
 
@@ -35,6 +38,18 @@ answer_hindrance (answers.Damaged bad) = Some Failed
 answer_hindrance answers.Failed = Some Failed
 answer_hindrance answers.NoMemory = None
 
+-- the same of a step at a container. What stands refuses it where it isn't earlier than the step, or has live rows
+abbrev pub cont_hindrance : ContAnswer → Option Hindrance
+cont_hindrance (conts.New front) = None
+cont_hindrance (conts.There front) = None
+cont_hindrance (conts.Done front) = None
+cont_hindrance conts.Absent = Some Missing
+cont_hindrance (conts.Stale time) = Some Conflict
+cont_hindrance (conts.NotEmpty count) = Some Conflict
+cont_hindrance conts.JournalFull = Some JournalFull
+cont_hindrance conts.Failed = Some Failed
+cont_hindrance conts.NoMemory = None
+
 -- ---- counts
 
 abbrev pub nothing_yet : Outcome
@@ -53,9 +68,16 @@ abbrev pub first_kept : Option Hindrance → Hindrance → Option Hindrance
 first_kept None hindrance = Some hindrance
 first_kept (Some kept) hindrance = Some kept
 
+abbrev pub keeping : Outcome → Hindrance → Outcome
+keeping o hindrance = record o { kept = first_kept o.kept hindrance }
+
 abbrev pub hindered : Outcome → Hindrance → Outcome
 hindered o hindrance = record o { kept = first_kept o.kept hindrance; left = raised o.left }
 
 -- done exactly where nothing is left
 abbrev pub finished : Outcome → Outcome
 finished o = record o { done = (o.left == 0) }
+
+-- done exactly where nothing is left, and a condition of the pass holds
+abbrev pub finished_where : Bool → Outcome → Outcome
+finished_where holds o = record o { done = (o.left == 0) && holds }

@@ -1,6 +1,7 @@
 ghost use Rattle.std.specs.Prelude.{◌≡◌};
-ghost use Rattle.sw_pass.specs.Outcomes.{answer_hindrance, fault_hindrance, status_of};
+ghost use Rattle.sw_pass.specs.Outcomes.{answer_hindrance, cont_hindrance, fault_hindrance, status_of};
 
+use sw_container_steps::ContAnswer;
 use sw_object_steps::{Answer, DirFault};
 
 /// An answer that hindered a pass.
@@ -8,6 +9,8 @@ use sw_object_steps::{Answer, DirFault};
 pub enum Hindrance {
     /// What the pass asked for isn't there any more.
     Missing,
+    /// What stands refuses it.
+    Conflict,
     /// A journal has no room.
     JournalFull,
     /// A call of a volume failed, or a file is damaged.
@@ -21,6 +24,7 @@ impl Hindrance {
     {
         match self {
             Hindrance::Missing => 404,
+            Hindrance::Conflict => 409,
             Hindrance::JournalFull => 503,
             Hindrance::Failed => 507,
         }
@@ -52,6 +56,24 @@ impl Hindrance {
             Answer::Buried(_) => None,
             Answer::Conflict(_) => None,
             Answer::NoMemory => None,
+        }
+    }
+
+    /// How the answer of a step at a container hinders, or of a read that gave nothing. `None` for want of memory, which ends a pass, and for the
+    /// answers that acknowledge the step.
+    pub fn of_container_answer(answer: &ContAnswer) -> Option<Hindrance>
+        ensures { result ≡ cont_hindrance answer.now }
+    {
+        match answer {
+            ContAnswer::New(_) => None,
+            ContAnswer::There(_) => None,
+            ContAnswer::Done(_) => None,
+            ContAnswer::Absent => Some(Hindrance::Missing),
+            ContAnswer::Stale(_) => Some(Hindrance::Conflict),
+            ContAnswer::NotEmpty(_) => Some(Hindrance::Conflict),
+            ContAnswer::JournalFull => Some(Hindrance::JournalFull),
+            ContAnswer::Failed => Some(Hindrance::Failed),
+            ContAnswer::NoMemory => None,
         }
     }
 }

@@ -1,5 +1,5 @@
 ghost use Rattle.std.specs.Prelude.{◌≡◌};
-ghost use Rattle.sw_pass.specs.Outcomes.{asking, finished, hindered, losing, nothing_yet, sending};
+ghost use Rattle.sw_pass.specs.Outcomes.{asking, finished, finished_where, hindered, keeping, losing, nothing_yet, sending};
 
 use crate::hindrance::Hindrance;
 
@@ -57,13 +57,20 @@ impl Outcome {
         self.left = self.left.saturating_add(1);
     }
 
-    /// An answer hindered it, so that what it was for is left. The first one is kept.
-    pub fn hinder(&mut self, hindrance: Hindrance)
-        ensures { self.new ≡ hindered self.old hindrance }
+    /// An answer hindered it, and left nothing that is counted. The first one is kept.
+    pub fn keep(&mut self, hindrance: Hindrance)
+        ensures { self.new ≡ keeping self.old hindrance }
     {
         if self.kept.is_none() {
             self.kept = Some(hindrance);
         }
+    }
+
+    /// An answer hindered it, so that what it was for is left. The first one is kept.
+    pub fn hinder(&mut self, hindrance: Hindrance)
+        ensures { self.new ≡ hindered self.old hindrance }
+    {
+        self.keep(hindrance);
         self.left = self.left.saturating_add(1);
     }
 
@@ -73,6 +80,16 @@ impl Outcome {
     {
         Outcome {
             done: self.left == 0,
+            ..self
+        }
+    }
+
+    /// The outcome of a pass that is done exactly where nothing is left and a condition of its own holds.
+    pub fn finish_where(self, holds: bool) -> Outcome
+        ensures { result ≡ finished_where holds self }
+    {
+        Outcome {
+            done: self.left == 0 && holds,
             ..self
         }
     }
