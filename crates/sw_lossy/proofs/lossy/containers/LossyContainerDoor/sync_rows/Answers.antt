@@ -1,0 +1,72 @@
+use Rattle.std.proofs.Common.{refl, sym, ◌∙◌, ap, Err}
+use Rattle.sw_container_steps.specs.Reads.{parcel_of}
+use Rattle.sw_peer.proofs.ContCalls.{look-step}
+use Rattle.sw_peer.specs.declared.cont_event.ContEvent.TheVariants.{Parceled}
+use Rattle.sw_lossy.proofs.Losses.{becomes, nodes-after}
+use Rattle.sw_lossy.specs.declared.acts.Fate.TheVariants.{Goes, IsLost, LosesReply, ComesTwice}
+use Rattle.sw_lossy.proofs.lossy.containers.LossyContainerDoor.sync_rows.Goals as goal
+
+pub returns-in-Goes-clause-read : goal.returns-in-Goes-clause-read
+returns-in-Goes-clause-read g c =
+    let now = c.args.self.now in
+    becomes g.D.Door.sight g.met.D.FaithfulDoor.carries (look-step c.args.link c.args.device c.args.place.now (parcel_of c.args.to)
+    (λ got. Parceled c.args.place.now c.args.to got)) now.acts now.messages
+    c.args.link Goes now.door c.next.new.self.door c.sync_rows.new.self c.sync_rows.result c.next.new.self.acts c.next.new.self.messages now.faults c.next.new.self.faults
+    now.asks c.next.new.self.asks
+    c.next.ensures.door (sym c.next.ensures.fate ∙ c.in-Goes.is) c.next.ensures.acts c.next.ensures.messages c.next.ensures.faults c.next.ensures.later
+    c.next.ensures.risen
+    c.sync_rows.ensures.read
+
+pub returns-in-IsLost-clause-read : goal.returns-in-IsLost-clause-read
+returns-in-IsLost-clause-read g c =
+    let now = c.args.self.now in
+    becomes g.D.Door.sight g.met.D.FaithfulDoor.carries (look-step c.args.link c.args.device c.args.place.now (parcel_of c.args.to)
+    (λ got. Parceled c.args.place.now c.args.to got)) now.acts now.messages
+    c.args.link IsLost now.door c.next.new.self.door c.next.new.self.door (Err (record {})) c.next.new.self.acts c.next.new.self.messages now.faults
+    c.next.new.self.faults now.asks c.next.new.self.asks
+    c.next.ensures.door (sym c.next.ensures.fate ∙ c.in-IsLost.is) c.next.ensures.acts c.next.ensures.messages c.next.ensures.faults c.next.ensures.later
+    c.next.ensures.risen
+    (refl, refl)
+
+pub returns-in-LosesReply-clause-read : goal.returns-in-LosesReply-clause-read
+returns-in-LosesReply-clause-read g c =
+    let now = c.args.self.now in
+    becomes g.D.Door.sight g.met.D.FaithfulDoor.carries (look-step c.args.link c.args.device c.args.place.now (parcel_of c.args.to)
+    (λ got. Parceled c.args.place.now c.args.to got)) now.acts now.messages
+    c.args.link LosesReply now.door c.next.new.self.door c.sync_rows-in-LosesReply.new.self (Err (record {})) c.next.new.self.acts c.next.new.self.messages
+    now.faults c.next.new.self.faults now.asks c.next.new.self.asks
+    c.next.ensures.door (sym c.next.ensures.fate ∙ c.in-LosesReply.is) c.next.ensures.acts c.next.ensures.messages c.next.ensures.faults c.next.ensures.later
+    c.next.ensures.risen
+    ((c.sync_rows-in-LosesReply.result, c.sync_rows-in-LosesReply.ensures.read), refl)
+
+pub sync_rows-requires-in-ComesTwice-2-clause-device : goal.sync_rows-requires-in-ComesTwice-2-clause-device
+sync_rows-requires-in-ComesTwice-2-clause-device g c =
+    let s = g.D.Door.sight in
+    rw (nodes-after (look-step c.args.link c.args.device c.args.place.now (parcel_of c.args.to) (λ got. Parceled c.args.place.now c.args.to got))
+    (λ a b p. p.nodes)
+    (s c.args.self.now.door) (s c.next.new.self.door) (s c.sync_rows-in-ComesTwice.new.self) c.args.link c.sync_rows-in-ComesTwice.result (ap s c.next.ensures.door)
+    c.sync_rows-in-ComesTwice.ensures.read)
+    c.requires.device
+
+pub sync_rows-requires-in-ComesTwice-2-clause-fits : goal.sync_rows-requires-in-ComesTwice-2-clause-fits
+sync_rows-requires-in-ComesTwice-2-clause-fits g c =
+    let s = g.D.Door.sight in
+    rw (nodes-after (look-step c.args.link c.args.device c.args.place.now (parcel_of c.args.to) (λ got. Parceled c.args.place.now c.args.to got))
+    (λ a b p. p.nodes)
+    (s c.args.self.now.door) (s c.next.new.self.door) (s c.sync_rows-in-ComesTwice.new.self) c.args.link c.sync_rows-in-ComesTwice.result (ap s c.next.ensures.door)
+    c.sync_rows-in-ComesTwice.ensures.read)
+    c.requires.fits
+
+pub returns-in-ComesTwice-clause-read : goal.returns-in-ComesTwice-clause-read
+returns-in-ComesTwice-clause-read g c =
+    let now = c.args.self.now in
+    becomes g.D.Door.sight g.met.D.FaithfulDoor.carries (look-step c.args.link c.args.device c.args.place.now (parcel_of c.args.to)
+    (λ got. Parceled c.args.place.now c.args.to got)) now.acts now.messages
+    c.args.link ComesTwice now.door c.next.new.self.door c.sync_rows-in-ComesTwice-2.new.self c.sync_rows-in-ComesTwice-2.result c.next.new.self.acts
+    c.next.new.self.messages now.faults c.next.new.self.faults now.asks c.next.new.self.asks
+    c.next.ensures.door (sym c.next.ensures.fate ∙ c.in-ComesTwice.is) c.next.ensures.acts c.next.ensures.messages c.next.ensures.faults c.next.ensures.later
+    c.next.ensures.risen (
+      c.sync_rows-in-ComesTwice.new.self,
+      (c.sync_rows-in-ComesTwice.result, c.sync_rows-in-ComesTwice.ensures.read),
+      c.sync_rows-in-ComesTwice-2.ensures.read,
+    )
