@@ -1,7 +1,7 @@
 -- Why a door that is alone goes on with a run by each of its steps.
 use Rattle.std.proofs.Common.{◌≡◌, ℕ, Bool, true, List, [], ◌∷◌, ◌++◌, map, refl, sym, ◌∙◌, ap, subst, inl, inr, Option, Result}
 use Rattle.std.specs.Option.{option_map}
-use Rattle.sw_container_steps.specs.Reads.{info_of, listing_of, times_of}
+use Rattle.sw_container_steps.specs.Reads.{info_of, listing_of, parcel_of, times_of}
 use Rattle.sw_container_steps.specs.Rules.{cont_rules}
 use Rattle.sw_container_steps.specs.declared.cont_answer.ContAnswer.{ContAnswer}
 use Rattle.sw_container_steps.specs.declared.cont_entry.ContEntry.{ContEntry}
@@ -27,7 +27,7 @@ use Rattle.sw_state.specs.declared.state.State.{State}
 use Rattle.sw_step.specs.Steps.{added_by}
 use Rattle.sw_machine.proofs.Going.{changes-go-on, reads-go-on, same-goes}
 use Rattle.sw_machine.specs.Doors.{ContainerChangesGoOn, DeviceListingsGoOn, FilesReadsGoOn, GoesOn, GoesOnBy, HashesReadsGoOn, InfosGoOn, ListingsGoOn}
-use Rattle.sw_machine.specs.Doors.{LooksGoOn, ObjectChangesGoOn, ObjectReadsGoOn, ReadsGoOn, RestartsGoOn, StandsFor, TimesGoOn, WriteReadsGoOn, cont_line}
+use Rattle.sw_machine.specs.Doors.{LooksGoOn, ObjectChangesGoOn, ObjectReadsGoOn, ParcelsGoOn, ReadsGoOn, RestartsGoOn, StandsFor, TimesGoOn, WriteReadsGoOn, cont_line}
 use Rattle.sw_machine.specs.Doors.{obj_line}
 use Rattle.sw_machine.specs.Machine.{Came, ContComes, ContReads, ContSide, KnownRow, KnownWrite, Machine, ObjReadsPart, ObjSide, PartReads, Runs}
 use Rattle.sw_machine.specs.Machine.{Steps, made_rows, made_writes}
@@ -305,6 +305,10 @@ infos device place = looks device place info_of (λ got. cont_events.Informed pl
 pub listings : ListingsGoOn
 listings device place query =
     looks device place (listing_of query) (λ got. cont_events.Listed place query got) (λ got entries may. may) (λ nodes m got added after reads. reads)
+
+pub parcels : ParcelsGoOn
+parcels device place to =
+    looks device place (parcel_of to) (λ got. cont_events.Parceled place to got) (λ got entries may. may) (λ nodes m got added after reads. reads)
 
 -- ---- whole devices
 

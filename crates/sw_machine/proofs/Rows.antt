@@ -10,9 +10,9 @@ use Rattle.sw_container_steps.specs.Rules.{ContHistory, ContJournal, cont_ending
 use Rattle.sw_container_steps.specs.Steps.{cont_refusal, entries_for}
 use Rattle.sw_container_steps.specs.declared.cont_answer.ContAnswer.{ContAnswer}
 use Rattle.sw_container_steps.specs.declared.cont_change.ContChange.{ContChange}
-use Rattle.sw_container_steps.specs.declared.cont_change.ContChange.TheVariants.{Create, Remove, MergeRow, MergeRows}
+use Rattle.sw_container_steps.specs.declared.cont_change.ContChange.TheVariants.{Create, Remove, MergeRow, MergeRows, SetSync}
 use Rattle.sw_container_steps.specs.declared.cont_entry.ContEntry.{ContEntry}
-use Rattle.sw_container_steps.specs.declared.cont_entry.ContEntry.TheVariants.{Created}
+use Rattle.sw_container_steps.specs.declared.cont_entry.ContEntry.TheVariants.{Created, Synced}
 use Rattle.sw_hashpath.specs.declared.place.Place.{Place}
 use Rattle.sw_keeper.specs.declared.tables.Tables.{Tables}
 use Rattle.sw_rows.specs.Rows.{merged}
@@ -20,6 +20,7 @@ use Rattle.sw_rows.specs.declared.row.Row.{Row}
 use Rattle.sw_step.specs.Journals.{flat}
 use Rattle.sw_step.specs.Rules.{Damages, Ending, Fails, Makes, Overflows, Refuses, Wants, has_made}
 use Rattle.sw_step.specs.Steps.{Answers, EndsSeen, EndsUnseen, StepChanges, Stops}
+use Rattle.sw_sync.specs.Points.{is_above, point_at}
 use Rattle.sw_machine.specs.Machine.{KnownRow, made_rows, rows_in, was_made}
 
 -- where there is nothing to enter there is no change at which it could have stopped
@@ -106,6 +107,12 @@ rows-left None place (Remove time) allowed = cc
 rows-left (Some t) place (Remove time) allowed = refl
 rows-left t place (MergeRow row) allowed = (rows-are-merged t place (row ∷ []) allowed).1
 rows-left t place (MergeRows rows) allowed = (rows-are-merged t place rows allowed).1
+rows-left None place (SetSync device rowid) allowed = refl
+rows-left (Some t) place (SetSync device rowid) allowed = by (is_above rowid (point_at t.syncs 0 device))
+  where
+    by : (b : Bool) → rows_of (all_entered (Some t) (cond b (Synced place device rowid ∷ []) [])) ≡ t.rows
+    by true = refl
+    by false = refl
 
 rows-back : (place : Place) (rows : List Row) → map (λ (n : KnownRow). n.row) (map (λ row. record { place = place; row = row }) rows) ≡ rows
 rows-back place [] = refl

@@ -5,7 +5,7 @@ use Rattle.std.specs.List.{fold}
 use Rattle.sw_container_steps.proofs.Ruling.{are-rules as cont-rules}
 use Rattle.sw_container_steps.specs.Entries.{rows_of}
 use Rattle.sw_container_steps.specs.Rules.{cont_look, cont_rules}
-use Rattle.sw_container_steps.specs.Reads.{info_of, listing_of, times_of}
+use Rattle.sw_container_steps.specs.Reads.{info_of, listing_of, parcel_of, times_of}
 use Rattle.sw_container_steps.specs.declared.cont_answer.ContAnswer.{ContAnswer}
 use Rattle.sw_container_steps.specs.declared.cont_change.ContChange.{ContChange}
 use Rattle.sw_container_steps.specs.declared.cont_entry.ContEntry.{ContEntry}
@@ -166,6 +166,7 @@ module _ (nodes : Nodes) where
   cont-comes m device (cont_events.Timed place got) added after step = cont-read m device place times_of got added after step
   cont-comes m device (cont_events.Informed place got) added after step = cont-read m device place info_of got added after step
   cont-comes m device (cont_events.Listed place query got) added after step = cont-read m device place (listing_of query) got added after step
+  cont-comes m device (cont_events.Parceled place to got) added after step = cont-read m device place (parcel_of to) got added after step
 
   cont-still : (m after : ContSide) → after ≡ m → ContGoes m after
   cont-still m after same =

@@ -1,7 +1,7 @@
 -- How a door that is alone stands for the machine, with a trail or without: each of its steps goes on with a run. (This project's own.)
 use Rattle.std.specs.Prelude.{◌≡◌, ℕ, Bool, true, List, [], ◌∷◌, ◌++◌, Option, Result, Ok, ◌⊎◌}
 use Rattle.std.specs.Option.{option_map}
-use Rattle.sw_container_steps.specs.Reads.{info_of, listing_of, times_of}
+use Rattle.sw_container_steps.specs.Reads.{info_of, listing_of, parcel_of, times_of}
 use Rattle.sw_container_steps.specs.declared.cont_answer.ContAnswer.{ContAnswer}
 use Rattle.sw_container_steps.specs.declared.cont_change.ContChange.{ContChange}
 use Rattle.sw_container_steps.specs.declared.cont_entry.ContEntry.{ContEntry}
@@ -145,6 +145,10 @@ InfosGoOn = (device : ℕ) (place : Place) → LooksGoOn device place info_of (�
 
 abbrev pub ListingsGoOn : Type 0
 ListingsGoOn = (device : ℕ) (place : Place) (query : Query) → LooksGoOn device place (listing_of query) (λ got. cont_events.Listed place query got)
+
+-- of the rows that a device isn't known to have
+abbrev pub ParcelsGoOn : Type 0
+ParcelsGoOn = (device : ℕ) (place : Place) (to : ℕ) → LooksGoOn device place (parcel_of to) (λ got. cont_events.Parceled place to got)
 
 -- ---- of a whole device: a listing of all its files, and a restart, add no entries
 

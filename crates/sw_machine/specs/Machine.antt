@@ -4,11 +4,11 @@ use Rattle.std.specs.Prelude.{◌≡◌, ◌≢◌, ℕ, ◌≤◌, Bool, true, 
 use Rattle.std.specs.List.{All}
 use Rattle.std.specs.Str.{bytes_eq}
 use Rattle.sw_container_steps.specs.Entries.{is_same_place, rows_of}
-use Rattle.sw_container_steps.specs.Reads.{info_of, listing_of, times_of}
+use Rattle.sw_container_steps.specs.Reads.{info_of, listing_of, parcel_of, times_of}
 use Rattle.sw_container_steps.specs.Rules.{cont_ending, cont_look, cont_rules}
 use Rattle.sw_container_steps.specs.declared.cont_answer.ContAnswer.{ContAnswer}
 use Rattle.sw_container_steps.specs.declared.cont_change.ContChange.{ContChange}
-use Rattle.sw_container_steps.specs.declared.cont_change.ContChange.TheVariants.{Create, Remove, MergeRow, MergeRows}
+use Rattle.sw_container_steps.specs.declared.cont_change.ContChange.TheVariants.{Create, Remove, MergeRow, MergeRows, SetSync}
 use Rattle.sw_container_steps.specs.declared.cont_entry.ContEntry.{ContEntry}
 use Rattle.sw_hashpath.specs.declared.decode_error.BadFile.{BadFile}
 use Rattle.sw_hashpath.specs.declared.name.Name.{Name}
@@ -66,12 +66,13 @@ abbrev pub made_writes : Name → List ObjEntry → List KnownWrite
 made_writes name [] = []
 made_writes name (Wrote n write ∷ made) = record { name = name; write = write } ∷ made_writes name made
 
--- the rows that a step merges
+-- the rows that a step merges. A sync point is none
 abbrev pub rows_in : ContChange → List Row
 rows_in (Create time) = []
 rows_in (Remove time) = []
 rows_in (MergeRow row) = row ∷ []
 rows_in (MergeRows rows) = rows
+rows_in (SetSync device rowid) = []
 
 -- whether a step was made: its answer says so, or something was made of it
 abbrev pub was_made : ContAnswer → List ContEntry → Bool
@@ -197,6 +198,7 @@ module _ (nodes : Nodes) where
   ContComes m device (cont_events.Timed place got) added after = ContReads m device place times_of got added after
   ContComes m device (cont_events.Informed place got) added after = ContReads m device place info_of got added after
   ContComes m device (cont_events.Listed place query got) added after = ContReads m device place (listing_of query) got added after
+  ContComes m device (cont_events.Parceled place to got) added after = ContReads m device place (parcel_of to) got added after
 
   -- ---- what comes to a device
 

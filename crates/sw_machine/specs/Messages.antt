@@ -31,7 +31,8 @@ MayChange (Changed name change answer) = ⊤
 MayChange (AtContainer (cont_events.Changed place change answer) entries) = ⊤
 MayChange event = ⊥
 
--- What was sent is on its way for good: each step from then on may be its coming, again and again. No other changing step comes in a message
+-- What was sent is on its way for good: each step from then on may be its coming, again and again. No other changing step comes in a message: sync points are
+-- set at the device itself
 abbrev pub WasSent : List Message → Line → Type 0
 WasSent sent line =
     line.link ≡ Sent → MayChange line.event → (message : Message) × Contains sent message × Arrives message line.device line.event

@@ -1,7 +1,7 @@
 //! Laws of runs. Each function does nothing: its clause is the law.
 
 ghost use Rattle.sw_machine.specs.Doors.{ContainerChangesGoOn, DeviceListingsGoOn, FilesReadsGoOn, GoingOnJoins, HashesReadsGoOn, InfosGoOn, ListingsGoOn};
-ghost use Rattle.sw_machine.specs.Doors.{ObjectChangesGoOn, ObjectReadsGoOn, RestartsGoOn, RunsOnJoin, SameGoesOn, SendingGoesOn, TimesGoOn, WriteReadsGoOn};
+ghost use Rattle.sw_machine.specs.Doors.{ObjectChangesGoOn, ObjectReadsGoOn, ParcelsGoOn, RestartsGoOn, RunsOnJoin, SameGoesOn, SendingGoesOn, TimesGoOn, WriteReadsGoOn};
 ghost use Rattle.sw_machine.specs.Entering.{HashesCalm, JournalsGrow, LinesTellHashes, LinesTellPlaces, PlacesCalm};
 ghost use Rattle.sw_machine.specs.Laws.{HashesAreTold, HashesMayStand, HashesStand, MessagesWereSent, PlacesAreTold, PlacesMayStand, RowsAreMerged};
 ghost use Rattle.sw_machine.specs.Laws.{RunKeepsTheGreatest, RunSends, RunsJoin};
@@ -91,12 +91,13 @@ pub fn objects_go_on()
     ensures write { WriteReadsGoOn }
 {}
 
-/// By each at a container: one that may change it, a read of its times or of what is told of it, and a listing.
+/// By each at a container: one that may change it, a read of its times or of what is told of it, a listing, and a read of rows above a sync point.
 pub fn containers_go_on()
     ensures changes { ContainerChangesGoOn }
     ensures times { TimesGoOn }
     ensures infos { InfosGoOn }
     ensures listings { ListingsGoOn }
+    ensures parcels { ParcelsGoOn }
 {}
 
 /// By each listing of all files of a device, and by each restart of it.

@@ -1,4 +1,4 @@
-use Rattle.sw_machine.proofs.Doors.{container-changes, infos, listings, times}
+use Rattle.sw_machine.proofs.Doors.{container-changes, infos, listings, parcels, times}
 use Rattle.sw_machine.proofs.laws.containers_go_on.Goals as goal
 
 pub returns-clause-changes : goal.returns-clause-changes
@@ -12,3 +12,6 @@ returns-clause-infos c = infos
 
 pub returns-clause-listings : goal.returns-clause-listings
 returns-clause-listings c = listings
+
+pub returns-clause-parcels : goal.returns-clause-parcels
+returns-clause-parcels c = parcels
