@@ -1,12 +1,15 @@
 -- What is kept of a body, and what was taken of it.
 use Rattle.std.proofs.Common.{◌≡◌, ℕ, ◌+◌, ◌<◌, ◌≤◌, List, [], ◌++◌, length, take, drop, Option, None, Some, IfSome, refl, sym, ap, ◌∙◌, subst, arith}
-use Rattle.std.proofs.Common.{append_assoc, append-nil, length-append, length-take-le, inl, inr}
+use Rattle.std.proofs.Common.{◌-◌, append_assoc, append-nil, length-append, length-take-le, inl, inr}
+use Rattle.std.specs.Prelude.{replicate}
+use Rattle.std.proofs.lemmas.List.{length-replicate}
 use Rattle.std.specs.Io.KnownBytes.{Consumes, Keeps, IsAtEnd, prepend_known}
 use Rattle.std.proofs.KnownBytes.{Consumes-trans, Consumes-nil, Consumes-kept, Consumes-whole}
 use Rattle.std.proofs.lemmas.Bool.{cases_lt, cond-true, cond-false, le-leb, lt-leb}
 use Rattle.httparse.specs.Ascii.{crlf_bytes}
 use Rattle.sw_http.specs.Body.{Plain, Chunks, BodyText, IsBody, print_body, body_of, extended, IsWithinLimit}
 use Rattle.sw_http.specs.ChunkSteps.{TakesBytes, TakesData, HasNoData, TakesChunked, HasNoChunked, IsUnread, TakesBody, HasNoBody}
+use Rattle.sw_http.specs.ChunkSteps.{IsDataCut, IsChunkedCut, IsBodyCut}
 use Rattle.sw_http.specs.Input.{IfSeen, IsShort, HasNoLineEnd}
 use Rattle.sw_message.specs.declared.framing.Framing.TheVariants.{Unframed, Length, Chunked}
 use Rattle.sw_message.specs.declared.request.Body.{Body}
@@ -187,20 +190,42 @@ content_cut a b left body now count len takes short none_there =
     seen_behind a b left takes.bytes (λ (s : List ℕ). length s < len) (λ (s : List ℕ). length s ≡ 0) takes.taken
     (λ rest none. omega (arith, short, none, takes.size, length-append takes.bytes rest)) none_there
 
-pub data_cut_short : (a left : Option (List ℕ)) (len : ℕ) → IfSeen a left (λ (s : List ℕ). length s < len) → IfSeen a left (HasNoData len)
-data_cut_short a left len = seen_map a left (λ (s : List ℕ). length s < len) (HasNoData len) (no_data_short len)
+cut_short : (len : ℕ) (bytes : List ℕ) → length bytes < len → IsDataCut len bytes
+cut_short len bytes short =
+    let missing : List ℕ = replicate (len - length bytes) 0 in
+    record {
+      none = no_data_short len bytes short;
+      content = bytes ++ missing;
+      size = omega (arith, short, length-append bytes missing, length-replicate {A = ℕ} (len - length bytes) 0);
+      more = missing ++ crlf_bytes;
+      whole = sym (append_assoc bytes missing crlf_bytes);
+    }
+
+pub data_cut_short : (a left : Option (List ℕ)) (len : ℕ) → IfSeen a left (λ (s : List ℕ). length s < len) → IfSeen a left (IsDataCut len)
+data_cut_short a left len = seen_map a left (λ (s : List ℕ). length s < len) (IsDataCut len) (cut_short len)
 
 pub data_cut_end : (a b left : Option (List ℕ)) (held : List ℕ) (body now : Body) (len : ℕ) → TakesBytes a b body now len → IfSeen b left (IsShort held) →
-    IfSeen a left (HasNoData len)
+    IfSeen a left (IsDataCut len)
 data_cut_end a b left held body now len takes cut =
-    seen_behind a b left takes.bytes (HasNoData len) (IsShort held) takes.taken
-    (λ rest short. no_data_end len takes.bytes rest takes.size (no_end_short rest short.0)) cut
+    seen_behind a b left takes.bytes (IsDataCut len) (IsShort held) takes.taken
+    (λ rest short. record {
+      none = no_data_end len takes.bytes rest takes.size (no_end_short rest short.0.short);
+      content = takes.bytes;
+      size = takes.size;
+      more = short.0.more;
+      whole = append_assoc takes.bytes rest short.0.more ∙ ap (λ (l : List ℕ). takes.bytes ++ l) short.0.whole;
+    }) cut
 
-pub plain_cut : (a left : Option (List ℕ)) (len room : ℕ) → IfSeen a left (λ (s : List ℕ). length s < len) → IfSeen a left (HasNoBody (Some (Length len)) room)
-plain_cut a left len room = seen_map a left (λ (s : List ℕ). length s < len) (HasNoBody (Some (Length len)) room) (no_plain len room)
+pub plain_cut : (a left : Option (List ℕ)) (len room : ℕ) → len ≤ room → IfSeen a left (λ (s : List ℕ). length s < len) →
+    IfSeen a left (IsBodyCut (Some (Length len)) room)
+plain_cut a left len room fits =
+    seen_map a left (λ (s : List ℕ). length s < len) (IsBodyCut (Some (Length len)) room)
+    (λ bytes short. record { none = no_plain len room bytes short; may = (short, fits) })
 
-pub chunks_body_cut : (a left : Option (List ℕ)) (room : ℕ) → IfSeen a left (HasNoChunked room) → IfSeen a left (HasNoBody (Some Chunked) room)
-chunks_body_cut a left room = seen_map a left (HasNoChunked room) (HasNoBody (Some Chunked) room) (no_chunks room)
+pub chunks_body_cut : (a left : Option (List ℕ)) (room : ℕ) → IfSeen a left (IsChunkedCut room) → IfSeen a left (IsBodyCut (Some Chunked) room)
+chunks_body_cut a left room =
+    seen_map a left (IsChunkedCut room) (IsBodyCut (Some Chunked) room)
+    (λ bytes cut. record { none = no_chunks room bytes cut.none; may = (cut.may, cut.few) })
 
 -- bytes of a body were read straight to where they stay, while nothing was held
 pub content_cut_straight : (a left now : Option (List ℕ)) (held : List ℕ) (body body_now : Body) (count len : ℕ)

@@ -1,24 +1,25 @@
 -- Chunked bodies: bytes begin with one at most, and when none can stand in front.
 use Rattle.std.proofs.Common.{◌≡◌, ℕ, ◌+◌, ◌-◌, ◌<◌, ◌≤◌, List, [], ◌∷◌, ◌++◌, length, Option, IfSome, refl, sym, ap, ◌∙◌, subst, arith, append_assoc}
-use Rattle.std.proofs.Common.{append-nil, length-append}
+use Rattle.std.proofs.Common.{◌⊎◌, inl, inr, append-nil, length-append}
 use Rattle.std.specs.Prelude.{All}
 use Rattle.std.specs.List.{flat_map}
 use Rattle.std.specs.Io.KnownBytes.{Consumes}
 use Rattle.std.proofs.KnownBytes.{Consumes-trans, Consumes-nil}
 use Rattle.std.proofs.lemmas.List.Elements.{All-head, All-tail, All-cons, All-nil, All-append}
 use Rattle.httparse.specs.Ascii.{crlf_bytes}
-use Rattle.httparse.specs.Grammar.{ChunkLine, IsChunkLine, chunk_size, print_chunk_line, Field, LineEnd, print_section}
+use Rattle.httparse.specs.Grammar.{ChunkLine, IsChunkLine, chunk_size, print_chunk_line, Field, LineEnd, print_section, MayBecomeChunkLine}
 use Rattle.httparse.proofs.ChunkLemmas.{chunk_line_unique}
 use Rattle.httparse.proofs.GrammarLemmas.{section_unique}
 use Rattle.sw_http.specs.Body.{extended, IsWithinLimit}
 use Rattle.sw_http.specs.Chunked.{Chunk, IsChunk, print_chunk, chunk_bytes, ChunkedText, IsChunked, print_chunked, IsLast, IsTrailer}
 use Rattle.sw_http.specs.ChunkSteps.{HasNoLineWithin, HasNoData, TakesData, TakesLine, TakesChunk, TakesLast, HasNoChunked, TakesChunks, TakesChunked}
 use Rattle.sw_http.specs.ChunkSteps.{TakesTrailer, HasNoTrailerWithin}
+use Rattle.sw_http.specs.ChunkSteps.{IsLineCut, IsSizedCut, MayBecomeChunk, IsChunkCut, IsTrailerCut, MayBecomeEnd, IsChunkedCut}
 use Rattle.sw_http.specs.declared.chunk_line.SizeLine.{SizeLine}
 use Rattle.sw_message.specs.declared.request.Body.{Body}
 use Rattle.sw_http.proofs.BodyLemmas.{extended_none, extended_twice, extended_within}
 use Rattle.sw_http.specs.Input.{IfSeen}
-use Rattle.sw_http.proofs.InputLemmas.{if_behind, if_taken, seen_behind, seen_map}
+use Rattle.sw_http.proofs.InputLemmas.{if_behind, if_taken, none_within, seen_behind, seen_map}
 use Rattle.sw_http.proofs.ListLemmas.{fronts_same, same_rest}
 
 abbrev chunked : List Chunk → ChunkLine → List Field → LineEnd → List ℕ
@@ -332,28 +333,78 @@ step_no_data a b size_line room takes some none_there =
 
 -- ---- a read failed in a chunked body
 
-pub chunk_cut_line : (a left : Option (List ℕ)) (room : ℕ) → IfSeen a left (HasNoLineWithin room) → IfSeen a left (HasNoChunked room)
-chunk_cut_line a left room = seen_map a left (HasNoLineWithin room) (HasNoChunked room) (no_chunked_line room)
+pub chunk_cut_line : (a left : Option (List ℕ)) (room : ℕ) → IfSeen a left (IsLineCut room) → IfSeen a left (IsChunkCut room)
+chunk_cut_line a left room = seen_map a left (IsLineCut room) (IsChunkCut room)
+    λ bytes cut. record { none = no_chunked_line room bytes cut.none; may = inl cut.may; few = cut.few }
 
 pub chunk_cut_data : (a b left : Option (List ℕ)) (size_line : SizeLine) (room : ℕ) → TakesLine a b size_line → 0 < size_line.size →
-    IfSeen b left (HasNoData size_line.size)
-    → IfSeen a left (HasNoChunked room)
+    IfSeen b left (IsSizedCut room size_line)
+    → IfSeen a left (IsChunkCut room)
 chunk_cut_data a b left size_line room takes some cut =
-    seen_behind a b left _ (HasNoChunked room) (HasNoData size_line.size) takes.taken
-    (λ rest holds. no_chunked_data room takes.line rest takes.is_line (omega (arith, takes.size_is, some))
-    (subst (λ (n : ℕ). HasNoData n rest) (sym takes.size_is) holds))
+    seen_behind a b left _ (IsChunkCut room) (IsSizedCut room size_line) takes.taken
+    (λ rest sized.
+    let is_some : 0 < chunk_size takes.line = omega (arith, takes.size_is, some) in
+    let chunk : Chunk = record { line = takes.line; bytes = sized.cut.content } in
+    record {
+      none = no_chunked_data room takes.line rest takes.is_line is_some (subst (λ (n : ℕ). HasNoData n rest) (sym takes.size_is) sized.cut.none);
+      may = inr (record {
+        chunk = chunk;
+        is_chunk = record { is_line = takes.is_line; some = is_some; size = sized.cut.size ∙ sym takes.size_is };
+        more = sized.cut.more;
+        whole = append_assoc (print_chunk_line takes.line) rest sized.cut.more ∙ ap (λ (l : List ℕ). print_chunk_line takes.line ++ l) sized.cut.whole;
+      });
+      few = omega (
+        arith,
+        sized.fits,
+        sized.cut.size,
+        takes.len_is,
+        length-append (print_chunk_line takes.line) rest,
+        length-append rest sized.cut.more,
+        ap length sized.cut.whole,
+        length-append sized.cut.content crlf_bytes,
+      );
+    })
     cut
 
-pub chunks_cut : (a b now : Option (List ℕ)) (body body_now : Body) (room left : ℕ) → TakesChunks a b body body_now room left → IfSeen b now (HasNoChunked left)
-    → IfSeen a now (HasNoChunked room)
+-- what may still become a chunk or a line may become one behind the chunks
+may_go_on : (bytes : List ℕ) → MayBecomeChunkLine bytes ⊎ MayBecomeChunk bytes → MayBecomeChunkLine bytes ⊎ (MayBecomeChunk bytes ⊎ MayBecomeEnd bytes)
+may_go_on bytes (inl may) = inl may
+may_go_on bytes (inr may) = inr (inl may)
+
+-- bytes behind chunks
+chunked_cut : (a b now : Option (List ℕ)) (body body_now : Body) (room left : ℕ) (P : List ℕ → Type 0) → TakesChunks a b body body_now room left
+    → ((rest : List ℕ) → P rest → HasNoChunked left rest)
+    → ((rest : List ℕ) → P rest → MayBecomeChunkLine rest ⊎ (MayBecomeChunk rest ⊎ MayBecomeEnd rest))
+    → ((rest : List ℕ) → P rest → length rest ≤ left + 65536)
+    → IfSeen b now P → IfSeen a now (IsChunkedCut room)
+chunked_cut a b now body body_now room left P takes none may few cut =
+    seen_behind a b now _ (IsChunkedCut room) P takes.taken
+    (λ rest holds. record {
+      none = no_chunked_behind_all takes.chunks room left rest takes.are_chunks takes.room_is (none rest holds);
+      may = record { chunks = takes.chunks; are_chunks = takes.are_chunks; begun = rest; whole = refl; may = may rest holds };
+      few = omega (arith, takes.room_is, few rest holds, length-append (flat_map print_chunk takes.chunks) rest);
+    }) cut
+
+pub chunks_cut : (a b now : Option (List ℕ)) (body body_now : Body) (room left : ℕ) → TakesChunks a b body body_now room left → IfSeen b now (IsChunkCut left)
+    → IfSeen a now (IsChunkedCut room)
 chunks_cut a b now body body_now room left takes cut =
-    seen_behind a b now _ (HasNoChunked room) (HasNoChunked left) takes.taken
-    (λ rest holds. no_chunked_behind_all takes.chunks room left rest takes.are_chunks takes.room_is holds) cut
+    chunked_cut a b now body body_now room left (IsChunkCut left) takes (λ rest c. c.none) (λ rest c. may_go_on rest c.may)
+    (λ rest c. omega (arith, c.few)) cut
+
+-- a trailer behind the line of size 0
+record IsEndCut (room : ℕ) (bytes : List ℕ) : Type 0 where
+  none : HasNoChunked room bytes
+  may : MayBecomeEnd bytes
+  few : length bytes ≤ room + 65536
 
 pub trailer_cut : (a b c now : Option (List ℕ)) (body body_now : Body) (room left len : ℕ) → TakesChunks a b body body_now room left → TakesLast b c len →
     len ≤ left
-    → IfSeen c now (HasNoTrailerWithin (left - len)) → IfSeen a now (HasNoChunked room)
+    → IfSeen c now IsTrailerCut → IfSeen a now (IsChunkedCut room)
 trailer_cut a b c now body body_now room left len takes last within cut =
-    chunks_cut a b now body body_now room left takes
-    (seen_behind b c now _ (HasNoChunked left) (HasNoTrailerWithin (left - len)) last.taken
-    (λ rest holds. no_chunked_trailer left (left - len) len last.line rest last.is_last last.len_is (omega arith) holds) cut)
+    chunked_cut a b now body body_now room left (IsEndCut left) takes (λ rest e. e.none) (λ rest e. inr (inr e.may)) (λ rest e. e.few)
+    (seen_behind b c now _ (IsEndCut left) IsTrailerCut last.taken
+    (λ rest trailer. record {
+      none = no_chunked_trailer left (left - len) len last.line rest last.is_last last.len_is (omega arith) (none_within _ _ (left - len) rest trailer.none);
+      may = record { line = last.line; is_last = last.is_last; rest = rest; whole = refl; cut = trailer };
+      few = omega (arith, within, last.len_is, trailer.short, length-append (print_chunk_line last.line) rest);
+    }) cut)

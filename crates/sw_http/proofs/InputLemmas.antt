@@ -16,7 +16,9 @@ use Rattle.std.specs.List.{list_any}
 use Rattle.std.proofs.lemmas.List.Folds.{list_any-append}
 use Rattle.std.proofs.Math.Seq.{take-append_seam}
 use Rattle.std.proofs.Common.{◌⊎◌, inl, inr, false}
-use Rattle.sw_http.specs.Input.{IfSeen, HasRead, TakesRun, TakesFew, IsAllRun, IsLongRun, HasNoRun, HasNoLineEnd}
+use Rattle.sw_http.specs.Input.{IfSeen, HasRead, TakesRun, TakesFew, IsAllRun, IsLongRun, HasNoRun, HasNoLineEnd, IsLineEndCut}
+use Rattle.std.specs.Prelude.{Result, Err, OnErr, ⊤}
+use Rattle.httparse.specs.Ascii.{crlf_bytes}
 
 -- ---- what is held, and then what the source has left
 
@@ -258,6 +260,34 @@ run_cut test limit a held after left now count run few none same kept =
 pub no_end_short : (bytes : List ℕ) → length bytes < 2 → HasNoLineEnd bytes
 no_end_short bytes short = record { none = λ rest e. omega (arith, short, ap length e) }
 
+-- bytes that begin with no line end, and are no front of one: none stands there, whatever follows
+pub no_end_other : (held : List ℕ) → ((rest : List ℕ) → ¬ (held ≡ crlf_bytes ++ rest)) → ((rest : List ℕ) → ¬ (crlf_bytes ≡ held ++ rest)) →
+    (more : List ℕ) → HasNoLineEnd (held ++ more)
+no_end_other [] whole front more = absurd (front crlf_bytes refl)
+no_end_other (a ∷ []) whole front more = record {
+  none = λ rest e.
+      let same : a ≡ 13 = cc in
+      front (10 ∷ []) (ap (λ (x : ℕ). x ∷ 10 ∷ []) (sym same));
+}
+no_end_other (a ∷ b ∷ held) whole front more = record {
+  none = λ rest e.
+      let first : a ≡ 13 = cc in
+      let second : b ≡ 10 = cc in
+      whole held (λ i. first i ∷ second i ∷ held);
+}
+
+-- bytes that begin with no line end, and are a front of one
+pub end_cut : (held rest : List ℕ) → ((after : List ℕ) → ¬ (held ≡ crlf_bytes ++ after)) → crlf_bytes ≡ held ++ rest → IsLineEndCut held
+end_cut held rest whole front = record { more = rest; whole = sym front; short = short held rest whole front }
+  where
+    short : (xs ys : List ℕ) → ((after : List ℕ) → ¬ (xs ≡ crlf_bytes ++ after)) → crlf_bytes ≡ xs ++ ys → length xs < 2
+    short [] ys other e = omega arith
+    short (a ∷ []) ys other e = omega arith
+    short (a ∷ b ∷ xs) ys other e =
+        let first : a ≡ 13 = cc in
+        let second : b ≡ 10 = cc in
+        absurd (other xs (λ i. first i ∷ second i ∷ xs))
+
 -- what ends a run is there, and stands in front whatever follows
 pub stops_some : (test : ℕ → Bool) (bytes : List ℕ) → Stops test bytes → 0 < length bytes
 stops_some test [] stops = absurd stops
@@ -287,6 +317,17 @@ unfinished_still MayBecome bytes seen before (inr none) = record {
   where
     no_line_behind : (xs ys : List ℕ) → list_any is_line_feed xs ≡ false → list_any is_line_feed ys ≡ false → list_any is_line_feed (xs ++ ys) ≡ false
     no_line_behind xs ys none_there none_behind = grind (arith, list_any-append, none_there, none_behind)
+
+-- what is held was seen, and what was read since
+pub seen_read : (held : List ℕ) (left now : Option (List ℕ)) (bytes : List ℕ) → Consumes left now bytes → IfSeen (prepend_known held left) now (λ s. ⊤)
+seen_read held None now bytes given = tt
+seen_read held (Some xs) None bytes given = tt
+seen_read held (Some xs) (Some ys) bytes given =
+    (held ++ bytes, ap (λ (l : List ℕ). held ++ l) given ∙ sym (append_assoc held bytes ys), tt)
+
+-- what holds of an error
+pub on_err_at : {A E : Type 0} (r : Result A E) (e : E) (P : Type 0) → r ≡ Err e → OnErr r P → P
+on_err_at {A = A} {E = E} r e P same holds = subst (λ (x : Result A E). OnErr x P) same holds
 
 -- what is held was seen, and was only read since, where a read failed
 pub seen_still : (a : Option (List ℕ)) (before after : List ℕ) (left now : Option (List ℕ)) (P : List ℕ → Type 0) → Keeps a (prepend_known before left)

@@ -1,5 +1,5 @@
 -- The line before a chunk, piece by piece.
-use Rattle.std.proofs.Common.{◌≡◌, ℕ, ◌+◌, ◌<◌, ◌≤◌, eq-eqb, true≢false, List, [], ◌∷◌, ◌++◌, length, take, drop, Option, None, Some, IfSome, refl, sym, ap}
+use Rattle.std.proofs.Common.{◌≡◌, ℕ, ◌+◌, ◌-◌, ◌<◌, ◌≤◌, true, eq-eqb, true≢false, List, [], ◌∷◌, ◌++◌, length, take, drop, Option, None, Some, IfSome, refl, sym, ap}
 use Rattle.std.proofs.Common.{◌∙◌, subst, arith, append_assoc, length-append, length-take-le, length-drop, take-append-drop, append-nil}
 use Rattle.std.specs.Char.{is_ascii_hexdigit}
 use Rattle.std.specs.Io.KnownBytes.{Consumes, Keeps, prepend_known}
@@ -7,22 +7,23 @@ use Rattle.std.specs.List.{prefix_len}
 use Rattle.std.specs.Str.Parse.{digits_value}
 use Rattle.std.proofs.KnownBytes.{Consumes-trans, Consumes-nil}
 use Rattle.std.proofs.lemmas.Bool.{ne_eqb}
-use Rattle.std.proofs.lemmas.List.Elements.{All-nil}
+use Rattle.std.proofs.lemmas.List.Elements.{All-nil, All-cons}
 use Rattle.httparse.specs.Ascii.{crlf_bytes}
 use Rattle.httparse.specs.Grammar.{AllPass, ChunkLine, IsChunkLine, chunk_size, ReadsChunkLine, HasNoChunkLine, NeverHasChunkLine, print_chunk_line}
-use Rattle.httparse.specs.Grammar.{print_extension, IsExtension, is_ows, is_extension_byte}
+use Rattle.httparse.specs.Grammar.{print_extension, IsExtension, is_ows, is_extension_byte, MayBecomeChunkLine}
 use Rattle.httparse.specs.Pieces.{Stops}
 use Rattle.httparse.specs.Spans.{IsChunkLineAt}
 use Rattle.httparse.proofs.ChunkLemmas.{chunk_pieces, chunk_line_unique}
 use Rattle.httparse.proofs.RunLemmas.{run_unique, run_unstopped, Stops-append}
 use Rattle.sw_http.specs.ChunkSteps.{HasNoLine, HasDigits, is_semicolon, EndsExtension, TakesExtension, HasNoExtension, IsExtensionCut, print_tail, TakesTail}
 use Rattle.sw_http.specs.ChunkSteps.{HasNoTail, TakesLine, HasNoLineWithin}
-use Rattle.sw_http.specs.Input.{IfSeen, IsShort, TakesRun, HasNoRun, HasNoLineEnd}
+use Rattle.sw_http.specs.ChunkSteps.{IsDigitsCut, IsTailCut, IsLineCut}
+use Rattle.sw_http.specs.Input.{IfSeen, IsShort, IsLineEndCut, IsAllRun, TakesRun, HasNoRun, HasNoLineEnd}
 use Rattle.sw_http.specs.declared.chunk_line.SizeLine.{SizeLine}
 use Rattle.sw_http.proofs.ListLemmas.{same_rest}
 use Rattle.sw_message.proofs.ListLemmas.{take_every}
 use Rattle.sw_http.proofs.InputLemmas.{if_behind, if_kept, if_some_map, longer_run, no_end_short, none_within, run_passes, run_stops, run_within, seen_begins}
-use Rattle.sw_http.proofs.InputLemmas.{seen_behind, seen_kept, seen_map, stops_front, stops_some}
+use Rattle.sw_http.proofs.InputLemmas.{no_run_all, seen_behind, seen_kept, seen_map, stops_front, stops_some}
 
 -- ---- the digits
 
@@ -67,6 +68,15 @@ no_line_ended bytes n is all = record {
       let passes = subst (λ (k : ℕ). AllPass is_ascii_hexdigit (take k bytes)) (sym is ∙ whole) (run_passes is_ascii_hexdigit bytes) in
       run_unstopped is_ascii_hexdigit l.digits _ (subst (AllPass is_ascii_hexdigit) (take_every bytes ∙ e ∙ line_split l rest) passes)
       (digits_end l rest valid);
+}
+
+pub digits_cut : (bytes : List ℕ) (n : ℕ) → n ≡ prefix_len is_ascii_hexdigit bytes → length bytes ≤ n → n ≤ 16 → IsDigitsCut bytes
+digits_cut bytes n is all few = record {
+  digits =
+      let whole : n ≡ length bytes = omega (arith, run_within is_ascii_hexdigit bytes n is) in
+      subst (AllPass is_ascii_hexdigit) (take_every bytes)
+      (subst (λ (k : ℕ). AllPass is_ascii_hexdigit (take k bytes)) (sym is ∙ whole) (run_passes is_ascii_hexdigit bytes));
+  few = omega (arith, all, few);
 }
 
 pub has_digits : (bytes : List ℕ) (n : ℕ) → n ≡ prefix_len is_ascii_hexdigit bytes → n ≤ 16 → 0 < n → n < length bytes → HasDigits bytes n
@@ -171,9 +181,10 @@ tail_split pad e rest = simp append_assoc
 pad_within : (pad : List ℕ) (e : Option (List ℕ)) (room : ℕ) → length (print_tail pad e) ≤ room → length pad ≤ room
 pad_within pad e room fits = omega (arith, fits, length-append pad (print_extension e ++ crlf_bytes))
 
-extension_within : (pad : List ℕ) (e : Option (List ℕ)) (room : ℕ) → length (print_tail pad e) ≤ room → length (print_extension e) ≤ room
-extension_within pad e room fits =
-    omega (arith, fits, length-append pad (print_extension e ++ crlf_bytes), length-append (print_extension e) crlf_bytes)
+extension_within : (pad : List ℕ) (e : Option (List ℕ)) (room left : ℕ) → length pad + left ≡ room → length (print_tail pad e) ≤ room →
+    length (print_extension e) ≤ left
+extension_within pad e room left left_is fits =
+    omega (arith, fits, left_is, length-append pad (print_extension e ++ crlf_bytes), length-append (print_extension e) crlf_bytes)
 
 -- no run of blanks is followed by a byte
 pub no_tail_blanks : (room : ℕ) (bytes : List ℕ) → HasNoRun is_ows room bytes → HasNoTail room bytes
@@ -183,11 +194,14 @@ no_tail_blanks room bytes none_there = record {
 }
 
 -- these are the blanks, and what follows is no extension
-pub no_tail_extension : (room : ℕ) (pad bytes : List ℕ) → AllPass is_ows pad → Stops is_ows bytes → HasNoExtension room bytes → HasNoTail room (pad ++ bytes)
-no_tail_extension room pad bytes blanks stops none_there = record {
+pub no_tail_extension : (room left : ℕ) (pad bytes : List ℕ) → length pad + left ≡ room → AllPass is_ows pad → Stops is_ows bytes → HasNoExtension left bytes
+    → HasNoTail room (pad ++ bytes)
+no_tail_extension room left pad bytes left_is blanks stops none_there = record {
   none = λ tail rest is fits same.
       let cut = run_unique is_ows pad tail.0 bytes _ blanks is.0 stops (blanks_end tail.1 rest) (same ∙ tail_split tail.0 tail.1 rest) in
-      none_there.none tail.1 rest (is.1, extension_within tail.0 tail.1 room fits) (cut.1 ∙ sym (append_assoc (print_extension tail.1) crlf_bytes rest));
+      let left_there : length tail.0 + left ≡ room = omega (arith, left_is, ap length cut.0) in
+      none_there.none tail.1 rest (is.1, extension_within tail.0 tail.1 room left left_there fits)
+      (cut.1 ∙ sym (append_assoc (print_extension tail.1) crlf_bytes rest));
 }
 
 -- these are the blanks and the extension, and no line end follows
@@ -261,15 +275,20 @@ pub tail_no_blanks : (a : Option (List ℕ)) (room : ℕ) → IfSome a (HasNoRun
 tail_no_blanks a room = if_some_map a (HasNoRun is_ows room) (HasNoTail room) (no_tail_blanks room)
 
 pub tail_no_extension : (a : Option (List ℕ)) (held : List ℕ) (left : Option (List ℕ)) (count room : ℕ) → TakesRun is_ows a (prepend_known held left) count →
-    Stops is_ows held
-    → IfSome (prepend_known held left) (HasNoExtension room) → IfSome a (HasNoTail room)
-tail_no_extension a held left count room run stops none_there = go a left run.taken none_there
+    count ≤ room → Stops is_ows held
+    → IfSome (prepend_known held left) (HasNoExtension (room - count)) → IfSome a (HasNoTail room)
+tail_no_extension a held left count room run few stops none_there = go a left run.taken none_there
   where
-    go : (x y : Option (List ℕ)) → Consumes x (prepend_known held y) run.run → IfSome (prepend_known held y) (HasNoExtension room) → IfSome x (HasNoTail room)
+    left_is : length run.run + (room - count) ≡ room
+    left_is = omega (arith, run.size, few)
+
+    go : (x y : Option (List ℕ)) → Consumes x (prepend_known held y) run.run → IfSome (prepend_known held y) (HasNoExtension (room - count))
+        → IfSome x (HasNoTail room)
     go None y taken holds = tt
     go (Some xs) None taken holds = absurd taken
     go (Some xs) (Some ys) taken holds =
-        subst (HasNoTail room) (sym taken) (no_tail_extension room run.run (held ++ ys) run.passes (Stops-append is_ows held ys stops) holds)
+        subst (HasNoTail room) (sym taken)
+        (no_tail_extension room (room - count) run.run (held ++ ys) left_is run.passes (Stops-append is_ows held ys stops) holds)
 
 pub tail_no_end : (a : Option (List ℕ)) (held mid : List ℕ) (left now : Option (List ℕ)) (count len room : ℕ) →
     TakesRun is_ows a (prepend_known held left) count → Stops is_ows held
@@ -307,26 +326,47 @@ tail_taken a b c d held count len run extension end = record {
 
 -- ---- a read failed in a line
 
-pub extension_cut : (a b left : Option (List ℕ)) (room : ℕ) → Consumes a b (59 ∷ []) → IfSeen b left (HasNoRun is_extension_byte room) →
+pub extension_cut : (a b left : Option (List ℕ)) (room : ℕ) → Consumes a b (59 ∷ []) → IfSeen b left (IsAllRun is_extension_byte room) →
     IfSeen a left (IsExtensionCut room)
-extension_cut a b left room semicolon none_there =
-    seen_behind a b left (59 ∷ []) (IsExtensionCut room) (HasNoRun is_extension_byte room) semicolon
-    (λ rest holds. record { text = rest; begins = refl; none = no_extension room rest holds }) none_there
+extension_cut a b left room semicolon all_there =
+    seen_behind a b left (59 ∷ []) (IsExtensionCut room) (IsAllRun is_extension_byte room) semicolon
+    (λ rest all. record { text = rest; begins = refl; all = all }) all_there
 
-pub tail_cut_blanks : (a left : Option (List ℕ)) (room : ℕ) → IfSeen a left (HasNoRun is_ows room) → IfSeen a left (HasNoTail room)
-tail_cut_blanks a left room = seen_map a left (HasNoRun is_ows room) (HasNoTail room) (no_tail_blanks room)
+pub tail_cut_blanks : (a left : Option (List ℕ)) (room : ℕ) → IfSeen a left (IsAllRun is_ows room) → IfSeen a left (IsTailCut room)
+tail_cut_blanks a left room = seen_map a left (IsAllRun is_ows room) (IsTailCut room) λ bytes all. record {
+  none = no_tail_blanks room bytes (no_run_all is_ows room bytes all);
+  pad = bytes;
+  extension = None;
+  are_blanks = all.passes;
+  is_extension = tt;
+  more = crlf_bytes;
+  whole = refl;
+  few = omega (arith, all.few);
+}
 
-pub tail_cut_extension : (a b left : Option (List ℕ)) (count room : ℕ) → TakesRun is_ows a b count → IfSeen b left (IsExtensionCut room) →
-    IfSeen a left (HasNoTail room)
-tail_cut_extension a b left count room run none_there =
-    seen_behind a b left run.run (HasNoTail room) (IsExtensionCut room) run.taken
-    (λ rest cut. no_tail_extension room run.run rest run.passes (subst (Stops is_ows) (sym cut.begins) refl) cut.none) none_there
+pub tail_cut_extension : (a b left : Option (List ℕ)) (count room : ℕ) → TakesRun is_ows a b count → count ≤ room →
+    IfSeen b left (IsExtensionCut (room - count)) → IfSeen a left (IsTailCut room)
+tail_cut_extension a b left count room run few none_there =
+    seen_behind a b left run.run (IsTailCut room) (IsExtensionCut (room - count)) run.taken
+    (λ rest cut.
+    let none = no_extension (room - count) cut.text (no_run_all is_extension_byte (room - count) cut.text cut.all) in
+    record {
+      none = no_tail_extension room (room - count) run.run rest (omega (arith, run.size, few)) run.passes
+          (subst (Stops is_ows) (sym cut.begins) refl) (subst (HasNoExtension (room - count)) (sym cut.begins) none);
+      pad = run.run;
+      extension = Some cut.text;
+      are_blanks = run.passes;
+      is_extension = cut.all.passes;
+      more = crlf_bytes;
+      whole = append_assoc run.run rest crlf_bytes ∙ ap (λ (l : List ℕ). run.run ++ (l ++ crlf_bytes)) cut.begins;
+      few = omega (arith, few, run.size, cut.all.few, length-append run.run rest, ap length cut.begins);
+    }) none_there
 
 pub tail_cut_end : (a : Option (List ℕ)) (held mid : List ℕ) (left behind now : Option (List ℕ)) (count len room : ℕ) →
-    TakesRun is_ows a (prepend_known held left) count
-    → Stops is_ows held → TakesExtension (prepend_known held left) (prepend_known mid behind) mid len → IfSeen (prepend_known mid behind) now (IsShort mid) →
-    IfSeen a now (HasNoTail room)
-tail_cut_end a held mid left behind now count len room run stops extension cut = go a left behind now run.taken extension.taken cut
+    TakesRun is_ows a (prepend_known held left) count → count ≤ room
+    → Stops is_ows held → TakesExtension (prepend_known held left) (prepend_known mid behind) mid len → len ≤ room - count + 1
+    → IfSeen (prepend_known mid behind) now (IsShort mid) → IfSeen a now (IsTailCut room)
+tail_cut_end a held mid left behind now count len room run few stops extension bound cut = go a left behind now run.taken extension.taken cut
   where
     some_held : (e : Option (List ℕ)) → EndsExtension e mid → 0 < length mid
     some_held None ends = stops_some is_semicolon mid ends
@@ -346,9 +386,32 @@ tail_cut_end a held mid left behind now count len room run stops extension cut =
         no_tail_end room run.run extension.extension s run.passes front extension.is_extension
         (subst (EndsExtension extension.extension) (sym begins.1) (ends_append extension.extension mid begins.0 extension.ends)) (no_end_short s short)
 
+    tail_cut : (s : List ℕ) → IsLineEndCut s → HasNoTail room (run.run ++ (print_extension extension.extension ++ s))
+        → IsTailCut room (run.run ++ (print_extension extension.extension ++ s))
+    tail_cut s end none = record {
+      none = none;
+      pad = run.run;
+      extension = extension.extension;
+      are_blanks = run.passes;
+      is_extension = extension.is_extension;
+      more = end.more;
+      whole = append_assoc run.run (print_extension extension.extension ++ s) end.more ∙ ap (λ (l : List ℕ). run.run ++ l)
+          (append_assoc (print_extension extension.extension) s end.more ∙ ap (λ (l : List ℕ). print_extension extension.extension ++ l) end.whole);
+      few = omega (
+        arith,
+        few,
+        bound,
+        run.size,
+        extension.len_is,
+        end.short,
+        length-append run.run (print_extension extension.extension ++ s),
+        length-append (print_extension extension.extension) s,
+      );
+    }
+
     go : (x y z w : Option (List ℕ)) → Consumes x (prepend_known held y) run.run →
         Consumes (prepend_known held y) (prepend_known mid z) (print_extension extension.extension)
-        → IfSeen (prepend_known mid z) w (IsShort mid) → IfSeen x w (HasNoTail room)
+        → IfSeen (prepend_known mid z) w (IsShort mid) → IfSeen x w (IsTailCut room)
     go None y z w taken taken_text holds = tt
     go (Some xs) None z w taken taken_text holds = absurd taken
     go (Some xs) (Some ys) None w taken taken_text holds = absurd taken_text
@@ -358,11 +421,8 @@ tail_cut_end a held mid left behind now count len room run stops extension cut =
       taken ∙ ap (λ (l : List ℕ). run.run ++ l) (taken_text ∙ ap (λ (l : List ℕ). print_extension extension.extension ++ l) holds.1
           ∙ sym (append_assoc (print_extension extension.extension) holds.0 ws)) ∙ sym
           (append_assoc run.run (print_extension extension.extension ++ holds.0) ws),
-      no_tail xs ys zs holds.0 ws taken_text holds.1 holds.2.0 holds.2.1,
+      tail_cut holds.0 holds.2.0 (no_tail xs ys zs holds.0 ws taken_text holds.1 holds.2.0.short holds.2.1),
     )
-
-pub line_cut_none : (a left : Option (List ℕ)) (room : ℕ) → IfSeen a left HasNoLine → IfSeen a left (HasNoLineWithin room)
-line_cut_none a left room = seen_map a left HasNoLine (HasNoLineWithin room) (none_within _ _ room)
 
 -- digits alone are no line
 no_line_digits : (room : ℕ) (bytes : List ℕ) → AllPass is_ascii_hexdigit bytes → HasNoLineWithin room bytes
@@ -371,9 +431,23 @@ no_line_digits room bytes all = record {
       (digits_end l rest valid);
 }
 
+-- digits may become a line
+digits_may : (bytes : List ℕ) → IsDigitsCut bytes → MayBecomeChunkLine bytes
+digits_may [] cut = (
+  48 ∷ crlf_bytes,
+  plain (48 ∷ []),
+  plain_reads (48 ∷ crlf_bytes) (48 ∷ []) (omega arith) (omega arith) (All-cons (λ b. is_ascii_hexdigit b ≡ true) 48 [] refl (All-nil _)) refl,
+)
+digits_may (b ∷ bytes) cut =
+    (crlf_bytes, plain (b ∷ bytes), plain_reads ((b ∷ bytes) ++ crlf_bytes) (b ∷ bytes) (omega arith) cut.few cut.digits refl)
+
+pub line_cut_digits : (a left : Option (List ℕ)) (room : ℕ) → IfSeen a left IsDigitsCut → IfSeen a left (IsLineCut room)
+line_cut_digits a left room = seen_map a left IsDigitsCut (IsLineCut room)
+    λ bytes cut. record { none = no_line_digits room bytes cut.digits; may = digits_may bytes cut; few = omega (arith, cut.few) }
+
 pub line_cut_tail : (a : Option (List ℕ)) (held after : List ℕ) (left now : Option (List ℕ)) (n room : ℕ) → Keeps a (prepend_known held left) → HasDigits held n
-    → after ≡ drop n held → IfSeen (prepend_known after left) now (HasNoTail room) → IfSeen a now (HasNoLineWithin room)
-line_cut_tail a held after left now n room kept digits after_is none_there = seen_kept a _ now (HasNoLineWithin room) kept (go left now none_there)
+    → after ≡ drop n held → IfSeen (prepend_known after left) now (IsTailCut room) → IfSeen a now (IsLineCut room)
+line_cut_tail a held after left now n room kept digits after_is none_there = seen_kept a _ now (IsLineCut room) kept (go left now none_there)
   where
     whole : take n held ++ after ≡ held
     whole = ap (λ (l : List ℕ). take n held ++ l) after_is ∙ take-append-drop n held
@@ -386,12 +460,33 @@ line_cut_tail a held after left now n room kept digits after_is none_there = see
     no_line xs (b ∷ s) ys e none =
         no_line_tail room n held (b ∷ s) digits none (stops_front is_ascii_hexdigit (b ∷ s) ys (omega arith) (subst (Stops is_ascii_hexdigit) e (stops xs)))
 
-    go : (x y : Option (List ℕ)) → IfSeen (prepend_known after x) y (HasNoTail room) → IfSeen (prepend_known held x) y (HasNoLineWithin room)
+    line_cut : (s : List ℕ) → IsTailCut room s → HasNoLineWithin room (take n held ++ s) → IsLineCut room (take n held ++ s)
+    line_cut s cut none =
+        let size : length (take n held) ≡ n = length-take-le n held digits.within in
+        let line : ChunkLine = record { digits = take n held; pad = cut.pad; extension = cut.extension } in
+        record {
+          none = none;
+          may = (
+            cut.more,
+            line,
+            (
+              record {
+                digits = (omega (arith, size, digits.some), omega (arith, size, digits.few), digits.digits);
+                pad = cut.are_blanks;
+                extension = cut.is_extension;
+              },
+              append_assoc (take n held) s cut.more ∙ ap (λ (l : List ℕ). take n held ++ l) cut.whole ∙ sym (line_text line) ∙ sym (append-nil _),
+            ),
+          );
+          few = omega (arith, size, digits.few, cut.few, length-append (take n held) s);
+        }
+
+    go : (x y : Option (List ℕ)) → IfSeen (prepend_known after x) y (IsTailCut room) → IfSeen (prepend_known held x) y (IsLineCut room)
     go None y holds = tt
     go (Some xs) None holds = tt
     go (Some xs) (Some ys) holds = (
       take n held ++ holds.0,
       ap (λ (l : List ℕ). l ++ xs) (sym whole) ∙ append_assoc (take n held) after xs ∙ ap (λ (l : List ℕ). take n held ++ l) holds.1 ∙ sym
           (append_assoc (take n held) holds.0 ys),
-      no_line xs holds.0 ys holds.1 holds.2,
+      line_cut holds.0 holds.2 (no_line xs holds.0 ys holds.1 holds.2.none),
     )

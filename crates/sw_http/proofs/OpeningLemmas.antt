@@ -1,9 +1,9 @@
 -- The front of a request: what was skipped and the head, and why there is none.
 use Rattle.std.proofs.Common.{◌≡◌, ℕ, ◌-◌, ◌≤◌, List, [], ◌∷◌, ◌++◌, length, take, drop, map, Option, None, Some, IfSome, refl, sym, ap, ◌∙◌, subst, arith}
-use Rattle.std.proofs.Common.{append-nil, length-append, lit<}
+use Rattle.std.proofs.Common.{inl, inr, append-nil, length-append, lit<}
 use Rattle.std.specs.List.{before_first, after_first}
 use Rattle.std.specs.Io.KnownBytes.{Consumes, Keeps, prepend_known}
-use Rattle.std.proofs.KnownBytes.{Consumes-trans, Consumes-kept}
+use Rattle.std.proofs.KnownBytes.{Consumes-trans, Consumes-kept, Keeps-refl}
 use Rattle.httparse.specs.Grammar.{RequestHead, print_request, AllPass}
 use Rattle.httparse.specs.Grammar as grammar
 use Rattle.httparse.specs.Pieces.{Stops, is_newline}
@@ -11,16 +11,16 @@ use Rattle.httparse.specs.Spans.{AreFieldsAt, span_bytes, header_bytes, name_and
 use Rattle.httparse.specs.declared.spans.HeaderSpan.{HeaderSpan}
 use Rattle.httparse.specs.declared.spans.RequestSpans.{RequestSpans}
 use Rattle.httparse.proofs.RunLemmas.{run_unique, run_unstopped, Stops-append}
-use Rattle.sw_http.specs.Continue.{AwaitsHead, Skips}
+use Rattle.sw_http.specs.Continue.{AwaitsHead, MayHaveHead, Skips}
 use Rattle.sw_message.specs.Head.{HasNoHead, IsHeadAt, field_at}
-use Rattle.sw_http.specs.Opening.{IsHeadless, TakesHead, Opens, IsHeadCut}
+use Rattle.sw_http.specs.Opening.{IsHeadless, TakesHead, Opens, IsHeadCut, MayBeginHead}
 use Rattle.sw_http.specs.Input.{IfSeen, TakesRun, TakesFew, IsAllRun, IsLongRun}
 use Rattle.sw_http.specs.Request.{IsSkipped}
 use Rattle.sw_message.specs.Head.{field_of, is_question_mark}
 use Rattle.sw_message.specs.declared.fields.Field.{Field}
 use Rattle.sw_message.specs.declared.parts.OpenRequest.{OpenRequest}
 use Rattle.sw_message.proofs.HeadLemmas.{head_stops}
-use Rattle.sw_http.proofs.InputLemmas.{kept_consumes, text_taken, if_some_map, longer_run, seen_behind, seen_map, unfinished_none}
+use Rattle.sw_http.proofs.InputLemmas.{kept_consumes, text_taken, if_some_map, longer_run, seen_behind, seen_map, seen_still, unfinished_none}
 
 -- ---- the head that was found
 
@@ -134,6 +134,7 @@ opening_cut_run a left = seen_map a left (IsAllRun is_newline 65536) AwaitsHead 
   are_skipped = record { newlines = all.passes; few = all.few };
   begun = [];
   whole = sym (append-nil bytes);
+  all_skipped = inl refl;
   short = lit< tt;
   unfinished = unfinished_none _;
 }
@@ -150,6 +151,38 @@ opening_cut_head a b left count run few cut =
       are_skipped = record { newlines = run.passes; few = omega (arith, run.size, few) };
       begun = rest;
       whole = refl;
+      all_skipped = inr head.begins;
       short = head.short;
       unfinished = head.unfinished;
     }) cut
+
+-- ---- memory was wanted
+
+pub wanted_head : (a : Option (List ℕ)) (held : List ℕ) (left : Option (List ℕ)) (headers : List HeaderSpan) (spans : RequestSpans)
+    → Keeps a (prepend_known held left) → IsHeadAt held headers spans → IfSeen a left MayBeginHead
+wanted_head a held left headers spans kept found =
+    seen_still a held held left left MayBeginHead kept refl (Keeps-refl left) (inr (found.head, drop spans.len held, found.is_head, found.at.reads.1))
+
+pub wanted_opening : (a b left : Option (List ℕ)) (count : ℕ) → TakesRun is_newline a b count → count ≤ 65536
+    → IfSeen b left MayBeginHead → IfSeen a left MayHaveHead
+wanted_opening a b left count run few wanted =
+    seen_behind a b left run.run MayHaveHead MayBeginHead run.taken go wanted
+  where
+    are_skipped : IsSkipped run.run
+    are_skipped = record { newlines = run.passes; few = omega (arith, run.size, few) }
+
+    go : (rest : List ℕ) → MayBeginHead rest → MayHaveHead (run.run ++ rest)
+    go rest (inl head) = inl (record {
+      none = (headless_behind run.run rest run.passes head.begins head.none).none;
+      skipped = run.run;
+      are_skipped = are_skipped;
+      begun = rest;
+      whole = refl;
+      all_skipped = inr head.begins;
+      short = head.short;
+      unfinished = head.unfinished;
+    })
+    go rest (inr (h, after, is_head, stands)) = inr (
+      h,
+      record { skipped = run.run; are_skipped = are_skipped; is_head = is_head; rest = after; whole = ap (λ (l : List ℕ). run.run ++ l) stands },
+    )

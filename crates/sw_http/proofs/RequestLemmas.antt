@@ -8,11 +8,11 @@ use Rattle.httparse.specs.Pieces.{is_newline}
 use Rattle.httparse.proofs.RunLemmas.{run_unstopped}
 use Rattle.sw_outside.specs.Taken.{AppendsPart}
 use Rattle.sw_http.specs.Body.{IsFramedBody, print_body}
-use Rattle.sw_http.specs.ChunkSteps.{TakesBody, HasNoBody}
-use Rattle.sw_http.specs.Continue.{Takes, AwaitsHead, HasHead, BeginsNone, FindsNoRequest}
+use Rattle.sw_http.specs.ChunkSteps.{TakesBody, HasNoBody, MayBecomeBody, IsBodyCut}
+use Rattle.sw_http.specs.Continue.{Takes, AwaitsHead, AwaitsBody, MayHaveHead, HasHead, BeginsNone, FindsNoRequest}
 use Rattle.sw_http.specs.Continue.{IsCutShort, IsStopped, IsToldOnce, IsToldPart, asks_continue, continue_text}
 use Rattle.sw_http.specs.Continue.{NeedsMore, continue_of, puts_after}
-use Rattle.std.specs.Prelude.{codes, is_some}
+use Rattle.std.specs.Prelude.{codes, ⊤}
 use Rattle.std.proofs.lemmas.Bool.{cond-true, cond-false}
 use Rattle.httparse.specs.Ascii.{crlf_bytes}
 use Rattle.sw_message.specs.Framing.{framing_of, is_framed}
@@ -159,6 +159,10 @@ refuses_body a b t now open_ room opens written none_there = record {
 
 -- ---- a read failed
 
+pub fault_is_wanting : (e : ReadError) → fault_of e ≡ faults.NoMemory → e ≡ errors.NoMemory
+fault_is_wanting errors.NoMemory same = refl
+fault_is_wanting errors.Failed same = absurd (cc)
+
 pub fault_is_failed : (e : ReadError) → fault_of e ≡ faults.ReadFault → e ≡ errors.Failed
 fault_is_failed errors.Failed same = refl
 fault_is_failed errors.NoMemory same = absurd (cc)
@@ -169,27 +173,33 @@ cut_opening a left t calls = seen_map a left AwaitsHead (IsCutShort t t calls ca
   told = inl (awaits, Appends-nil t, refl);
 }
 
+awaits_body : (a b : Option (List ℕ)) (open_ : OpenRequest) (room : ℕ) (opens : Opens a b open_ room) (rest : List ℕ)
+    → MayBecomeBody (framing_of open_.fields) room rest → AwaitsBody ((opens.skipped ++ print_request opens.head) ++ rest) opens.head
+awaits_body a b open_ room opens rest may = record {
+  skipped = opens.skipped;
+  are_skipped = opens.are_skipped;
+  is_head = opens.is_head;
+  begun = rest;
+  whole = append_assoc opens.skipped (print_request opens.head) rest;
+  room = room;
+  room_is = opens.room_is;
+  may = subst (λ (l : List Field). MayBecomeBody (framing_of l) room rest) opens.is_open.fields may;
+}
+
 pub cut_body : (a b left t now : Option (List ℕ)) (calls calls_now : ℕ) (open_ : OpenRequest) (room : ℕ) → Opens a b open_ room →
     Appends t now (continue_text open_.fields)
-    → calls_now ≡ puts_after open_.fields calls → is_some (framing_of open_.fields) ≡ true
-    → IfSeen b left (HasNoBody (framing_of open_.fields) room) → IfSeen a left (IsCutShort t now calls calls_now)
-cut_body a b left t now calls calls_now open_ room opens written called framed cut =
-    seen_behind a b left (opens.skipped ++ print_request opens.head) (IsCutShort t now calls calls_now) (HasNoBody (framing_of open_.fields) room) opens.taken
+    → calls_now ≡ puts_after open_.fields calls
+    → IfSeen b left (IsBodyCut (framing_of open_.fields) room) → IfSeen a left (IsCutShort t now calls calls_now)
+cut_body a b left t now calls calls_now open_ room opens written called cut =
+    seen_behind a b left (opens.skipped ++ print_request opens.head) (IsCutShort t now calls calls_now) (IsBodyCut (framing_of open_.fields) room) opens.taken
     (λ rest holds. record {
       needed = λ p after reads.
           let same = start_same opens.skipped p.skipped opens.head p.head rest _ opens.are_skipped reads.parts.skipped opens.is_head reads.parts.head
           (sym (append_assoc opens.skipped (print_request opens.head) rest) ∙ reads.whole ∙ text_split p after) in
-          no_request_behind a b open_ room opens rest holds p after reads.parts same.1 same.0 same.2;
+          no_request_behind a b open_ room opens rest holds.none p after reads.parts same.1 same.0 same.2;
       told = inr (
         opens.head,
-        record {
-          skipped = opens.skipped;
-          are_skipped = opens.are_skipped;
-          is_head = opens.is_head;
-          rest = rest;
-          whole = append_assoc opens.skipped (print_request opens.head) rest;
-        },
-        ap (λ (l : List Field). is_some (framing_of l)) (sym opens.is_open.fields) ∙ framed,
+        awaits_body a b open_ room opens rest holds.may,
         told a b t now open_ room opens written,
         called ∙ ap (λ (l : List Field). puts_after l calls) opens.is_open.fields,
       );
@@ -204,27 +214,32 @@ needs_opening a left = seen_map a left AwaitsHead NeedsMore λ bytes awaits. rec
 }
 
 pub needs_body : (a b left : Option (List ℕ)) (open_ : OpenRequest) (room : ℕ) → Opens a b open_ room
-    → IfSeen b left (λ (seen : List ℕ). (is_some (framing_of open_.fields) ≡ true) × HasNoBody (framing_of open_.fields) room seen) → IfSeen a left NeedsMore
+    → IfSeen b left (IsBodyCut (framing_of open_.fields) room) → IfSeen a left NeedsMore
 needs_body a b left open_ room opens cut =
-    seen_behind a b left (opens.skipped ++ print_request opens.head) NeedsMore
-    (λ (seen : List ℕ). (is_some (framing_of open_.fields) ≡ true) × HasNoBody (framing_of open_.fields) room seen) opens.taken
+    seen_behind a b left (opens.skipped ++ print_request opens.head) NeedsMore (IsBodyCut (framing_of open_.fields) room) opens.taken
     (λ rest holds. record {
       none = λ p after reads.
           let same = start_same opens.skipped p.skipped opens.head p.head rest _ opens.are_skipped reads.parts.skipped opens.is_head reads.parts.head
           (sym (append_assoc opens.skipped (print_request opens.head) rest) ∙ reads.whole ∙ text_split p after) in
-          no_request_behind a b open_ room opens rest holds.1 p after reads.parts same.1 same.0 same.2;
-      may = inr (
-        opens.head,
-        record {
-          skipped = opens.skipped;
-          are_skipped = opens.are_skipped;
-          is_head = opens.is_head;
-          rest = rest;
-          whole = append_assoc opens.skipped (print_request opens.head) rest;
-        },
-        ap (λ (l : List Field). is_some (framing_of l)) (sym opens.is_open.fields) ∙ holds.0,
-      );
+          no_request_behind a b open_ room opens rest holds.none p after reads.parts same.1 same.0 same.2;
+      may = inr (opens.head, awaits_body a b open_ room opens rest holds.may);
     }) cut
+
+-- ---- memory was wanted behind the head
+
+pub wanted_body : (a b left : Option (List ℕ)) (open_ : OpenRequest) (room : ℕ) → Opens a b open_ room → IfSeen b left (λ s. ⊤) → IfSeen a left MayHaveHead
+wanted_body a b left open_ room opens seen =
+    seen_behind a b left (opens.skipped ++ print_request opens.head) MayHaveHead (λ (s : List ℕ). ⊤) opens.taken
+    (λ rest _. inr (
+      opens.head,
+      record {
+        skipped = opens.skipped;
+        are_skipped = opens.are_skipped;
+        is_head = opens.is_head;
+        rest = rest;
+        whole = append_assoc opens.skipped (print_request opens.head) rest;
+      },
+    )) seen
 
 -- ---- the client is told
 

@@ -8,9 +8,8 @@ use Rattle.httparse.specs.Grammar.{LineEnd, Field, print_section, HasNoSection}
 use Rattle.httparse.specs.Spans.{IsSectionAt, IsSectionWithin, SectionOverflows, header_bytes, name_and_value}
 use Rattle.httparse.specs.declared.spans.HeaderSpan.{HeaderSpan}
 use Rattle.httparse.proofs.GrammarLemmas.{section_unique, ReadsSection-append}
-use Rattle.sw_http.specs.ChunkSteps.{HasNoTrailer, IsTrailerCut, IsTrailerAt, TakesTrailer, HasNoTrailerWithin}
-use Rattle.sw_http.specs.Input.{IfSeen}
-use Rattle.sw_http.proofs.InputLemmas.{kept_consumes, text_taken, if_kept, if_always, if_some_map, none_within, seen_map}
+use Rattle.sw_http.specs.ChunkSteps.{HasNoTrailer, IsTrailerAt, TakesTrailer, HasNoTrailerWithin}
+use Rattle.sw_http.proofs.InputLemmas.{kept_consumes, text_taken, if_kept, if_always, if_some_map, none_within}
 use Rattle.sw_message.proofs.TextLemmas.{section_ends, no_new_text, short_text}
 
 few_fields : (bytes : List ℕ) (headers : List HeaderSpan) (len count : ℕ) (fields : List Field) (last : LineEnd) →
@@ -104,6 +103,3 @@ trailer_over a held left len room kept at many =
 
 pub trailer_none : (a : Option (List ℕ)) (room : ℕ) → IfSome a HasNoTrailer → IfSome a (HasNoTrailerWithin room)
 trailer_none a room = if_some_map a HasNoTrailer (HasNoTrailerWithin room) (none_within _ _ room)
-
-pub trailer_cut : (a left : Option (List ℕ)) (room : ℕ) → IfSeen a left IsTrailerCut → IfSeen a left (HasNoTrailerWithin room)
-trailer_cut a left room = seen_map a left IsTrailerCut (HasNoTrailerWithin room) (λ bytes cut. none_within _ _ room bytes cut.none)

@@ -1,19 +1,22 @@
 -- What the reader's own steps take of a chunked body. (This project's own.)
-use Rattle.std.specs.Prelude.{◌≡◌, ℕ, ◌+◌, ◌<◌, ◌≤◌, Bool, List, ◌∷◌, ◌++◌, length, take, drop, All, Option, None, Some, IfSome, ◌==◌}
+use Rattle.std.specs.Prelude.{◌≡◌, ℕ, ◌+◌, ◌<◌, ◌≤◌, ⊤, Bool, List, ◌∷◌, ◌++◌, length, take, drop, All, Option, None, Some, IfSome, ◌==◌, ◌⊎◌}
 use Rattle.std.specs.List.{flat_map}
 use Rattle.std.specs.Char.{is_ascii_hexdigit}
 use Rattle.std.specs.Io.KnownBytes.{Consumes}
 use Rattle.httparse.specs.Ascii.{crlf_bytes, semicolon}
 use Rattle.httparse.specs.Grammar.{AllPass, ChunkLine, IsChunkLine, chunk_size, print_chunk_line, print_extension, IsExtension, is_ows, is_extension_byte}
+use Rattle.httparse.specs.Grammar.{MayBecomeChunkLine}
 use Rattle.httparse.specs.Grammar.{Field, LineEnd, MayBecomeSection, print_section}
 use Rattle.httparse.specs.Pieces.{Stops}
 use Rattle.sw_http.specs.Body.{BodyText, IsFramedBody, print_body, content_of, body_of, extended, IsWithinLimit}
 use Rattle.sw_http.specs.Chunked.{Chunk, IsChunk, print_chunk, chunk_bytes, ChunkedText, IsChunked, print_chunked, IsLast, IsTrailer}
 use Rattle.sw_http.specs.Fronts.{HasNone, HasNoneWithin, IsUnfinished}
+use Rattle.sw_http.specs.Input.{IsAllRun}
 use Rattle.sw_http.specs.declared.chunk_line.SizeLine.{SizeLine}
 use Rattle.sw_http.specs.declared.chunk.Step.{Step}
 use Rattle.sw_http.specs.declared.chunk.Step.TheVariants.{More, Last, Bad}
 use Rattle.sw_message.specs.declared.framing.Framing.{Framing}
+use Rattle.sw_message.specs.declared.framing.Framing.TheVariants.{Unframed, Length, Chunked}
 use Rattle.sw_message.specs.declared.request.Body.{Body}
 
 -- ---- the line that tells a chunk's size
@@ -21,6 +24,11 @@ use Rattle.sw_message.specs.declared.request.Body.{Body}
 -- no chunk line stands in front of bytes
 abbrev pub HasNoLine : List ℕ → Type 0
 HasNoLine = HasNone IsChunkLine print_chunk_line
+
+-- bytes are the first digits of a chunk line, no more than it may have, or none
+pub record IsDigitsCut (bytes : List ℕ) : Type 0 where
+  pub digits : AllPass is_ascii_hexdigit bytes
+  pub few : length bytes ≤ 16
 
 -- n bytes in front are the digits of a chunk line, if there is one
 pub record HasDigits (bytes : List ℕ) (n : ℕ) : Type 0 where
@@ -51,11 +59,11 @@ abbrev pub HasNoExtension : ℕ → List ℕ → Type 0
 HasNoExtension room =
     HasNone (λ extension. IsExtension extension × (length (print_extension extension) ≤ room)) (λ extension. print_extension extension ++ crlf_bytes)
 
--- bytes begin with a semicolon, and with no whole extension of at most room bytes
+-- bytes are a semicolon and the first of an extension, no more than room of them
 pub record IsExtensionCut (room : ℕ) (bytes : List ℕ) : Type 0 where
   pub text : List ℕ
   pub begins : bytes ≡ semicolon ∷ text
-  pub none : HasNoExtension room bytes
+  pub all : IsAllRun is_extension_byte room text
 
 -- what stands behind the digits of a chunk line: blanks, an extension, the line end
 abbrev pub print_tail : List ℕ → Option (List ℕ) → List ℕ
@@ -75,6 +83,17 @@ abbrev pub HasNoTail : ℕ → List ℕ → Type 0
 HasNoTail =
     HasNoneWithin {A = List ℕ × Option (List ℕ)} (λ tail. AllPass is_ows tail.0 × IsExtension tail.1) (λ tail. print_tail tail.0 tail.1)
 
+-- no such rest stands in front of bytes, and more bytes can still make one, while no more than room were seen and what ends them
+pub record IsTailCut (room : ℕ) (bytes : List ℕ) : Type 0 where
+  pub none : HasNoTail room bytes
+  pub pad : List ℕ
+  pub extension : Option (List ℕ)
+  pub are_blanks : AllPass is_ows pad
+  pub is_extension : IsExtension extension
+  pub more : List ℕ
+  pub whole : bytes ++ more ≡ print_tail pad extension
+  pub few : length bytes ≤ room + 2
+
 -- a chunk line of this size and length was taken off the input
 pub record TakesLine (before after : Option (List ℕ)) (size_line : SizeLine) : Type 0 where
   pub line : ChunkLine
@@ -86,6 +105,12 @@ pub record TakesLine (before after : Option (List ℕ)) (size_line : SizeLine) :
 -- no chunk line of at most room bytes stands in front of bytes
 abbrev pub HasNoLineWithin : ℕ → List ℕ → Type 0
 HasNoLineWithin = HasNoneWithin IsChunkLine print_chunk_line
+
+-- no chunk line stands in front of bytes, and more bytes can still make one, while no more than room were seen, its digits and what ends it
+pub record IsLineCut (room : ℕ) (bytes : List ℕ) : Type 0 where
+  pub none : HasNoLineWithin room bytes
+  pub may : MayBecomeChunkLine bytes
+  pub few : length bytes ≤ room + 18
 
 -- ---- the bytes of a body
 
@@ -107,6 +132,26 @@ pub record TakesData (before after : Option (List ℕ)) (body body_now : Body) (
 abbrev pub HasNoData : ℕ → List ℕ → Type 0
 HasNoData len = HasNone (λ content. length content ≡ len) (λ content. content ++ crlf_bytes)
 
+-- they are not all there, and more bytes can still make them
+pub record IsDataCut (len : ℕ) (bytes : List ℕ) : Type 0 where
+  pub none : HasNoData len bytes
+  pub content : List ℕ
+  pub size : length content ≡ len
+  pub more : List ℕ
+  pub whole : bytes ++ more ≡ content ++ crlf_bytes
+
+-- the same behind the line of a chunk that has room
+pub record IsSizedCut (room : ℕ) (size_line : SizeLine) (bytes : List ℕ) : Type 0 where
+  pub fits : size_line.len + size_line.size + 2 ≤ room
+  pub cut : IsDataCut size_line.size bytes
+
+-- more bytes can make a chunk of bytes
+pub record MayBecomeChunk (bytes : List ℕ) : Type 0 where
+  pub chunk : Chunk
+  pub is_chunk : IsChunk chunk
+  pub more : List ℕ
+  pub whole : bytes ++ more ≡ print_chunk chunk
+
 -- a chunk of len bytes with its line was taken off the input, and the body now has its bytes too
 pub record TakesChunk (before after : Option (List ℕ)) (body body_now : Body) (len : ℕ) : Type 0 where
   pub chunk : Chunk
@@ -125,6 +170,12 @@ pub record TakesLast (before after : Option (List ℕ)) (len : ℕ) : Type 0 whe
 -- no text of a chunked body of at most room bytes stands in front of bytes
 abbrev pub HasNoChunked : ℕ → List ℕ → Type 0
 HasNoChunked = HasNoneWithin IsChunked print_chunked
+
+-- none does, and more bytes can still make a chunk or the line of size 0
+pub record IsChunkCut (room : ℕ) (bytes : List ℕ) : Type 0 where
+  pub none : HasNoChunked room bytes
+  pub may : MayBecomeChunkLine bytes ⊎ MayBecomeChunk bytes
+  pub few : length bytes ≤ room + 18
 
 -- what was taken in one step through the chunks
 abbrev pub IsStep : ℕ → Option (List ℕ) → Option (List ℕ) → Body → Body → Step → Type 0
@@ -154,7 +205,7 @@ pub record TakesChunked (before after : Option (List ℕ)) (body body_now : Body
 abbrev pub HasNoTrailer : List ℕ → Type 0
 HasNoTrailer = HasNone {A = List Field × LineEnd} (λ trailer. IsTrailer trailer.0 trailer.1) (λ trailer. print_section trailer.0 trailer.1)
 
--- no whole trailer stands in front of bytes, and more bytes can still make one
+-- no whole trailer stands in front of bytes, and more bytes can still make one; without a line feed there is no need to look
 pub record IsTrailerCut (bytes : List ℕ) : Type 0 where
   pub none : HasNoTrailer bytes
   pub short : length bytes < 65536
@@ -182,6 +233,30 @@ abbrev pub HasNoTrailerWithin : ℕ → List ℕ → Type 0
 HasNoTrailerWithin =
     HasNoneWithin {A = List Field × LineEnd} (λ trailer. IsTrailer trailer.0 trailer.1) (λ trailer. print_section trailer.0 trailer.1)
 
+-- ---- a chunked body that is not all there
+
+-- bytes are the line of size 0, and then what may still become a trailer
+pub record MayBecomeEnd (bytes : List ℕ) : Type 0 where
+  pub line : ChunkLine
+  pub is_last : IsLast line
+  pub rest : List ℕ
+  pub whole : bytes ≡ print_chunk_line line ++ rest
+  pub cut : IsTrailerCut rest
+
+-- bytes are chunks, and then what may still become the next one, the line of size 0 or the trailer behind it
+pub record MayBecomeChunked (bytes : List ℕ) : Type 0 where
+  pub chunks : List Chunk
+  pub are_chunks : All IsChunk chunks
+  pub begun : List ℕ
+  pub whole : bytes ≡ flat_map print_chunk chunks ++ begun
+  pub may : MayBecomeChunkLine begun ⊎ (MayBecomeChunk begun ⊎ MayBecomeEnd begun)
+
+-- no chunked body of at most room bytes stands in front of bytes, and more bytes can still make one, while no more than room were seen and a trailer
+pub record IsChunkedCut (room : ℕ) (bytes : List ℕ) : Type 0 where
+  pub none : HasNoChunked room bytes
+  pub may : MayBecomeChunked bytes
+  pub few : length bytes ≤ room + 65536
+
 -- ---- a whole body
 
 -- nothing was read of a body that has at least len bytes
@@ -200,3 +275,22 @@ pub record TakesBody (before after : Option (List ℕ)) (framing : Option Framin
 -- no such body of at most room bytes stands in front of bytes; where the framing is bad there is none
 abbrev pub HasNoBody : Option Framing → ℕ → List ℕ → Type 0
 HasNoBody framing = HasNoneWithin (IsFramedBody framing) print_body
+
+-- more bytes can still make a body with this framing, which has room: never where the framing is bad, nor where the length is more than the room
+abbrev pub MayBecomeBody : Option Framing → ℕ → List ℕ → Type 0
+MayBecomeBody None room bytes = ⊥
+MayBecomeBody (Some Unframed) room bytes = ⊥
+MayBecomeBody (Some (Length len)) room bytes = (length bytes < len) × (len ≤ room)
+MayBecomeBody (Some Chunked) room bytes = MayBecomeChunked bytes × (length bytes ≤ room + 65536)
+
+-- no such body stands in front of bytes, and more bytes can still make one
+pub record IsBodyCut (framing : Option Framing) (room : ℕ) (bytes : List ℕ) : Type 0 where
+  pub none : HasNoBody framing room bytes
+  pub may : MayBecomeBody framing room bytes
+
+-- memory is taken for a body with this framing: it has bytes, and room
+abbrev pub MayKeep : Option Framing → ℕ → Type 0
+MayKeep None room = ⊥
+MayKeep (Some Unframed) room = ⊥
+MayKeep (Some (Length len)) room = (0 < len) × (len ≤ room)
+MayKeep (Some Chunked) room = ⊤

@@ -1,5 +1,5 @@
 -- When a client is told to go on, and what then stands before the reply. (RFC 9110 section 10.1.1 and RFC 9112 section 9.3.)
-use Rattle.std.specs.Prelude.{◌≡◌, ℕ, ◌<◌, Bool, true, List, [], ◌++◌, length, Option, IfSome, codes, is_some, ◌&&◌, ◌⊎◌, if◌then◌else◌}
+use Rattle.std.specs.Prelude.{◌≡◌, ℕ, ◌<◌, Bool, true, List, [], ◌+◌, ◌++◌, length, Option, IfSome, codes, is_some, ◌&&◌, ◌⊎◌, if◌then◌else◌}
 use Rattle.std.specs.Io.KnownBytes.{Consumes, Appends}
 use Rattle.httparse.specs.Ascii.{crlf_bytes}
 use Rattle.httparse.specs.Grammar.{RequestHead, MayBecomeRequest, print_request}
@@ -7,6 +7,8 @@ use Rattle.sw_outside.specs.Counts.{raised}
 use Rattle.sw_outside.specs.Taken.{AppendsPart}
 use Rattle.sw_message.specs.Framing.{framing_of, is_framed, says}
 use Rattle.sw_message.specs.Head.{IsHead, fields_of}
+use Rattle.httparse.specs.Pieces.{Stops, is_newline}
+use Rattle.sw_http.specs.ChunkSteps.{MayBecomeBody}
 use Rattle.sw_http.specs.Fronts.{IsUnfinished}
 use Rattle.sw_http.specs.Request.{IsSkipped, IsNoRequest, Parts, AreParts, text_of, request_of, Reads}
 use Rattle.sw_message.specs.declared.fields.Field.{Field}
@@ -77,13 +79,14 @@ abbrev pub IsCut : Option (List ℕ) → Option (List ℕ) → Option (List ℕ)
 IsCut before after taken taken_now =
     (Skips before after × Appends taken taken_now []) ⊎ ((h : RequestHead) × HasHead before h × Appends taken taken_now (continue_of h))
 
--- bytes are line ends that are skipped, and then what may still become a head, and isn't longer than one
+-- bytes are line ends that are skipped, all that stand in front, and then what may still become a head, and isn't longer than one
 pub record AwaitsHead (bytes : List ℕ) : Type 0 where
   pub none : BeginsNone bytes
   pub skipped : List ℕ
   pub are_skipped : IsSkipped skipped
   pub begun : List ℕ
   pub whole : bytes ≡ skipped ++ begun
+  pub all_skipped : (begun ≡ []) ⊎ Stops is_newline begun
   pub short : length begun < 65536
   pub unfinished : IsUnfinished MayBecomeRequest begun
 
@@ -95,22 +98,38 @@ pub record StartsWithHead (bytes : List ℕ) (head : RequestHead) : Type 0 where
   pub rest : List ℕ
   pub whole : bytes ≡ skipped ++ (print_request head ++ rest)
 
+-- a head stands in front of bytes, behind line ends that are skipped, or may still come
+abbrev pub MayHaveHead : List ℕ → Type 0
+MayHaveHead bytes = AwaitsHead bytes ⊎ ((h : RequestHead) × StartsWithHead bytes h)
+
+-- bytes begin with this head, behind line ends that are skipped, and then comes what may still become the body that it announces. The request has
+-- at most 1 GiB
+pub record AwaitsBody (bytes : List ℕ) (head : RequestHead) : Type 0 where
+  pub skipped : List ℕ
+  pub are_skipped : IsSkipped skipped
+  pub is_head : IsHead head
+  pub begun : List ℕ
+  pub whole : bytes ≡ skipped ++ (print_request head ++ begun)
+  pub room : ℕ
+  pub room_is : length (skipped ++ print_request head) + room ≡ 1073741824
+  pub may : MayBecomeBody (framing_of (fields_of head)) room begun
+
 -- no front of bytes is a request's text
 abbrev pub HasNoRequest : List ℕ → Type 0
 HasNoRequest bytes = (p : Parts) (rest : List ℕ) → ¬ (Reads bytes p rest)
 
--- no whole request stands in bytes, and more bytes may still make one: a head may still come, or one stands there and says where its body ends
+-- no whole request stands in bytes, and more bytes may still make one: a head may still come, or one stands there and its body may still come
 pub record NeedsMore (bytes : List ℕ) : Type 0 where
   pub none : HasNoRequest bytes
-  pub may : AwaitsHead bytes ⊎ ((h : RequestHead) × StartsWithHead bytes h × (is_some (framing_of (fields_of h)) ≡ true))
+  pub may : AwaitsHead bytes ⊎ ((h : RequestHead) × AwaitsBody bytes h)
 
 -- a read failed when these bytes of the input had been seen: no whole request stood in them, so the read was needed; and by then the client had
 -- been told what the head in front of them asks for, in one call, and nothing where no whole head stood there. It was needed only where a head
--- could still come, or behind one that says where its body ends
+-- could still come, or behind one whose body could
 pub record IsCutShort (taken taken_now : Option (List ℕ)) (calls calls_now : ℕ) (seen : List ℕ) : Type 0 where
   pub needed : HasNoRequest seen
   pub told : (AwaitsHead seen × Appends taken taken_now [] × (calls_now ≡ calls))
-      ⊎ ((h : RequestHead) × StartsWithHead seen h × (is_some (framing_of (fields_of h)) ≡ true) × Appends taken taken_now (continue_of h)
+      ⊎ ((h : RequestHead) × AwaitsBody seen h × Appends taken taken_now (continue_of h)
       × (calls_now ≡ puts_after (fields_of h) calls))
 
 -- the write that tells the client failed: its head asks to be told, and it and the line ends before it were taken off the input, and nothing else

@@ -86,9 +86,15 @@ pub record HasNoRun (test : ℕ → Bool) (limit : ℕ) (bytes : List ℕ) : Typ
 pub record HasNoLineEnd (bytes : List ℕ) : Type 0 where
   pub none : (rest : List ℕ) → ¬ (bytes ≡ crlf_bytes ++ rest)
 
--- there is no room for a line end, and no less than what was held
+-- bytes are the front of a line end, and not all of it
+pub record IsLineEndCut (bytes : List ℕ) : Type 0 where
+  pub more : List ℕ
+  pub whole : bytes ++ more ≡ crlf_bytes
+  pub short : length bytes < 2
+
+-- the same, and they are no less than what was held
 abbrev pub IsShort : List ℕ → List ℕ → Type 0
-IsShort held bytes = (length bytes < 2) × (length held ≤ length bytes)
+IsShort held bytes = IsLineEndCut bytes × (length held ≤ length bytes)
 
 -- ---- errors
 

@@ -1,5 +1,5 @@
 -- A head that is taken off the input, and what is skipped before it. (This project's own.)
-use Rattle.std.specs.Prelude.{◌≡◌, ℕ, ◌+◌, ◌<◌, List, ◌++◌, length, Option, IfSome}
+use Rattle.std.specs.Prelude.{◌≡◌, ℕ, ◌+◌, ◌<◌, List, ◌++◌, length, Option, IfSome, ◌⊎◌}
 use Rattle.std.specs.Io.KnownBytes.{Consumes, IsAtEnd}
 use Rattle.httparse.specs.Grammar.{RequestHead, MayBecomeRequest, print_request}
 use Rattle.httparse.specs.Pieces.{Stops, is_newline}
@@ -17,6 +17,10 @@ pub record IsHeadCut (bytes : List ℕ) : Type 0 where
   pub none : HasNoHead bytes
   pub short : length bytes < 65536
   pub unfinished : IsUnfinished MayBecomeRequest bytes
+
+-- bytes begin with no line end, and with a head or what may still become one
+abbrev pub MayBeginHead : List ℕ → Type 0
+MayBeginHead bytes = IsHeadCut bytes ⊎ ((h : RequestHead) × (rest : List ℕ) × IsHead h × (bytes ≡ print_request h ++ rest))
 
 -- a head of len bytes was taken off the input
 pub record TakesHead (before after : Option (List ℕ)) (open_ : OpenRequest) (len : ℕ) : Type 0 where

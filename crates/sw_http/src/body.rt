@@ -1,9 +1,9 @@
-ghost use Rattle.std.specs.Prelude.{◌≡◌, ◌≢◌, ℕ, ◌<◌, ◌≤◌, None, Some, Ok, Err, IfOk, IfSome, OnOk, OnErr};
+ghost use Rattle.std.specs.Prelude.{◌≡◌, ℕ, ◌<◌, ◌≤◌, None, Some, Ok, Err, IfOk, IfSome, OnOk, OnErr};
 ghost use Rattle.std.specs.Io.KnownBytes.{prepend_known};
-ghost use Rattle.sw_http.specs.ChunkSteps.{IsUnread, TakesBody, HasNoBody};
+ghost use Rattle.sw_http.specs.ChunkSteps.{IsUnread, TakesBody, HasNoBody, IsBodyCut, MayKeep};
 ghost use Rattle.sw_http.specs.Reads.{ReadsWhile};
 ghost use Rattle.sw_http.specs.Input.{HasFailed, IfSeen};
-ghost use Rattle.sw_message.specs.declared.framing.Framing.TheVariants.{Unframed, Length, Chunked};
+ghost use Rattle.sw_message.specs.declared.framing.Framing.TheVariants.{Length, Chunked};
 
 use crate::chunk::take_chunked;
 use crate::content::take_content;
@@ -38,12 +38,13 @@ fn take_plain<R: Source>(
     requires { room ≤ 1_073_741_824 }
     ensures taken { IfOk result (λ found. IfSome found (TakesBody (prepend_known held.old (R.left source.old)) (prepend_known held.new (R.left source.new))
         (Some (Length len)) room)) }
+    ensures for_some { OnErr result ((0 < len) × (len ≤ room)) }
     ensures none { result ≡ Ok None → IfSome (prepend_known held.old (R.left source.old)) (HasNoBody (Some (Length len)) room) }
     ensures sound { OnOk result (R.faults source.new ≡ R.faults source.old) }
     ensures starved { result ≡ Err ReadError.NoMemory → R.faults source.new ≡ R.faults source.old }
     ensures failed { result ≡ Err ReadError.Failed → HasFailed (R.faults source.old) (R.faults source.new) }
-    ensures cut { result ≡ Err ReadError.Failed → IfSeen (prepend_known held.old (R.left source.old)) (R.left source.new) (HasNoBody (Some (Length len)) room) }
-    ensures reads { ReadsWhile R.left R.calls source.old source.new (prepend_known held.old (R.left source.old)) (HasNoBody (Some (Length len)) room) }
+    ensures cut { result ≡ Err ReadError.Failed → IfSeen (prepend_known held.old (R.left source.old)) (R.left source.new) (IsBodyCut (Some (Length len)) room) }
+    ensures reads { ReadsWhile R.left R.calls source.old source.new (prepend_known held.old (R.left source.old)) (IsBodyCut (Some (Length len)) room) }
     ensures source_number { R.number source.new ≡ R.number source.old }
 {
     if len > room {
@@ -71,8 +72,8 @@ fn take_chunks<R: Source>(
     ensures sound { OnOk result (R.faults source.new ≡ R.faults source.old) }
     ensures starved { result ≡ Err ReadError.NoMemory → R.faults source.new ≡ R.faults source.old }
     ensures failed { result ≡ Err ReadError.Failed → HasFailed (R.faults source.old) (R.faults source.new) }
-    ensures cut { result ≡ Err ReadError.Failed → IfSeen (prepend_known held.old (R.left source.old)) (R.left source.new) (HasNoBody (Some Chunked) room) }
-    ensures reads { ReadsWhile R.left R.calls source.old source.new (prepend_known held.old (R.left source.old)) (HasNoBody (Some Chunked) room) }
+    ensures cut { result ≡ Err ReadError.Failed → IfSeen (prepend_known held.old (R.left source.old)) (R.left source.new) (IsBodyCut (Some Chunked) room) }
+    ensures reads { ReadsWhile R.left R.calls source.old source.new (prepend_known held.old (R.left source.old)) (IsBodyCut (Some Chunked) room) }
     ensures source_number { R.number source.new ≡ R.number source.old }
 {
     let mut body = unread_body(alloc, 0)?;
@@ -95,13 +96,13 @@ pub(crate) fn take_body<R: Source>(
     requires { room ≤ 1_073_741_824 }
     ensures taken { IfOk result (λ found. IfSome found (TakesBody (prepend_known held.old (R.left source.old)) (prepend_known held.new (R.left source.new))
         (Some framing) room)) }
-    ensures for_some { result ≡ Err ReadError.NoMemory → framing ≢ Unframed }
+    ensures for_some { result ≡ Err ReadError.NoMemory → MayKeep (Some framing) room }
     ensures none { result ≡ Ok None → IfSome (prepend_known held.old (R.left source.old)) (HasNoBody (Some framing) room) }
     ensures sound { OnOk result (R.faults source.new ≡ R.faults source.old) }
     ensures starved { result ≡ Err ReadError.NoMemory → R.faults source.new ≡ R.faults source.old }
     ensures failed { result ≡ Err ReadError.Failed → HasFailed (R.faults source.old) (R.faults source.new) }
-    ensures cut { result ≡ Err ReadError.Failed → IfSeen (prepend_known held.old (R.left source.old)) (R.left source.new) (HasNoBody (Some framing) room) }
-    ensures reads { ReadsWhile R.left R.calls source.old source.new (prepend_known held.old (R.left source.old)) (HasNoBody (Some framing) room) }
+    ensures cut { result ≡ Err ReadError.Failed → IfSeen (prepend_known held.old (R.left source.old)) (R.left source.new) (IsBodyCut (Some framing) room) }
+    ensures reads { ReadsWhile R.left R.calls source.old source.new (prepend_known held.old (R.left source.old)) (IsBodyCut (Some framing) room) }
     ensures source_number { R.number source.new ≡ R.number source.old }
 {
     match framing {

@@ -1,6 +1,6 @@
 //! The line that tells the size of a chunk. Its blanks and its extension may be as long as a whole request: they are dropped as they
 //! come, and `httparse` reads the line without them.
-ghost use Rattle.std.specs.Prelude.{◌≡◌, ℕ, ◌+◌, ◌<◌, ◌≤◌, length, None, Ok, Err, IfOk, IfSome, OnOk};
+ghost use Rattle.std.specs.Prelude.{◌≡◌, ℕ, ◌+◌, ◌<◌, ◌≤◌, length, None, Ok, Err, IfOk, IfSome, OnOk, OnErr};
 ghost use Rattle.std.specs.List.{prefix_len};
 ghost use Rattle.std.specs.Char.{is_ascii_hexdigit};
 ghost use Rattle.std.specs.Io.KnownBytes.{Keeps, prepend_known};
@@ -8,7 +8,7 @@ ghost use Rattle.std.specs.Str.Parse.{digits_value};
 ghost use Rattle.httparse.specs.Grammar.{AllPass, is_ows};
 ghost use Rattle.httparse.specs.Pieces.{Stops};
 ghost use Rattle.sw_http.specs.ChunkSteps.{HasNoLine, HasDigits, TakesExtension, HasNoExtension, TakesTail, HasNoTail, TakesLine, HasNoLineWithin};
-ghost use Rattle.sw_http.specs.ChunkSteps.{IsExtensionCut};
+ghost use Rattle.sw_http.specs.ChunkSteps.{IsDigitsCut, IsExtensionCut, IsTailCut, IsLineCut};
 ghost use Rattle.sw_http.specs.Reads.{ReadsWhile};
 ghost use Rattle.sw_http.specs.Input.{HasFailed, IfSeen};
 
@@ -49,8 +49,8 @@ fn read_digits<R: Source>(held: &mut Held, source: &mut R) -> Result<Option<usiz
     ensures sound { OnOk result (R.faults source.new ≡ R.faults source.old) }
     ensures starved { result ≡ Err ReadError.NoMemory → R.faults source.new ≡ R.faults source.old }
     ensures failed { result ≡ Err ReadError.Failed → HasFailed (R.faults source.old) (R.faults source.new) }
-    ensures cut { result ≡ Err ReadError.Failed → IfSeen (prepend_known held.old (R.left source.old)) (R.left source.new) HasNoLine }
-    ensures reads { ReadsWhile R.left R.calls source.old source.new (prepend_known held.old (R.left source.old)) HasNoLine }
+    ensures cut { OnErr result (IfSeen (prepend_known held.old (R.left source.old)) (R.left source.new) IsDigitsCut) }
+    ensures reads { ReadsWhile R.left R.calls source.old source.new (prepend_known held.old (R.left source.old)) IsDigitsCut }
     ensures source_number { R.number source.new ≡ R.number source.old }
 {
     loop {
@@ -100,7 +100,7 @@ fn take_extension<R: Source>(
     ensures sound { OnOk result (R.faults source.new ≡ R.faults source.old) }
     ensures starved { result ≡ Err ReadError.NoMemory → R.faults source.new ≡ R.faults source.old }
     ensures failed { result ≡ Err ReadError.Failed → HasFailed (R.faults source.old) (R.faults source.new) }
-    ensures cut { result ≡ Err ReadError.Failed → IfSeen (prepend_known held.old (R.left source.old)) (R.left source.new) (IsExtensionCut room) }
+    ensures cut { OnErr result (IfSeen (prepend_known held.old (R.left source.old)) (R.left source.new) (IsExtensionCut room)) }
     ensures reads { ReadsWhile R.left R.calls source.old source.new (prepend_known held.old (R.left source.old)) (IsExtensionCut room) }
     ensures source_number { R.number source.new ≡ R.number source.old }
 {
@@ -122,19 +122,19 @@ fn take_tail<R: Source>(
 ) -> Result<Option<usize>, ReadError>
     requires { room ≤ 1_073_741_824 }
     ensures taken { IfOk result (λ found. IfSome found (TakesTail (prepend_known held.old (R.left source.old)) (prepend_known held.new (R.left source.new)))) }
-    ensures bound { IfOk result (λ found. IfSome found (λ len. len ≤ room + room + 3)) }
+    ensures bound { IfOk result (λ found. IfSome found (λ len. len ≤ room + 3)) }
     ensures none { result ≡ Ok None → IfSome (prepend_known held.old (R.left source.old)) (HasNoTail room) }
     ensures sound { OnOk result (R.faults source.new ≡ R.faults source.old) }
     ensures starved { result ≡ Err ReadError.NoMemory → R.faults source.new ≡ R.faults source.old }
     ensures failed { result ≡ Err ReadError.Failed → HasFailed (R.faults source.old) (R.faults source.new) }
-    ensures cut { result ≡ Err ReadError.Failed → IfSeen (prepend_known held.old (R.left source.old)) (R.left source.new) (HasNoTail room) }
-    ensures reads { ReadsWhile R.left R.calls source.old source.new (prepend_known held.old (R.left source.old)) (HasNoTail room) }
+    ensures cut { OnErr result (IfSeen (prepend_known held.old (R.left source.old)) (R.left source.new) (IsTailCut room)) }
+    ensures reads { ReadsWhile R.left R.calls source.old source.new (prepend_known held.old (R.left source.old)) (IsTailCut room) }
     ensures source_number { R.number source.new ≡ R.number source.old }
 {
     let Some(pad) = take_run(Class::Blanks, room, held, source)? else {
         return Ok(None);
     };
-    let Some(extension) = take_extension(held, source, room)? else {
+    let Some(extension) = take_extension(held, source, room - pad)? else {
         return Ok(None);
     };
     if take_line_end(held, source)? {
@@ -156,8 +156,8 @@ pub(crate) fn take_chunk_line<R: Source>(
     ensures sound { OnOk result (R.faults source.new ≡ R.faults source.old) }
     ensures starved { result ≡ Err ReadError.NoMemory → R.faults source.new ≡ R.faults source.old }
     ensures failed { result ≡ Err ReadError.Failed → HasFailed (R.faults source.old) (R.faults source.new) }
-    ensures cut { result ≡ Err ReadError.Failed → IfSeen (prepend_known held.old (R.left source.old)) (R.left source.new) (HasNoLineWithin room) }
-    ensures reads { ReadsWhile R.left R.calls source.old source.new (prepend_known held.old (R.left source.old)) (HasNoLineWithin room) }
+    ensures cut { OnErr result (IfSeen (prepend_known held.old (R.left source.old)) (R.left source.new) (IsLineCut room)) }
+    ensures reads { ReadsWhile R.left R.calls source.old source.new (prepend_known held.old (R.left source.old)) (IsLineCut room) }
     ensures source_number { R.number source.new ≡ R.number source.old }
 {
     let Some(digits) = read_digits(held, source)? else {

@@ -38,7 +38,7 @@ fn hold_some<R: Source>(held: &mut Held, source: &mut R) -> Result<bool, ReadErr
     ensures sound { OnOk result (R.faults source.new ≡ R.faults source.old) }
     ensures starved { result ≡ Err ReadError.NoMemory → R.faults source.new ≡ R.faults source.old }
     ensures failed { result ≡ Err ReadError.Failed → HasFailed (R.faults source.old) (R.faults source.new) }
-    ensures cut { result ≡ Err ReadError.Failed → IfSeen (prepend_known held.old (R.left source.old)) (R.left source.new) (λ seen. length seen ≡ 0) }
+    ensures cut { OnErr result (IfSeen (prepend_known held.old (R.left source.old)) (R.left source.new) (λ seen. length seen ≡ 0)) }
     ensures reads { ReadsWhile R.left R.calls source.old source.new (prepend_known held.old (R.left source.old)) (λ seen. length seen ≡ 0) }
     ensures source_number { R.number source.new ≡ R.number source.old }
 {
@@ -100,6 +100,7 @@ pub(crate) fn take_content<R: Source>(
     ensures starved { result ≡ Err ReadError.NoMemory → R.faults source.new ≡ R.faults source.old }
     ensures failed { result ≡ Err ReadError.Failed → HasFailed (R.faults source.old) (R.faults source.new) }
     ensures cut { result ≡ Err ReadError.Failed → IfSeen (prepend_known held.old (R.left source.old)) (R.left source.new) (λ seen. length seen < len) }
+    ensures for_some { OnErr result (0 < len) }
     ensures reads { ReadsWhile R.left R.calls source.old source.new (prepend_known held.old (R.left source.old)) (λ seen. length seen < len) }
     ensures source_number { R.number source.new ≡ R.number source.old }
 {

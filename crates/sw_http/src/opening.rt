@@ -2,8 +2,8 @@
 ghost use Rattle.std.specs.Prelude.{◌≡◌, ℕ, ◌≤◌, None, Ok, Err, IfOk, IfSome, OnErr, OnOk};
 ghost use Rattle.std.specs.Io.KnownBytes.{Keeps, prepend_known};
 ghost use Rattle.httparse.specs.Pieces.{Stops, is_newline};
-ghost use Rattle.sw_http.specs.Continue.{AwaitsHead, Skips};
-ghost use Rattle.sw_http.specs.Opening.{IsOpening, TakesHead, IsHeadCut};
+ghost use Rattle.sw_http.specs.Continue.{AwaitsHead, MayHaveHead, Skips};
+ghost use Rattle.sw_http.specs.Opening.{IsOpening, TakesHead, IsHeadCut, MayBeginHead};
 ghost use Rattle.sw_http.specs.Reads.{ReadsWhile};
 ghost use Rattle.sw_http.specs.Input.{HasFailed, IfSeen};
 ghost use Rattle.sw_message.specs.Head.{HasNoHead};
@@ -43,6 +43,7 @@ fn take_head<R: Source>(
     ensures starved { result ≡ Err ReadError.NoMemory → R.faults source.new ≡ R.faults source.old }
     ensures failed { result ≡ Err ReadError.Failed → HasFailed (R.faults source.old) (R.faults source.new) }
     ensures cut { result ≡ Err ReadError.Failed → IfSeen (prepend_known held.old (R.left source.old)) (R.left source.new) IsHeadCut }
+    ensures wanted { result ≡ Err ReadError.NoMemory → IfSeen (prepend_known held.old (R.left source.old)) (R.left source.new) MayBeginHead }
     ensures reads { ReadsWhile R.left R.calls source.old source.new (prepend_known held.old (R.left source.old)) IsHeadCut }
     ensures source_number { R.number source.new ≡ R.number source.old }
 {
@@ -67,6 +68,7 @@ pub(crate) fn take_opening<R: Source>(
     ensures starved { result ≡ Err ReadError.NoMemory → R.faults source.new ≡ R.faults source.old }
     ensures failed { result ≡ Err ReadError.Failed → HasFailed (R.faults source.old) (R.faults source.new) }
     ensures cut { result ≡ Err ReadError.Failed → IfSeen (prepend_known held.old (R.left source.old)) (R.left source.new) AwaitsHead }
+    ensures wanted { result ≡ Err ReadError.NoMemory → IfSeen (prepend_known held.old (R.left source.old)) (R.left source.new) MayHaveHead }
     ensures reads { ReadsWhile R.left R.calls source.old source.new (prepend_known held.old (R.left source.old)) AwaitsHead }
     ensures source_number { R.number source.new ≡ R.number source.old }
 {

@@ -4,10 +4,9 @@ ghost use Rattle.sw_outside.specs.Counts.{raised};
 ghost use Rattle.sw_outside.specs.Faults.{HasRisen};
 ghost use Rattle.sw_outside.specs.Taken.{AppendsPart};
 ghost use Rattle.sw_http.specs.Continue.{Takes, FindsNoRequest, MayContinue, IsToldPart, IsToldOnce, IsCut, IsCutShort, IsStopped, asks_continue};
-ghost use Rattle.sw_http.specs.Continue.{continue_text, puts_after, NeedsMore};
-ghost use Rattle.sw_http.specs.ChunkSteps.{TakesBody, HasNoBody};
+ghost use Rattle.sw_http.specs.Continue.{continue_text, puts_after, NeedsMore, MayHaveHead};
+ghost use Rattle.sw_http.specs.ChunkSteps.{TakesBody, HasNoBody, IsBodyCut, MayKeep};
 ghost use Rattle.sw_message.specs.Framing.{framing_of, is_framed};
-ghost use Rattle.sw_message.specs.declared.framing.Framing.TheVariants.{Unframed};
 ghost use Rattle.sw_http.specs.Reads.{ReadsWhile};
 ghost use Rattle.sw_http.specs.Input.{HasFailed, IfSeen, fault_of};
 ghost use Rattle.sw_http.specs.Request.{IsSkipped};
@@ -60,8 +59,9 @@ impl From<Failed> for HttpFault {
 /// Where the head of a request with a body has `Expect: 100-continue`, `100 Continue` is written before the body is read, in one call of
 /// the sink. Nothing else is ever written.
 ///
-/// No read is made where a whole request is held, nor behind what can't become a head, nor behind a head that doesn't say where its body ends:
-/// before each read no whole request stood in what was held and read till then, and more bytes might still make one.
+/// No read is made where a whole request is held, nor behind what can't become a head, nor behind a head that doesn't say where its body ends or
+/// says that it has more bytes than may be, nor behind what can't become that body: before each read no whole request stood in what was held and
+/// read till then, and more bytes might still make one.
 ///
 /// `None` comes where the input ended and nothing but CR and LF to be skipped was left. [`HttpFault::Bad`] comes where no front of the
 /// input is a request's text.
@@ -105,6 +105,9 @@ pub fn next_request<R: Source, W: Sink>(
     ensures write_failed_once { result ≡ Err HttpFault.WriteFault → W.faults out.new ≡ raised (W.faults out.old) }
     ensures stopped { result ≡ Err HttpFault.WriteFault → IsStopped (prepend_known held.old (R.left source.old)) (prepend_known held.new (R.left source.new))
         (W.taken out.old) (W.taken out.new) (W.calls out.old) (W.calls out.new) }
+
+    // Memory is taken only where a head stands there or may still come: what can't become one is refused without.
+    ensures wanted { result ≡ Err HttpFault.NoMemory → IfSeen (prepend_known held.old (R.left source.old)) (R.left source.new) MayHaveHead }
 
     // A read is made only where what was seen before it is no whole request, and may still become one.
     ensures reads { ReadsWhile R.left R.calls source.old source.new (prepend_known held.old (R.left source.old)) NeedsMore }
@@ -171,9 +174,9 @@ fn read_body<R: Source, W: Sink>(
     ensures starved { result ≡ Err HttpFault.NoMemory → R.faults source.new ≡ R.faults source.old }
     ensures failed { result ≡ Err HttpFault.ReadFault → HasFailed (R.faults source.old) (R.faults source.new) }
     ensures cut { result ≡ Err HttpFault.ReadFault → IfSeen (prepend_known held.old (R.left source.old)) (R.left source.new)
-        (HasNoBody (framing_of fields.now) room) }
+        (IsBodyCut (framing_of fields.now) room) }
     ensures framed { result ≡ Err HttpFault.ReadFault → is_some (framing_of fields.now) ≡ true }
-    ensures kept_for { result ≡ Err HttpFault.NoMemory → framing_of fields.now ≢ Some Unframed }
+    ensures kept_for { result ≡ Err HttpFault.NoMemory → MayKeep (framing_of fields.now) room }
     ensures unread { result ≡ Err HttpFault.WriteFault → (held.new ≡ held.old) × (R.left source.new ≡ R.left source.old) ×
         (R.faults source.new ≡ R.faults source.old) }
     ensures asked { result ≡ Err HttpFault.WriteFault → asks_continue fields.now ≡ true }
@@ -181,7 +184,7 @@ fn read_body<R: Source, W: Sink>(
     ensures written_sound { result ≢ Err HttpFault.WriteFault → W.faults out.new ≡ W.faults out.old }
     ensures write_failed { result ≡ Err HttpFault.WriteFault → HasFailed (W.faults out.old) (W.faults out.new) }
     ensures reads { ReadsWhile R.left R.calls source.old source.new (prepend_known held.old (R.left source.old))
-        (λ seen. (is_some (framing_of fields.now) ≡ true) × HasNoBody (framing_of fields.now) room seen) }
+        (IsBodyCut (framing_of fields.now) room) }
     ensures source_number { R.number source.new ≡ R.number source.old }
     ensures sink_number { W.number out.new ≡ W.number out.old }
 {

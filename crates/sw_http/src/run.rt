@@ -62,7 +62,7 @@ pub(crate) fn skip_run<R: Source>(
     ensures sound { OnOk result (R.faults source.new ≡ R.faults source.old) }
     ensures starved { result ≡ Err ReadError.NoMemory → R.faults source.new ≡ R.faults source.old }
     ensures failed { result ≡ Err ReadError.Failed → HasFailed (R.faults source.old) (R.faults source.new) }
-    ensures cut { result ≡ Err ReadError.Failed → IfSeen (prepend_known held.old (R.left source.old)) (R.left source.new) (IsAllRun (test_of class) limit) }
+    ensures cut { OnErr result (IfSeen (prepend_known held.old (R.left source.old)) (R.left source.new) (IsAllRun (test_of class) limit)) }
     ensures reads { ReadsWhile R.left R.calls source.old source.new (prepend_known held.old (R.left source.old)) (IsAllRun (test_of class) limit) }
     ensures source_number { R.number source.new ≡ R.number source.old }
 {
@@ -99,8 +99,8 @@ pub(crate) fn take_run<R: Source>(
     ensures sound { OnOk result (R.faults source.new ≡ R.faults source.old) }
     ensures starved { result ≡ Err ReadError.NoMemory → R.faults source.new ≡ R.faults source.old }
     ensures failed { result ≡ Err ReadError.Failed → HasFailed (R.faults source.old) (R.faults source.new) }
-    ensures cut { result ≡ Err ReadError.Failed → IfSeen (prepend_known held.old (R.left source.old)) (R.left source.new) (HasNoRun (test_of class) limit) }
-    ensures reads { ReadsWhile R.left R.calls source.old source.new (prepend_known held.old (R.left source.old)) (HasNoRun (test_of class) limit) }
+    ensures cut { OnErr result (IfSeen (prepend_known held.old (R.left source.old)) (R.left source.new) (IsAllRun (test_of class) limit)) }
+    ensures reads { ReadsWhile R.left R.calls source.old source.new (prepend_known held.old (R.left source.old)) (IsAllRun (test_of class) limit) }
     ensures source_number { R.number source.new ≡ R.number source.old }
 {
     match skip_run(class, limit, held, source)? {

@@ -1,5 +1,5 @@
 //! The trailer of a chunked body: fields, which are ignored, and the empty line.
-ghost use Rattle.std.specs.Prelude.{◌≡◌, ◌⊎◌, ◌↔◌, ℕ, ◌≤◌, IsTrue, true, false, length, take, None, Ok, Err, IfOk, IfSome, OnOk};
+ghost use Rattle.std.specs.Prelude.{◌≡◌, ◌⊎◌, ◌↔◌, ℕ, ◌≤◌, IsTrue, true, false, length, take, None, Ok, Err, IfOk, IfSome, OnOk, OnErr};
 ghost use Rattle.std.specs.Io.KnownBytes.{Keeps, prepend_known};
 ghost use Rattle.sw_http.specs.ChunkSteps.{HasNoTrailer, IsTrailerCut, IsTrailerAt, TakesTrailer, HasNoTrailerWithin};
 ghost use Rattle.sw_http.specs.Reads.{ReadsWhile};
@@ -58,7 +58,7 @@ fn read_trailer<R: Source>(held: &mut Held, source: &mut R) -> Result<Option<usi
     ensures sound { OnOk result (R.faults source.new ≡ R.faults source.old) }
     ensures starved { result ≡ Err ReadError.NoMemory → R.faults source.new ≡ R.faults source.old }
     ensures failed { result ≡ Err ReadError.Failed → HasFailed (R.faults source.old) (R.faults source.new) }
-    ensures cut { result ≡ Err ReadError.Failed → IfSeen (prepend_known held.old (R.left source.old)) (R.left source.new) IsTrailerCut }
+    ensures cut { OnErr result (IfSeen (prepend_known held.old (R.left source.old)) (R.left source.new) IsTrailerCut) }
     ensures reads { ReadsWhile R.left R.calls source.old source.new (prepend_known held.old (R.left source.old)) IsTrailerCut }
     ensures source_number { R.number source.new ≡ R.number source.old }
 {
@@ -91,8 +91,8 @@ pub(crate) fn take_trailer<R: Source>(
     ensures sound { OnOk result (R.faults source.new ≡ R.faults source.old) }
     ensures starved { result ≡ Err ReadError.NoMemory → R.faults source.new ≡ R.faults source.old }
     ensures failed { result ≡ Err ReadError.Failed → HasFailed (R.faults source.old) (R.faults source.new) }
-    ensures cut { result ≡ Err ReadError.Failed → IfSeen (prepend_known held.old (R.left source.old)) (R.left source.new) (HasNoTrailerWithin room) }
-    ensures reads { ReadsWhile R.left R.calls source.old source.new (prepend_known held.old (R.left source.old)) (HasNoTrailerWithin room) }
+    ensures cut { OnErr result (IfSeen (prepend_known held.old (R.left source.old)) (R.left source.new) IsTrailerCut) }
+    ensures reads { ReadsWhile R.left R.calls source.old source.new (prepend_known held.old (R.left source.old)) IsTrailerCut }
     ensures source_number { R.number source.new ≡ R.number source.old }
 {
     match read_trailer(held, source)? {

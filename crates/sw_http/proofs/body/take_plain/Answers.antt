@@ -20,7 +20,7 @@ pub returns-in_err-take_content-clause-cut : goal.returns-in_err-take_content-cl
 returns-in_err-take_content-clause-cut g c e =
     let exit = err_from_is_err_and c.from_residual-in_err-take_content.result c.from_residual-in_err-take_content.ensures.1 in let given = exit.1 in let same =
     exit.2 in
-    plain_cut _ _ _ _ (c.in_err-take_content.ensures.cut (cc))
+    plain_cut _ _ _ _ (omega arith) (c.in_err-take_content.ensures.cut (cc))
 
 pub returns-then-len-room-clause-reads : goal.returns-then-len-room-clause-reads
 returns-then-len-room-clause-reads g c = reads_none _ _ _
@@ -29,10 +29,10 @@ pub returns-in_err-body-clause-reads : goal.returns-in_err-body-clause-reads
 returns-in_err-body-clause-reads g c = reads_none _ _ _
 
 pub returns-in_err-take_content-clause-reads : goal.returns-in_err-take_content-clause-reads
-returns-in_err-take_content-clause-reads g c = reads_map _ _ _ _ c.take_content.ensures.reads (λ now. plain_cut _ now _ _)
+returns-in_err-take_content-clause-reads g c = reads_map _ _ _ _ c.take_content.ensures.reads (λ now. plain_cut _ now _ _ (omega arith))
 
 pub returns-then-branch-clause-reads : goal.returns-then-branch-clause-reads
-returns-then-branch-clause-reads g c = reads_map _ _ _ _ c.take_content.ensures.reads (λ now. plain_cut _ now _ _)
+returns-then-branch-clause-reads g c = reads_map _ _ _ _ c.take_content.ensures.reads (λ now. plain_cut _ now _ _ (omega arith))
 
 pub returns-else-branch-clause-reads : goal.returns-else-branch-clause-reads
-returns-else-branch-clause-reads g c = reads_map _ _ _ _ c.take_content.ensures.reads (λ now. plain_cut _ now _ _)
+returns-else-branch-clause-reads g c = reads_map _ _ _ _ c.take_content.ensures.reads (λ now. plain_cut _ now _ _ (omega arith))

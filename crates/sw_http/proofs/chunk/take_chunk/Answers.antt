@@ -35,7 +35,7 @@ returns-else-branch-clause-step g c =
 pub returns-in_err-line-clause-cut : goal.returns-in_err-line-clause-cut
 returns-in_err-line-clause-cut g c e =
     let exit = err_from_is_err_and c.from_residual.result c.from_residual.ensures.1 in let given = exit.1 in let same = exit.2 in
-    chunk_cut_line _ _ _ (c.in_err-line.ensures.cut (cc))
+    chunk_cut_line _ _ _ c.in_err-line.ensures.cut
 
 pub returns-in_err-take_sized-clause-cut : goal.returns-in_err-take_sized-clause-cut
 returns-in_err-take_sized-clause-cut g c e =

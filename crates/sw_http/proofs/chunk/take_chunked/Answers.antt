@@ -1,7 +1,8 @@
 use Rattle.std.proofs.Common.{◌-◌, arith}
-use Rattle.sw_http.specs.ChunkSteps.{HasNoChunked}
+use Rattle.sw_http.specs.ChunkSteps.{IsChunkedCut}
 use Rattle.sw_http.proofs.ChunkedLemmas.{chunks_more, chunks_within, chunked_taken, chunks_refused, trailer_refused, chunks_cut, trailer_cut}
 use Rattle.std.proofs.lemmas.Result.{err_from_is_err_and}
+use Rattle.sw_http.proofs.InputLemmas.{on_err_at}
 use Rattle.sw_http.proofs.ReadsLemmas.{reads_map, reads_then}
 use Rattle.sw_http.proofs.chunk.take_chunked.Goals as goal
 
@@ -41,7 +42,7 @@ returns-in_err-len-clause-cut g c e =
 pub returns-in-Last-clause-cut : goal.returns-in-Last-clause-cut
 returns-in-Last-clause-cut g c e =
     let step = rw c.in-Last.is at c.in_ok-len.ensures.step in
-    trailer_cut _ _ _ _ _ _ _ _ _ c.loop-len.invariant.takes step.0 step.1 (c.take_trailer.ensures.cut e)
+    trailer_cut _ _ _ _ _ _ _ _ _ c.loop-len.invariant.takes step.0 step.1 (on_err_at _ _ _ e c.take_trailer.ensures.cut)
 
 pub returns-in_err-len-clause-reads : goal.returns-in_err-len-clause-reads
 returns-in_err-len-clause-reads g c =
@@ -56,7 +57,7 @@ returns-in-Bad-clause-reads g c =
 pub returns-in-Last-clause-reads : goal.returns-in-Last-clause-reads
 returns-in-Last-clause-reads g c =
     let step = rw c.in-Last.is at c.in_ok-len.ensures.step in
-    let earlier = reads_then _ (HasNoChunked c.args.room) c.loop-len.invariant.reads
+    let earlier = reads_then _ (IsChunkedCut c.args.room) c.loop-len.invariant.reads
     (reads_map _ _ _ _ c.take_chunk.ensures.reads (λ now. chunks_cut _ _ now _ _ _ _ c.loop-len.invariant.takes)) in
     reads_then _ _ earlier
     (reads_map _ _ _ _ c.take_trailer.ensures.reads (λ now. trailer_cut _ _ _ now _ _ _ _ _ c.loop-len.invariant.takes step.0 step.1))

@@ -1,7 +1,7 @@
 use Rattle.std.proofs.Common.{◌≡◌, ◌≤◌}
 use Rattle.std.specs.Io.KnownBytes.{prepend_known}
 use Rattle.sw_http.specs.Body.{IsWithinLimit}
-use Rattle.sw_http.specs.ChunkSteps.{HasNoChunked, TakesChunks}
+use Rattle.sw_http.specs.ChunkSteps.{IsChunkedCut, TakesChunks}
 use Rattle.sw_http.specs.Reads.{ReadsWhile}
 use Rattle.sw_http.proofs.chunk.take_chunked.Given as goal
 
@@ -13,7 +13,7 @@ invariant-loop-len g l = record {
   takes : TakesChunks (prepend_known l.initial.held (g.R.Source.left l.initial.source)) (prepend_known l.held (g.R.Source.left l.source)) l.initial.body l.body
       l.room l.left;
   reads : ReadsWhile g.R.Source.left g.R.Source.calls l.initial.source l.source
-      (prepend_known l.initial.held (g.R.Source.left l.initial.source)) (HasNoChunked l.room);
+      (prepend_known l.initial.held (g.R.Source.left l.initial.source)) (IsChunkedCut l.room);
   sound : g.R.Source.faults l.source ≡ g.R.Source.faults l.initial.source;
   same : g.R.Source.number l.source ≡ g.R.Source.number l.initial.source;
 }

@@ -16,14 +16,14 @@ returns-in-Some-clause-taken g c =
     extension_present _ _ _ _ _ semicolon (rw c.in-Some.is at c.in_ok-len.ensures.taken) (rw c.in-Some.is at c.in_ok-len.ensures.stops)
 
 pub returns-in_err-len-clause-cut : goal.returns-in_err-len-clause-cut
-returns-in_err-len-clause-cut g c e =
-    let exit = err_from_is_err_and c.from_residual.result c.from_residual.ensures.1 in let given = exit.1 in let same = exit.2 in
+returns-in_err-len-clause-cut g c =
+    let exit = err_from_is_err_and c.from_residual.result c.from_residual.ensures.1 in
     let text = sym c.rest.ensures ∙ c.begins_with.ensures.found c.if-not-begins_with.false ∙ ap (λ (l : List ℕ). 59 ∷ l)
     (ap (drop 1) c.rest.ensures ∙ sym c.advance.ensures) in
     let semicolon : Consumes (prepend_known c.args.held.now (g.R.Source.left c.args.source.now))
     (prepend_known c.advance.new.self (g.R.Source.left c.args.source.now)) (59 ∷ []) =
     text_taken _ _ (59 ∷ []) _ text in
-    extension_cut _ _ _ _ semicolon (c.in_err-len.ensures.cut (cc))
+    rw exit.1 (extension_cut _ _ _ _ semicolon c.in_err-len.ensures.cut)
 
 pub returns-then-not-begins_with-clause-reads : goal.returns-then-not-begins_with-clause-reads
 returns-then-not-begins_with-clause-reads g c = reads_none _ _ _

@@ -1,9 +1,10 @@
-use Rattle.std.proofs.Common.{Ok, ap, refl}
+use Rattle.std.proofs.Common.{Ok, ap, refl, inl}
 use Rattle.httparse.specs.Pieces.{is_newline}
+use Rattle.sw_http.specs.Continue.{AwaitsHead, MayHaveHead}
 use Rattle.sw_http.specs.Opening.{IsHeadless}
 use Rattle.sw_http.specs.Input.{IsLongRun}
-use Rattle.sw_http.proofs.InputLemmas.{if_some_map}
-use Rattle.sw_http.proofs.OpeningLemmas.{opened, headless, headless_run, opening_cut_run, opening_cut_head}
+use Rattle.sw_http.proofs.InputLemmas.{if_some_map, seen_map}
+use Rattle.sw_http.proofs.OpeningLemmas.{opened, headless, headless_run, opening_cut_run, opening_cut_head, wanted_opening}
 use Rattle.std.proofs.lemmas.Result.{err_from_is_err_and}
 use Rattle.sw_http.proofs.ReadsLemmas.{reads_map, reads_then}
 use Rattle.sw_http.proofs.opening.take_opening.Goals as goal
@@ -25,7 +26,7 @@ returns-in-None-clause-opening g c =
 pub returns-in_err-skipped-clause-cut : goal.returns-in_err-skipped-clause-cut
 returns-in_err-skipped-clause-cut g c e =
     let exit = err_from_is_err_and c.from_residual.result c.from_residual.ensures.1 in let given = exit.1 in let same = exit.2 in
-    opening_cut_run _ _ (c.in_err-skipped.ensures.cut (cc))
+    opening_cut_run _ _ c.in_err-skipped.ensures.cut
 
 pub returns-in_err-open-clause-cut : goal.returns-in_err-open-clause-cut
 returns-in_err-open-clause-cut g c e =
@@ -59,3 +60,13 @@ returns-in-None-clause-reads g c =
     let run = rw c.in-Begun.is at c.in_ok-skipped.ensures.run in
     reads_then _ _ (reads_map _ _ _ _ c.skip_run.ensures.reads (λ now. opening_cut_run _ now))
     (reads_map _ _ _ _ c.take_head.ensures.reads (λ now. opening_cut_head _ _ now _ run.0 run.1))
+
+pub returns-in_err-skipped-clause-wanted : goal.returns-in_err-skipped-clause-wanted
+returns-in_err-skipped-clause-wanted g c e =
+    seen_map _ _ AwaitsHead MayHaveHead (λ bytes awaits. inl awaits) (opening_cut_run _ _ c.in_err-skipped.ensures.cut)
+
+pub returns-in_err-open-clause-wanted : goal.returns-in_err-open-clause-wanted
+returns-in_err-open-clause-wanted g c e =
+    let exit = err_from_is_err_and c.from_residual-in_err-open.result c.from_residual-in_err-open.ensures.1 in let given = exit.1 in let same = exit.2 in
+    let run = rw c.in-Begun.is at c.in_ok-skipped.ensures.run in
+    wanted_opening _ _ _ _ run.0 run.1 (c.in_err-open.ensures.wanted (cc))

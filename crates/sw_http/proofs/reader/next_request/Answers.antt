@@ -3,7 +3,8 @@ use Rattle.std.proofs.lemmas.Result.{err_from_is_err_and}
 use Rattle.sw_http.specs.Input.{fault_of}
 use Rattle.sw_http.specs.declared.reader.HttpFault.TheVariants as faults
 use Rattle.sw_http.proofs.RequestLemmas.{called_once, cut_body, cut_opening, fault_is_failed, request_taken, refuses_body, refuses_headless, told_whole}
-use Rattle.sw_http.proofs.RequestLemmas.{needs_body, needs_opening}
+use Rattle.sw_http.proofs.RequestLemmas.{needs_body, needs_opening, fault_is_wanting, wanted_body}
+use Rattle.sw_http.proofs.InputLemmas.{seen_read}
 use Rattle.sw_http.proofs.ReadsLemmas.{reads_map, reads_then}
 use Rattle.sw_http.proofs.reader.next_request.Goals as goal
 
@@ -42,7 +43,7 @@ returns-in_err-body-clause-seen g c e =
     let same = exit.2 in
     let opens = rw c.in-Head.is at c.in_ok-open.ensures.opening in
     cut_body _ _ _ _ _ _ _ c.in-Head.open c.in-Head.room opens (c.in_err-body.ensures.told_first (cc)) c.in_err-body.ensures.puts
-    (c.in_err-body.ensures.framed (cc)) (c.in_err-body.ensures.cut (cc))
+    (c.in_err-body.ensures.cut (cc))
 
 pub returns-in_err-body-clause-puts : goal.returns-in_err-body-clause-puts
 returns-in_err-body-clause-puts g c =
@@ -85,3 +86,16 @@ pub returns-in-None-clause-puts : goal.returns-in-None-clause-puts
 returns-in-None-clause-puts g c =
     let opens = rw c.in-Head.is at c.in_ok-open.ensures.opening in
     called_once _ _ c.in-Head.open c.in-Head.room _ _ opens c.in_ok-body.ensures.puts
+
+pub returns-in_err-open-clause-wanted : goal.returns-in_err-open-clause-wanted
+returns-in_err-open-clause-wanted g c e =
+    let exit = err_from_is_err_and c.from_residual.result c.from_residual.ensures.1 in
+    let given = exit.1 in
+    let same = exit.2 in
+    let wanting : fault_of c.in_err-open.field-0.0 ≡ faults.NoMemory = cc in
+    c.in_err-open.ensures.wanted (ap Err (fault_is_wanting _ wanting))
+
+pub returns-in_err-body-clause-wanted : goal.returns-in_err-body-clause-wanted
+returns-in_err-body-clause-wanted g c e =
+    let opens = rw c.in-Head.is at c.in_ok-open.ensures.opening in
+    wanted_body _ _ _ c.in-Head.open c.in-Head.room opens (seen_read _ _ _ _ c.read_body.ensures.reads.given)

@@ -1,10 +1,9 @@
-use Rattle.std.specs.Prelude.{is_some}
-use Rattle.std.proofs.Common.{sym, ◌∙◌, ◌≡◌, ℕ, List, true, Option, Some, ap, subst}
+use Rattle.std.proofs.Common.{sym, ◌∙◌, ◌≡◌, Option, Some, subst}
 use Rattle.std.proofs.lemmas.Result.{err_from_is_err_and}
 use Rattle.sw_http.proofs.RequestLemmas.{nothing_told, part_of_all}
 use Rattle.sw_message.specs.Framing.{framing_of}
 use Rattle.sw_message.specs.declared.framing.Framing.{Framing}
-use Rattle.sw_http.specs.ChunkSteps.{HasNoBody}
+use Rattle.sw_http.specs.ChunkSteps.{IsBodyCut}
 use Rattle.sw_http.proofs.InputLemmas.{seen_map}
 use Rattle.sw_http.proofs.ReadsLemmas.{reads_map, reads_none}
 use Rattle.sw_http.proofs.reader.read_body.Goals as goal
@@ -26,15 +25,13 @@ returns-in_err-send_continue-clause-reads g c = reads_none _ _ _
 pub returns-in_err-take_body-clause-reads : goal.returns-in_err-take_body-clause-reads
 returns-in_err-take_body-clause-reads g c =
     let framing : framing_of c.args.fields.now ≡ Some c.in-Some.framing = sym c.framing_of.ensures ∙ c.in-Some.is in
-    reads_map _ _ (HasNoBody (Some c.in-Some.framing) c.args.room) _ c.take_body.ensures.reads
-    (λ now. seen_map _ now (HasNoBody (Some c.in-Some.framing) c.args.room)
-    (λ (seen : List ℕ). (is_some (framing_of c.args.fields.now) ≡ true) × HasNoBody (framing_of c.args.fields.now) c.args.room seen)
-    (λ bytes none. (ap is_some framing, subst (λ (f : Option Framing). HasNoBody f c.args.room bytes) (sym framing) none)))
+    reads_map _ _ (IsBodyCut (Some c.in-Some.framing) c.args.room) _ c.take_body.ensures.reads
+    (λ now. seen_map _ now (IsBodyCut (Some c.in-Some.framing) c.args.room) (IsBodyCut (framing_of c.args.fields.now) c.args.room)
+    (λ bytes cut. subst (λ (f : Option Framing). IsBodyCut f c.args.room bytes) (sym framing) cut))
 
 pub returns-clause-reads : goal.returns-clause-reads
 returns-clause-reads g c =
     let framing : framing_of c.args.fields.now ≡ Some c.in-Some.framing = sym c.framing_of.ensures ∙ c.in-Some.is in
-    reads_map _ _ (HasNoBody (Some c.in-Some.framing) c.args.room) _ c.take_body.ensures.reads
-    (λ now. seen_map _ now (HasNoBody (Some c.in-Some.framing) c.args.room)
-    (λ (seen : List ℕ). (is_some (framing_of c.args.fields.now) ≡ true) × HasNoBody (framing_of c.args.fields.now) c.args.room seen)
-    (λ bytes none. (ap is_some framing, subst (λ (f : Option Framing). HasNoBody f c.args.room bytes) (sym framing) none)))
+    reads_map _ _ (IsBodyCut (Some c.in-Some.framing) c.args.room) _ c.take_body.ensures.reads
+    (λ now. seen_map _ now (IsBodyCut (Some c.in-Some.framing) c.args.room) (IsBodyCut (framing_of c.args.fields.now) c.args.room)
+    (λ bytes cut. subst (λ (f : Option Framing). IsBodyCut f c.args.room bytes) (sym framing) cut))

@@ -58,12 +58,13 @@ loop-skipped-preserved g c =
     }
 
 pub returns-in_err-read_more-clause-cut : goal.returns-in_err-read_more-clause-cut
-returns-in_err-read_more-clause-cut g c _ =
+returns-in_err-read_more-clause-cut g c =
+    let exit = err_from_is_err_and c.from_residual.result c.from_residual.ensures.1 in
     let is = c.run_len-run.ensures ∙ ap (prefix_len (test_of c.args.class)) c.rest.ensures in
     let taken = run_step _ _ c.loop-skipped.held _ _ _ _ c.loop-skipped.invariant.taken is c.advance.ensures in
     let nothing : length c.rest-in-loop-skipped.result.now ≡ 0 = grind (arith, nat_tests) in
     let read = c.in_err-read_more.ensures.read in
-    run_cut _ _ _ _ _ _ _ _ taken (omega arith) (sym c.rest-in-loop-skipped.ensures ∙ no_bytes _ nothing) read.0 read.1
+    rw exit.1 (run_cut _ _ _ _ _ _ _ _ taken (omega arith) (sym c.rest-in-loop-skipped.ensures ∙ no_bytes _ nothing) read.0 read.1)
 
 pub returns-in_err-read_more-clause-reads : goal.returns-in_err-read_more-clause-reads
 returns-in_err-read_more-clause-reads g c =

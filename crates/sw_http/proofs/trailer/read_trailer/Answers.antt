@@ -1,5 +1,6 @@
 use Rattle.std.proofs.Common.{rules, ℕ, ◌<◌, ◌≤◌, List, length, refl, arith, sym, subst, ◌∙◌}
 use Rattle.std.proofs.KnownBytes.{Keeps-refl, Keeps-trans}
+use Rattle.std.proofs.lemmas.Result.{err_from_is_err_and}
 use Rattle.sw_http.specs.ChunkSteps.{HasNoTrailer, IsTrailerCut}
 use Rattle.httparse.specs.Grammar.{MayBecomeSection}
 use Rattle.sw_http.specs.Fronts.{IsUnfinished}
@@ -57,13 +58,14 @@ loop-len-preserved g c =
     }
 
 pub returns-in_err-read_more-clause-cut : goal.returns-in_err-read_more-clause-cut
-returns-in_err-read_more-clause-cut g c e =
+returns-in_err-read_more-clause-cut g c =
+    let exit = err_from_is_err_and c.from_residual.result c.from_residual.ensures.1 in
     let still = unfinished_still MayBecomeSection _ _ (rw c.rest.ensures c.loop-len.invariant.unfinished) c.in-NotYet.ensures.unfinished in
-    seen_still _ c.loop-len.held _ _ _ IsTrailerCut c.loop-len.invariant.kept c.in_err-read_more.ensures.read.0 c.in_err-read_more.ensures.read.1 (record {
+    rw exit.1 (seen_still _ c.loop-len.held _ _ _ IsTrailerCut c.loop-len.invariant.kept c.in_err-read_more.ensures.read.0 c.in_err-read_more.ensures.read.1 (record {
       none = subst HasNoTrailer c.rest.ensures c.in-NotYet.ensures.look;
       short = subst (λ (l : List ℕ). length l < 65536) c.rest-seen.ensures c.if-seen-ge-MAX_HEAD.false;
       unfinished = subst (IsUnfinished MayBecomeSection) c.rest.ensures still;
-    })
+    }))
 
 pub returns-in_err-read_more-clause-reads : goal.returns-in_err-read_more-clause-reads
 returns-in_err-read_more-clause-reads g c =

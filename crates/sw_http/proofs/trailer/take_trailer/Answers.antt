@@ -1,6 +1,4 @@
 use Rattle.sw_http.proofs.TrailerLemmas.{trailer_over}
-use Rattle.sw_http.proofs.TrailerLemmas.{trailer_cut}
-use Rattle.sw_http.proofs.ReadsLemmas.{reads_map}
 use Rattle.sw_http.proofs.trailer.take_trailer.Goals as goal
 
 pub returns-in-Some-2-clause-none : goal.returns-in-Some-2-clause-none
@@ -8,13 +6,13 @@ returns-in-Some-2-clause-none g c _ =
     trailer_over _ _ _ _ _ c.in_ok-len.ensures.kept (rw c.in-Some.is at c.in_ok-len.ensures.found) c.if-len-room.false
 
 pub returns-in_err-len-clause-reads : goal.returns-in_err-len-clause-reads
-returns-in_err-len-clause-reads g c = reads_map _ _ _ _ c.read_trailer.ensures.reads (λ now. trailer_cut _ now _)
+returns-in_err-len-clause-reads g c = c.read_trailer.ensures.reads
 
 pub returns-in-Some-clause-reads : goal.returns-in-Some-clause-reads
-returns-in-Some-clause-reads g c = reads_map _ _ _ _ c.read_trailer.ensures.reads (λ now. trailer_cut _ now _)
+returns-in-Some-clause-reads g c = c.read_trailer.ensures.reads
 
 pub returns-in-Some-2-clause-reads : goal.returns-in-Some-2-clause-reads
-returns-in-Some-2-clause-reads g c = reads_map _ _ _ _ c.read_trailer.ensures.reads (λ now. trailer_cut _ now _)
+returns-in-Some-2-clause-reads g c = c.read_trailer.ensures.reads
 
 pub returns-in-None-clause-reads : goal.returns-in-None-clause-reads
-returns-in-None-clause-reads g c = reads_map _ _ _ _ c.read_trailer.ensures.reads (λ now. trailer_cut _ now _)
+returns-in-None-clause-reads g c = c.read_trailer.ensures.reads

@@ -2,7 +2,7 @@ use Rattle.std.proofs.Common.{◌≡◌, ◌≤◌, ◌-◌, length}
 use Rattle.std.specs.Io.KnownBytes.{Keeps, prepend_known}
 use Rattle.sw_http.specs.Reads.{ReadsWhile}
 use Rattle.sw_http.specs.Input.{IsShort}
-use Rattle.sw_http.proofs.line_end.hold_two.Given as goal
+use Rattle.sw_http.proofs.line_end.take_line_end.Given as goal
 
 -- the bytes were only read
 abbrev pub invariant-loop-held : goal.invariant-loop-held
