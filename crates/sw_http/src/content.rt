@@ -13,9 +13,10 @@ use std::mem;
 use sw_message::Body;
 use sw_outside::{Bytes, NoMemory, Source};
 
-/// Puts bytes behind those of a body.
+/// Puts bytes behind those of a body. No memory is taken where it then is too large.
 fn keep(body: &mut Body, more: &[u8]) -> Result<(), NoMemory>
-    ensures { OnOk result (body.new ≡ extended body.old more.now) }
+    ensures kept { OnOk result (body.new ≡ extended body.old more.now) }
+    ensures for_some { OnErr result (IsKeptWith body.old (length more.now)) }
 {
     match mem::replace(body, Body::TooLarge) {
         Body::Whole(bytes) => {

@@ -29,7 +29,8 @@ fn is_path(target: &[u8]) -> bool
 
 /// Looks for a head in front of bytes that don't begin with a line end.
 ///
-/// [`Look::NotYet`] comes only where more bytes can make one of them: what can't become a head is told at once.
+/// [`Look::NotYet`] comes only where more bytes can make a head by the parser's grammar: what can't become one is told at once. Whether this
+/// server takes it is told once it is whole.
 pub fn find_head(bytes: &[u8], headers: &mut [HeaderSpan]) -> Look<RequestSpans>
     requires room { length headers.old ≡ 128 }
     requires begins { Stops is_newline bytes.now }

@@ -1,4 +1,4 @@
-ghost use Rattle.std.specs.Prelude.{◌≡◌, ℕ, ◌≤◌, IfOk, length, map, take};
+ghost use Rattle.std.specs.Prelude.{◌≡◌, ℕ, ◌<◌, ◌≤◌, IfOk, OnErr, length, map, take};
 ghost use Rattle.std.specs.List.{before_first, after_first, position_or_len};
 ghost use Rattle.httparse.specs.Grammar.{IsToken};
 ghost use Rattle.httparse.specs.Spans.{IsRequestWithin, span_bytes};
@@ -54,7 +54,7 @@ fn method_of(alloc: Global, token: &[u8]) -> Result<Method, NoMemory>
     }
 }
 
-/// Copies the fields that the spans cover.
+/// Copies the fields that the spans cover. Without fields no memory is taken.
 fn fields_at(
     alloc: Global,
     bytes: &[u8],
@@ -62,7 +62,8 @@ fn fields_at(
     spans: RequestSpans,
 ) -> Result<FieldList, NoMemory>
     requires { IsRequestWithin bytes.now headers.now spans }
-    ensures { IfOk result (λ fields. fields ≡ map (field_at bytes.now) (take spans.headers headers.now)) }
+    ensures copied { IfOk result (λ fields. fields ≡ map (field_at bytes.now) (take spans.headers headers.now)) }
+    ensures for_some { OnErr result (0 < spans.headers) }
 {
     let covered = &headers[..spans.headers];
     let mut fields = Vec::with_capacity(alloc, covered.len())?;

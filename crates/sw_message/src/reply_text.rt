@@ -1,4 +1,4 @@
-ghost use Rattle.std.specs.Prelude.{◌≡◌, ◌-◌, ◌^◌, ◌++◌, ℕ, [], min, decimal, unwrap_or, IfOk, OnOk};
+ghost use Rattle.std.specs.Prelude.{◌≡◌, ◌-◌, ◌^◌, ◌<◌, ◌++◌, ℕ, [], false, length, min, decimal, unwrap_or, IfOk, OnOk, OnErr};
 ghost use Rattle.std.specs.List.{flat_map};
 ghost use Rattle.http.specs.StatusCode.{reason_phrase};
 ghost use Rattle.sw_message.specs.Reply.{status_line, field_line, length_line, body_bytes, body_length, carried, has_no_body, reply_text, room_for};
@@ -60,7 +60,8 @@ fn push_field(text: &mut Vec<u8>, field: &Field) -> Result<(), AllocError>
 }
 
 fn push_fields(text: &mut Vec<u8>, fields: &[Field]) -> Result<(), AllocError>
-    ensures { OnOk result (text.new.items ≡ text.old.items ++ flat_map field_line fields.now) }
+    ensures pushed { OnOk result (text.new.items ≡ text.old.items ++ flat_map field_line fields.now) }
+    ensures for_some { OnErr result (0 < length fields.now) }
 {
     for field in fields {
         push_field(text, field)?;
@@ -94,7 +95,8 @@ fn carried(body: &ReplyBody) -> &[u8]
 }
 
 fn push_length(text: &mut Vec<u8>, response: &Response) -> Result<(), AllocError>
-    ensures { OnOk result (text.new.items ≡ text.old.items ++ length_line response.now) }
+    ensures pushed { OnOk result (text.new.items ≡ text.old.items ++ length_line response.now) }
+    ensures for_some { OnErr result (has_no_body response.now.status ≡ false) }
 {
     if has_no_body(response.status) {
         return Ok(());
@@ -105,7 +107,8 @@ fn push_length(text: &mut Vec<u8>, response: &Response) -> Result<(), AllocError
 }
 
 fn push_body(text: &mut Vec<u8>, response: &Response) -> Result<(), AllocError>
-    ensures { OnOk result (text.new.items ≡ text.old.items ++ body_bytes response.now) }
+    ensures pushed { OnOk result (text.new.items ≡ text.old.items ++ body_bytes response.now) }
+    ensures for_some { OnErr result (0 < length (body_bytes response.now)) }
 {
     if has_no_body(response.status) {
         return Ok(());

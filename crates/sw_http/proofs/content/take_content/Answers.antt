@@ -9,7 +9,7 @@ pub loop-taken-preserved : goal.loop-taken-preserved
 loop-taken-preserved g c =
     let takes = content_kept _ _ _ _ _ _ c.loop-taken.invariant.takes c.hold_some.ensures.kept in
     let within : c.min-piece.result ≤ length c.hold_some.new.held = omega (arith, ap length c.rest-else-left-ge-PIECE.ensures) in
-    let now = c.in_ok-keep.ensures ∙ ap (λ (l : List ℕ). extended c.loop-taken.body (take c.min-piece.result l)) c.rest-else-left-ge-PIECE-2.ensures in
+    let now = c.in_ok-keep.ensures.kept ∙ ap (λ (l : List ℕ). extended c.loop-taken.body (take c.min-piece.result l)) c.rest-else-left-ge-PIECE-2.ensures in
     record {
       few = omega arith;
       takes = content_step _ _ _ _ _ _ _ _ _ takes within c.advance.ensures now;
