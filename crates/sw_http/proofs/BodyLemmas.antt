@@ -225,7 +225,7 @@ plain_cut a left len room fits =
 pub chunks_body_cut : (a left : Option (List ℕ)) (room : ℕ) → IfSeen a left (IsChunkedCut room) → IfSeen a left (IsBodyCut (Some Chunked) room)
 chunks_body_cut a left room =
     seen_map a left (IsChunkedCut room) (IsBodyCut (Some Chunked) room)
-    (λ bytes cut. record { none = no_chunks room bytes cut.none; may = (cut.may, cut.few) })
+    (λ bytes cut. record { none = no_chunks room bytes cut.none; may = cut.may })
 
 -- bytes of a body were read straight to where they stay, while nothing was held
 pub content_cut_straight : (a left now : Option (List ℕ)) (held : List ℕ) (body body_now : Body) (count len : ℕ)

@@ -350,6 +350,7 @@ chunk_cut_data a b left size_line room takes some cut =
       may = inr (record {
         chunk = chunk;
         is_chunk = record { is_line = takes.is_line; some = is_some; size = sized.cut.size ∙ sym takes.size_is };
+        fits = omega (arith, chunk_length chunk, takes.len_is, sized.cut.size, sized.fits);
         more = sized.cut.more;
         whole = append_assoc (print_chunk_line takes.line) rest sized.cut.more ∙ ap (λ (l : List ℕ). print_chunk_line takes.line ++ l) sized.cut.whole;
       });
@@ -367,28 +368,37 @@ chunk_cut_data a b left size_line room takes some cut =
     cut
 
 -- what may still become a chunk or a line may become one behind the chunks
-may_go_on : (bytes : List ℕ) → MayBecomeChunkLine bytes ⊎ MayBecomeChunk bytes → MayBecomeChunkLine bytes ⊎ (MayBecomeChunk bytes ⊎ MayBecomeEnd bytes)
-may_go_on bytes (inl may) = inl may
-may_go_on bytes (inr may) = inr (inl may)
+may_go_on : (room : ℕ) (bytes : List ℕ) → MayBecomeChunkLine bytes ⊎ MayBecomeChunk room bytes
+    → MayBecomeChunkLine bytes ⊎ (MayBecomeChunk room bytes ⊎ MayBecomeEnd bytes)
+may_go_on room bytes (inl may) = inl may
+may_go_on room bytes (inr may) = inr (inl may)
 
 -- bytes behind chunks
 chunked_cut : (a b now : Option (List ℕ)) (body body_now : Body) (room left : ℕ) (P : List ℕ → Type 0) → TakesChunks a b body body_now room left
     → ((rest : List ℕ) → P rest → HasNoChunked left rest)
-    → ((rest : List ℕ) → P rest → MayBecomeChunkLine rest ⊎ (MayBecomeChunk rest ⊎ MayBecomeEnd rest))
+    → ((rest : List ℕ) → P rest → MayBecomeChunkLine rest ⊎ (MayBecomeChunk left rest ⊎ MayBecomeEnd rest))
     → ((rest : List ℕ) → P rest → length rest ≤ left + 65536)
     → IfSeen b now P → IfSeen a now (IsChunkedCut room)
 chunked_cut a b now body body_now room left P takes none may few cut =
     seen_behind a b now _ (IsChunkedCut room) P takes.taken
     (λ rest holds. record {
       none = no_chunked_behind_all takes.chunks room left rest takes.are_chunks takes.room_is (none rest holds);
-      may = record { chunks = takes.chunks; are_chunks = takes.are_chunks; begun = rest; whole = refl; may = may rest holds };
-      few = omega (arith, takes.room_is, few rest holds, length-append (flat_map print_chunk takes.chunks) rest);
+      may = record {
+        chunks = takes.chunks;
+        are_chunks = takes.are_chunks;
+        left = left;
+        left_is = takes.room_is;
+        begun = rest;
+        whole = refl;
+        few = few rest holds;
+        may = may rest holds;
+      };
     }) cut
 
 pub chunks_cut : (a b now : Option (List ℕ)) (body body_now : Body) (room left : ℕ) → TakesChunks a b body body_now room left → IfSeen b now (IsChunkCut left)
     → IfSeen a now (IsChunkedCut room)
 chunks_cut a b now body body_now room left takes cut =
-    chunked_cut a b now body body_now room left (IsChunkCut left) takes (λ rest c. c.none) (λ rest c. may_go_on rest c.may)
+    chunked_cut a b now body body_now room left (IsChunkCut left) takes (λ rest c. c.none) (λ rest c. may_go_on left rest c.may)
     (λ rest c. omega (arith, c.few)) cut
 
 -- a trailer behind the line of size 0

@@ -83,7 +83,7 @@ abbrev pub HasNoTail : ℕ → List ℕ → Type 0
 HasNoTail =
     HasNoneWithin {A = List ℕ × Option (List ℕ)} (λ tail. AllPass is_ows tail.0 × IsExtension tail.1) (λ tail. print_tail tail.0 tail.1)
 
--- no such rest stands in front of bytes, and more bytes can still make one, while no more than room were seen and what ends them
+-- no such rest stands in front of bytes, and more bytes can still make one. All but a line end is within the room
 pub record IsTailCut (room : ℕ) (bytes : List ℕ) : Type 0 where
   pub none : HasNoTail room bytes
   pub pad : List ℕ
@@ -106,7 +106,7 @@ pub record TakesLine (before after : Option (List ℕ)) (size_line : SizeLine) :
 abbrev pub HasNoLineWithin : ℕ → List ℕ → Type 0
 HasNoLineWithin = HasNoneWithin IsChunkLine print_chunk_line
 
--- no chunk line stands in front of bytes, and more bytes can still make one, while no more than room were seen, its digits and what ends it
+-- no chunk line stands in front of bytes, and more bytes can still make one. All but its digits and a line end is within the room
 pub record IsLineCut (room : ℕ) (bytes : List ℕ) : Type 0 where
   pub none : HasNoLineWithin room bytes
   pub may : MayBecomeChunkLine bytes
@@ -132,7 +132,7 @@ pub record TakesData (before after : Option (List ℕ)) (body body_now : Body) (
 abbrev pub HasNoData : ℕ → List ℕ → Type 0
 HasNoData len = HasNone (λ content. length content ≡ len) (λ content. content ++ crlf_bytes)
 
--- they are not all there, and more bytes can still make them
+-- these are not all there, and more bytes can still make them
 pub record IsDataCut (len : ℕ) (bytes : List ℕ) : Type 0 where
   pub none : HasNoData len bytes
   pub content : List ℕ
@@ -145,10 +145,11 @@ pub record IsSizedCut (room : ℕ) (size_line : SizeLine) (bytes : List ℕ) : T
   pub fits : size_line.len + size_line.size + 2 ≤ room
   pub cut : IsDataCut size_line.size bytes
 
--- more bytes can make a chunk of bytes
-pub record MayBecomeChunk (bytes : List ℕ) : Type 0 where
+-- more bytes can make bytes a chunk, and there is room for all of it
+pub record MayBecomeChunk (room : ℕ) (bytes : List ℕ) : Type 0 where
   pub chunk : Chunk
   pub is_chunk : IsChunk chunk
+  pub fits : length (print_chunk chunk) ≤ room
   pub more : List ℕ
   pub whole : bytes ++ more ≡ print_chunk chunk
 
@@ -174,7 +175,7 @@ HasNoChunked = HasNoneWithin IsChunked print_chunked
 -- none does, and more bytes can still make a chunk or the line of size 0
 pub record IsChunkCut (room : ℕ) (bytes : List ℕ) : Type 0 where
   pub none : HasNoChunked room bytes
-  pub may : MayBecomeChunkLine bytes ⊎ MayBecomeChunk bytes
+  pub may : MayBecomeChunkLine bytes ⊎ MayBecomeChunk room bytes
   pub few : length bytes ≤ room + 18
 
 -- what was taken in one step through the chunks
@@ -243,19 +244,22 @@ pub record MayBecomeEnd (bytes : List ℕ) : Type 0 where
   pub whole : bytes ≡ print_chunk_line line ++ rest
   pub cut : IsTrailerCut rest
 
--- bytes are chunks, and then what may still become the next one, the line of size 0 or the trailer behind it
-pub record MayBecomeChunked (bytes : List ℕ) : Type 0 where
+-- bytes are chunks, and then what may still become the next one, the line of size 0 or the trailer behind it. All but a trailer, or the digits and
+-- the end of a line, is within the room
+pub record MayBecomeChunked (room : ℕ) (bytes : List ℕ) : Type 0 where
   pub chunks : List Chunk
   pub are_chunks : All IsChunk chunks
+  pub left : ℕ
+  pub left_is : length (flat_map print_chunk chunks) + left ≡ room
   pub begun : List ℕ
   pub whole : bytes ≡ flat_map print_chunk chunks ++ begun
-  pub may : MayBecomeChunkLine begun ⊎ (MayBecomeChunk begun ⊎ MayBecomeEnd begun)
+  pub few : length begun ≤ left + 65536
+  pub may : MayBecomeChunkLine begun ⊎ (MayBecomeChunk left begun ⊎ MayBecomeEnd begun)
 
--- no chunked body of at most room bytes stands in front of bytes, and more bytes can still make one, while no more than room were seen and a trailer
+-- no chunked body of at most room bytes stands in front of bytes, and more bytes can still make one
 pub record IsChunkedCut (room : ℕ) (bytes : List ℕ) : Type 0 where
   pub none : HasNoChunked room bytes
-  pub may : MayBecomeChunked bytes
-  pub few : length bytes ≤ room + 65536
+  pub may : MayBecomeChunked room bytes
 
 -- ---- a whole body
 
@@ -281,7 +285,7 @@ abbrev pub MayBecomeBody : Option Framing → ℕ → List ℕ → Type 0
 MayBecomeBody None room bytes = ⊥
 MayBecomeBody (Some Unframed) room bytes = ⊥
 MayBecomeBody (Some (Length len)) room bytes = (length bytes < len) × (len ≤ room)
-MayBecomeBody (Some Chunked) room bytes = MayBecomeChunked bytes × (length bytes ≤ room + 65536)
+MayBecomeBody (Some Chunked) room bytes = MayBecomeChunked room bytes
 
 -- no such body stands in front of bytes, and more bytes can still make one
 pub record IsBodyCut (framing : Option Framing) (room : ℕ) (bytes : List ℕ) : Type 0 where

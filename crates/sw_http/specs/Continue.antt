@@ -102,8 +102,8 @@ pub record StartsWithHead (bytes : List ℕ) (head : RequestHead) : Type 0 where
 abbrev pub MayHaveHead : List ℕ → Type 0
 MayHaveHead bytes = AwaitsHead bytes ⊎ ((h : RequestHead) × StartsWithHead bytes h)
 
--- bytes begin with this head, behind line ends that are skipped, and then comes what may still become the body that it announces. The request has
--- at most 1 GiB
+-- bytes begin with this head, behind line ends that are skipped, and then comes what may still become the body that it announces. That has room:
+-- a request has at most 1,073,741,824 bytes
 pub record AwaitsBody (bytes : List ℕ) (head : RequestHead) : Type 0 where
   pub skipped : List ℕ
   pub are_skipped : IsSkipped skipped
