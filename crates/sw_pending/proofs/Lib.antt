@@ -1,0 +1,4 @@
+pub mod Devices
+pub mod Marks
+pub mod Naming
+pub mod Pieces

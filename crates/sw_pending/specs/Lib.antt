@@ -1,0 +1,5 @@
+pub mod InOrder
+pub mod Laws
+pub mod Names
+pub mod Records
+pub mod Rules

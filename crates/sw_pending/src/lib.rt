@@ -1,0 +1,17 @@
+//! Records of updates: which write of an object its container has to be told of, and which of the container's devices have
+//! been told.
+//!
+//! A [`Filed`] names the object and the time, and lists the devices that are done. It is found by its [`RecordKey`], which
+//! says where its file is: [`folder`] and [`write_name`] give the file's folder and name, and [`read_name`] takes exactly
+//! these names.
+//!
+//! No command files records yet.
+#![tactic(auto)]
+
+mod filed;
+mod key;
+pub mod laws;
+mod marking;
+
+pub use filed::{DeviceList, Filed};
+pub use key::{FOLDER_LENGTH, NAME_ROOM, RecordKey, folder, read_name, write_name};
