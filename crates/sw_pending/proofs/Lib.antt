@@ -1,3 +1,4 @@
+pub mod DeviceTexts
 pub mod Devices
 pub mod Marks
 pub mod Naming

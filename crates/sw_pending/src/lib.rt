@@ -12,6 +12,9 @@ mod filed;
 mod key;
 pub mod laws;
 mod marking;
+mod reading;
+mod writing;
 
 pub use filed::{DeviceList, Filed};
 pub use key::{FOLDER_LENGTH, NAME_ROOM, RecordKey, folder, read_name, write_name};
+pub use writing::encode;
