@@ -6,7 +6,7 @@ use Rattle.sw_pending.specs.Records.{marked}
 use Rattle.sw_pending.specs.Rules.{are_in_order, with_device}
 use Rattle.sw_pending.specs.declared.filed.Filed.{Filed}
 use Rattle.sw_pending.specs.InOrder.{in_order-with_device}
-use Rattle.sw_pending.proofs.Devices.{done-with_device, with_done}
+use Rattle.sw_pending.proofs.DeviceOrder.{done-with_device, with_done}
 
 pub marks_add : MarksAdd
 marks_add filed device other = done-with_device other device filed.done

@@ -1,7 +1,9 @@
+pub mod Decoding
 pub mod InOrder
 pub mod Laws
 pub mod Names
 pub mod Outcomes
+pub mod Reading
 pub mod Records
 pub mod Rules
 pub mod Texts

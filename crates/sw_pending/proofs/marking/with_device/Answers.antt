@@ -1,5 +1,5 @@
 use Rattle.std.proofs.Common.{◌∙◌}
-use Rattle.sw_pending.proofs.Devices.{inserted}
+use Rattle.sw_pending.proofs.DeviceOrder.{inserted}
 use Rattle.sw_pending.proofs.marking.with_device.Goals as goal
 
 pub returns : goal.returns

@@ -1,6 +1,6 @@
 use Rattle.std.proofs.Common.{rules, tests, nat_lt}
 use Rattle.std.proofs.lemmas.List.Sorted.{answers_always}
-use Rattle.sw_pending.proofs.Devices.{in_order-answer}
+use Rattle.sw_pending.proofs.DeviceOrder.{in_order-answer}
 use Rattle.sw_pending.proofs.filed.Filed.are_in_order.Goals as goal
 
 pub returns : goal.returns
