@@ -30,7 +30,8 @@ devices_text-push d [] e = refl
 devices_text-push d (x ∷ ds) e =
     ap (λ (t : List ℕ). decimal d ++ 44 ∷ t) (devices_text-push x ds e) ∙ sym (append_assoc (decimal d) (44 ∷ devices_text (x ∷ ds)) (44 ∷ decimal e))
 
-devices_text-more : (d : ℕ) (ds : List ℕ) (i : ℕ) → i < length ds → devices_text (d ∷ take (i + 1) ds) ≡ devices_text (d ∷ take i ds) ++ 44 ∷ decimal (get_or ds i 0)
+devices_text-more : (d : ℕ) (ds : List ℕ) (i : ℕ) → i < length ds
+    → devices_text (d ∷ take (i + 1) ds) ≡ devices_text (d ∷ take i ds) ++ 44 ∷ decimal (get_or ds i 0)
 devices_text-more d ds i within =
     ap (λ (l : List ℕ). devices_text (d ∷ l)) (take_more ds i 0 within) ∙ devices_text-push d (take i ds) (get_or ds i 0)
 

@@ -30,8 +30,11 @@ named_takes text key is =
 pub named_again : (key : RecordKey) → IsKey key → named (name_text key) ≡ Some key
 unfolding named
 named_again key is =
-    rw (cut_again 45 (encode_lower key.hash) (text_of key.time) (table_avoids 45 lower_digits key.hash refl refl), digest_again key.hash is.hash, time_of_again key.time is.time)
-    refl
+    rw (
+      cut_again 45 (encode_lower key.hash) (text_of key.time) (table_avoids 45 lower_digits key.hash refl refl),
+      digest_again key.hash is.hash,
+      time_of_again key.time is.time,
+    ) refl
 
 pub named_is : NamedIs
 named_is text key = (named_takes text key, λ is. ap named is.1 ∙ named_again key is.0)

@@ -36,7 +36,8 @@ MarksAreOnce = (filed : Filed) (device : ℕ) → is_done device filed.done ≡ 
 
 -- two records with one text are one record
 abbrev pub OneSpelling : Type 0
-OneSpelling = (secrets : Secrets) (filed other : Filed) → IsRecord secrets filed → IsRecord secrets other → record_text filed ≡ record_text other → filed ≡ other
+OneSpelling = (secrets : Secrets) (filed other : Filed)
+    → IsRecord secrets filed → IsRecord secrets other → record_text filed ≡ record_text other → filed ≡ other
 
 -- the text of a record is read as that record, and as nothing else
 abbrev pub ReadsBack : Type 0

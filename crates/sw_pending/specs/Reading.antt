@@ -1,6 +1,7 @@
 -- How the text of a record is read, line by line. (This project's own. What is promised of the text doesn't rest on these
 -- definitions: they are a step of its proof.)
-use Rattle.std.specs.Prelude.{ℕ, Bool, true, false, ◌==◌, nat_eq, nat_lt, List, [], ◌∷◌, length, drop, codes, if◌then◌else◌, Option, None, Some, Result, Ok, Err}
+use Rattle.std.specs.Prelude.{ℕ, Bool, true, false, ◌==◌, nat_eq, nat_lt, List, [], ◌∷◌, length, drop, codes, if◌then◌else◌}
+use Rattle.std.specs.Prelude.{Option, None, Some, Result, Ok, Err}
 use Rattle.std.specs.List.{slice_split, starts_with}
 use Rattle.std.specs.Str.{bytes_eq}
 use Rattle.sw_hashpath.specs.Paths.{hash_of}

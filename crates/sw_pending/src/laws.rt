@@ -1,6 +1,7 @@
 //! Laws of records. Each function does nothing: its clause is the law.
 
-ghost use Rattle.sw_pending.specs.Laws.{DecodedIsOutcome, DecodedReadsBack, MarksAdd, MarksAreOnce, NamedIs, NamesDiffer, OneOutcome, OneSpelling, ReadsBack, SomeOutcome};
+ghost use Rattle.sw_pending.specs.Laws.{DecodedIsOutcome, DecodedReadsBack, OneOutcome, OneSpelling, ReadsBack, SomeOutcome};
+ghost use Rattle.sw_pending.specs.Laws.{MarksAdd, MarksAreOnce, NamedIs, NamesDiffer};
 
 /// A text names a record's file exactly where it is the name of the file of that key.
 pub fn named_is()

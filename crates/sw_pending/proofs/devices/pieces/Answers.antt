@@ -6,7 +6,7 @@ use Rattle.sw_pending.proofs.devices.pieces.Goals as goal
 
 pub returns : goal.returns
 returns c =
+    let split = c.split.ensures in
     let all = map_from_collect _ c.collect.ensures.ran
-    (YieldsList-from_slice_split _ is_comma c.args.text.now c.split.ensures.rest c.split.ensures.done c.split.ensures.closure (λ x r q k. search (rules, tests)))
-    in
+    (YieldsList-from_slice_split _ is_comma c.args.text.now split.rest split.done split.closure (λ x r q k. search (rules, tests))) in
     rw c.in_ok-collect.was at all

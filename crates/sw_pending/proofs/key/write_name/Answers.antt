@@ -11,8 +11,8 @@ returns-clause-text c =
     let count : ℕ = c.write_text-count.result in
     let digits : c.copy_from_slice.new.self ≡ encode_lower key.hash = c.copy_from_slice.ensures.after ∙ c.hex_text.ensures.text in
     let time : c.copy_from_slice-3.new.self ≡ text_of key.time =
-    c.copy_from_slice-3.ensures.after ∙ ap (take count) c.write_text-count.ensures.text ∙ take_at (text_of key.time) _ count (sym c.write_text-count.ensures.count)
-    in
+    c.copy_from_slice-3.ensures.after
+    ∙ (ap (take count) c.write_text-count.ensures.text ∙ take_at (text_of key.time) _ count (sym c.write_text-count.ensures.count)) in
     rw (c.copy_from_slice-2.ensures.after, digits, time)
     (name_pieces (encode_lower key.hash) (text_of key.time) c.args.out.now count (hex_length key.hash c.hex_text.ensures.rule.0)
     (sym c.write_text-count.ensures.count))
