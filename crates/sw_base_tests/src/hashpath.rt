@@ -6,7 +6,7 @@ use sw_hashpath::{
 };
 use sw_outside::{Bytes, NoMemory};
 
-const OBJECT_HASH: [u8; 16] = [
+pub(crate) const OBJECT_HASH: [u8; 16] = [
     0x06, 0xfb, 0xf0, 0xb5, 0x14, 0xe5, 0x19, 0x9d, 0xfc, 0x4e, 0x00, 0xf4, 0x2e, 0xb5, 0xea, 0x83,
 ];
 
@@ -52,7 +52,7 @@ const NAMES: [(&[u8], &[u8], &[u8], Option<BadName>); 13] = [
 ];
 
 /// The secrets of the ring of the worked examples: no prefix, and the suffix `endcap`.
-fn secrets(alloc: Global) -> Result<Secrets, NoMemory> {
+pub(crate) fn secrets(alloc: Global) -> Result<Secrets, NoMemory> {
     Ok(Secrets {
         prefix: Bytes::from(Vec::new(alloc)),
         suffix: Bytes::copy(alloc, b"endcap")?,
