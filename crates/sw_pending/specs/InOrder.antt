@@ -1,4 +1,4 @@
--- Devices in order stay so with one more in its place: the rule of records that a mark keeps.
+-- Devices in order stay so with one more in its place: the rule of records that a mark keeps. (This project's own.)
 use Rattle.std.specs.Prelude.{◌≡◌, ℕ, Bool, true, false, ◌==◌, nat_lt, if◌then◌else◌, List, [], ◌∷◌, refl}
 use Rattle.std.proofs.Common.{inl, inr}
 use Rattle.std.proofs.lemmas.Bool.{and_from, and_parts, both_ways, cases_order, eqb-false, lt-ltb}

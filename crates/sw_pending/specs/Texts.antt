@@ -1,4 +1,4 @@
--- The text of a record's file: lines, and an empty one. (This project's own. The first lines of paths and times are those of
+-- The text of a record's file: lines, and an empty one. (This project's own. The lines of paths and times are those of
 -- objects' files.)
 use Rattle.std.specs.Prelude.{ℕ, Bool, true, false, List, [], ◌∷◌, ◌++◌, map, codes, decimal}
 use Rattle.std.specs.List.{join_with_byte}
