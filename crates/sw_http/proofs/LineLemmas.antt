@@ -1,5 +1,6 @@
 -- The line before a chunk, piece by piece.
-use Rattle.std.proofs.Common.{◌≡◌, ℕ, ◌+◌, ◌-◌, ◌<◌, ◌≤◌, true, eq-eqb, true≢false, List, [], ◌∷◌, ◌++◌, length, take, drop, Option, None, Some, IfSome, refl, sym, ap}
+use Rattle.std.proofs.Common.{◌≡◌, ℕ, ◌+◌, ◌-◌, ◌<◌, ◌≤◌, true, eq-eqb, true≢false, List, [], ◌∷◌, ◌++◌, length, take, drop}
+use Rattle.std.proofs.Common.{Option, None, Some, IfSome, refl, sym, ap}
 use Rattle.std.proofs.Common.{◌∙◌, subst, arith, append_assoc, length-append, length-take-le, length-drop, take-append-drop, append-nil}
 use Rattle.std.specs.Char.{is_ascii_hexdigit}
 use Rattle.std.specs.Io.KnownBytes.{Consumes, Keeps, prepend_known}

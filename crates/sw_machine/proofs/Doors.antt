@@ -27,7 +27,8 @@ use Rattle.sw_state.specs.declared.state.State.{State}
 use Rattle.sw_step.specs.Steps.{added_by}
 use Rattle.sw_machine.proofs.Going.{changes-go-on, reads-go-on, same-goes}
 use Rattle.sw_machine.specs.Doors.{ContainerChangesGoOn, DeviceListingsGoOn, FilesReadsGoOn, GoesOn, GoesOnBy, HashesReadsGoOn, InfosGoOn, ListingsGoOn}
-use Rattle.sw_machine.specs.Doors.{LooksGoOn, ObjectChangesGoOn, ObjectReadsGoOn, ParcelsGoOn, ReadsGoOn, RestartsGoOn, StandsFor, TimesGoOn, WriteReadsGoOn, cont_line}
+use Rattle.sw_machine.specs.Doors.{LooksGoOn, ObjectChangesGoOn, ObjectReadsGoOn, ParcelsGoOn, ReadsGoOn, RestartsGoOn, StandsFor, TimesGoOn, WriteReadsGoOn}
+use Rattle.sw_machine.specs.Doors.{cont_line}
 use Rattle.sw_machine.specs.Doors.{obj_line}
 use Rattle.sw_machine.specs.Machine.{Came, ContComes, ContReads, ContSide, KnownRow, KnownWrite, Machine, ObjReadsPart, ObjSide, PartReads, Runs}
 use Rattle.sw_machine.specs.Machine.{Steps, made_rows, made_writes}

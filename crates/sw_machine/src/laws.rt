@@ -1,7 +1,8 @@
 //! Laws of runs. Each function does nothing: its clause is the law.
 
 ghost use Rattle.sw_machine.specs.Doors.{ContainerChangesGoOn, DeviceListingsGoOn, FilesReadsGoOn, GoingOnJoins, HashesReadsGoOn, InfosGoOn, ListingsGoOn};
-ghost use Rattle.sw_machine.specs.Doors.{ObjectChangesGoOn, ObjectReadsGoOn, ParcelsGoOn, RestartsGoOn, RunsOnJoin, SameGoesOn, SendingGoesOn, TimesGoOn, WriteReadsGoOn};
+ghost use Rattle.sw_machine.specs.Doors.{ObjectChangesGoOn, ObjectReadsGoOn, ParcelsGoOn, RestartsGoOn, RunsOnJoin, SameGoesOn, SendingGoesOn};
+ghost use Rattle.sw_machine.specs.Doors.{TimesGoOn, WriteReadsGoOn};
 ghost use Rattle.sw_machine.specs.Entering.{HashesCalm, JournalsGrow, LinesTellHashes, LinesTellPlaces, PlacesCalm};
 ghost use Rattle.sw_machine.specs.Laws.{HashesAreTold, HashesMayStand, HashesStand, MessagesWereSent, PlacesAreTold, PlacesMayStand, RowsAreMerged};
 ghost use Rattle.sw_machine.specs.Laws.{RunKeepsTheGreatest, RunSends, RunsJoin};

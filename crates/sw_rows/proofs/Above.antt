@@ -25,13 +25,15 @@ less_at a b = at (nat_lt a b) (a == b)
     at false false = refl
 
 -- the part of a map behind a number has the rows above it
-pub above-part : (es : List (ℕ × Arc Row Global)) (rowid : ℕ) → values_in (entries_between nat_cmp (Excluded rowid) Unbounded es) ≡ rows_above rowid (rows_of es)
+pub above-part : (es : List (ℕ × Arc Row Global)) (rowid : ℕ)
+    → values_in (entries_between nat_cmp (Excluded rowid) Unbounded es) ≡ rows_above rowid (rows_of es)
 above-part [] rowid = refl
 above-part (e ∷ es) rowid = rw (less_at rowid e.0) (at (nat_lt rowid e.0) (above-part es rowid))
   where
     at : (b : Bool) → values_in (entries_between nat_cmp (Excluded rowid) Unbounded es) ≡ rows_above rowid (rows_of es) →
         values_in (cond (b && true) (e ∷ entries_between nat_cmp (Excluded rowid) Unbounded es) (entries_between nat_cmp (Excluded rowid) Unbounded es))
-        ≡ map (λ n. n.row) (cond b (record { rowid = e.0; row = arc_value e.1 } ∷ filter (λ n. nat_lt rowid n.rowid) (rows_of es)) (filter (λ n. nat_lt rowid n.rowid) (rows_of es)))
+        ≡ map (λ n. n.row) (cond b (record { rowid = e.0; row = arc_value e.1 } ∷ filter (λ n. nat_lt rowid n.rowid) (rows_of es))
+        (filter (λ n. nat_lt rowid n.rowid) (rows_of es)))
     at true rest = ap (λ (t : List Row). arc_value e.1 ∷ t) rest
     at false rest = rest
 

@@ -3,7 +3,8 @@ ghost use Rattle.std.specs.Arc.{arc_value};
 ghost use Rattle.std.specs.Option.{option_copied, option_map};
 ghost use Rattle.sw_rows.specs.Left.{rows_left};
 ghost use Rattle.sw_rows.specs.Names.{ListsBetween};
-ghost use Rattle.sw_rows.specs.Rows.{can_restore, find_named, fits, merged, no_rows, no_rows_at, number_named, restored, rows_above, with_row, without, IsListed, IsRising};
+ghost use Rattle.sw_rows.specs.Rows.{can_restore, find_named, fits, merged, no_rows, no_rows_at, number_named, restored, rows_above, with_row};
+ghost use Rattle.sw_rows.specs.Rows.{without, IsListed, IsRising};
 ghost use Rattle.sw_rows.specs.Sums.{bytes_of, count_of, hash_of};
 
 use crate::index::Index;

@@ -65,7 +65,8 @@ pub returns-in_err-read_more-clause-cut : goal.returns-in_err-read_more-clause-c
 returns-in_err-read_more-clause-cut g c =
     let exit = err_from_is_err_and c.from_residual.result c.from_residual.ensures.1 in
     let still = unfinished_still MayBecomeRequest _ _ (rw c.rest.ensures c.loop-spans.invariant.unfinished) c.in-NotYet.ensures.unfinished in
-    rw exit.1 (seen_still _ c.loop-spans.held _ _ _ IsHeadCut c.loop-spans.invariant.kept c.in_err-read_more.ensures.read.0 c.in_err-read_more.ensures.read.1 (record {
+    rw exit.1 (seen_still _ c.loop-spans.held _ _ _ IsHeadCut c.loop-spans.invariant.kept
+    c.in_err-read_more.ensures.read.0 c.in_err-read_more.ensures.read.1 (record {
       begins = c.loop-spans.invariant.begins;
       none = subst HasNoHead c.rest.ensures c.in-NotYet.ensures.look;
       short = subst (λ (l : List ℕ). length l < 65536) c.rest-seen.ensures c.if-seen-ge-MAX_HEAD.false;

@@ -54,7 +54,8 @@ returns-in-CutRow-clause-tables c =
     let above : l.top < rowid = omega (arith, top, c.if-rowid-top.true) in
     let same : exchanged l d.numbers.items c.cut.new.rows.items d.top ≡ without_numbered (exchanged l d.numbers.items d.rows.items d.top) rowid =
     rw c.cut.ensures (draft-cut_new l d.numbers.items d.rows.items d.top rowid is.before above) in
-    rw c.in-CutRow.is (ap (λ (r : Listed). let t : Tables = record { put_time = d.put_time; delete_time = d.delete_time; rows = r; syncs = d.syncs } in Some t) same)
+    rw c.in-CutRow.is
+    (ap (λ (r : Listed). let t : Tables = record { put_time = d.put_time; delete_time = d.delete_time; rows = r; syncs = d.syncs } in Some t) same)
 
 pub returns-in_ok-push-in-CutRow-2-clause-is : goal.returns-in_ok-push-in-CutRow-2-clause-is
 returns-in_ok-push-in-CutRow-2-clause-is c =
@@ -86,4 +87,5 @@ returns-in_ok-push-in-CutRow-2-clause-tables c =
     let le : rowid ≤ l.top = omega (arith, c.top.ensures.top, c.if-rowid-top.false, one) in
     let same : exchanged l numbers d.rows.items d.top ≡ without_numbered (exchanged l d.numbers.items d.rows.items d.top) rowid =
     rw c.in_ok-push-in-CutRow-2.ensures.items (draft-cut_old l d.numbers.items d.rows.items d.top rowid le is.rising) in
-    rw c.in-CutRow-2.is (ap (λ (r : Listed). let t : Tables = record { put_time = d.put_time; delete_time = d.delete_time; rows = r; syncs = d.syncs } in Some t) same)
+    rw c.in-CutRow-2.is
+    (ap (λ (r : Listed). let t : Tables = record { put_time = d.put_time; delete_time = d.delete_time; rows = r; syncs = d.syncs } in Some t) same)

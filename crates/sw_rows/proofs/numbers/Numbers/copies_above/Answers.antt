@@ -27,7 +27,8 @@ returns-in_err-copy-clause-starved c =
 
 pub returns-in_err-push-clause-starved : goal.returns-in_err-push-clause-starved
 returns-in_err-push-clause-starved c =
-    starved c.from_residual-in_err-push.result c.loop-row.rows.items (values_in c.next.new.self) (rows_above c.args.rowid c.args.self.now) (arc_value c.in-Some.row.now)
+    starved c.from_residual-in_err-push.result c.loop-row.rows.items (values_in c.next.new.self) (rows_above c.args.rowid c.args.self.now)
+    (arc_value c.in-Some.row.now)
     (ap (λ t. c.loop-row.rows.items ++ values_in t) (sym c.in-Some.ensures.steps) ∙ c.loop-row.invariant)
 
 pub returns-clause-ok : goal.returns-clause-ok

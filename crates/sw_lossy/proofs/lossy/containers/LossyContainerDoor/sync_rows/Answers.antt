@@ -11,7 +11,8 @@ returns-in-Goes-clause-read g c =
     let now = c.args.self.now in
     becomes g.D.Door.sight g.met.D.FaithfulDoor.carries (look-step c.args.link c.args.device c.args.place.now (parcel_of c.args.to)
     (λ got. Parceled c.args.place.now c.args.to got)) now.acts now.messages
-    c.args.link Goes now.door c.next.new.self.door c.sync_rows.new.self c.sync_rows.result c.next.new.self.acts c.next.new.self.messages now.faults c.next.new.self.faults
+    c.args.link Goes now.door c.next.new.self.door c.sync_rows.new.self c.sync_rows.result c.next.new.self.acts c.next.new.self.messages
+    now.faults c.next.new.self.faults
     now.asks c.next.new.self.asks
     c.next.ensures.door (sym c.next.ensures.fate ∙ c.in-Goes.is) c.next.ensures.acts c.next.ensures.messages c.next.ensures.faults c.next.ensures.later
     c.next.ensures.risen
@@ -44,7 +45,8 @@ sync_rows-requires-in-ComesTwice-2-clause-device g c =
     let s = g.D.Door.sight in
     rw (nodes-after (look-step c.args.link c.args.device c.args.place.now (parcel_of c.args.to) (λ got. Parceled c.args.place.now c.args.to got))
     (λ a b p. p.nodes)
-    (s c.args.self.now.door) (s c.next.new.self.door) (s c.sync_rows-in-ComesTwice.new.self) c.args.link c.sync_rows-in-ComesTwice.result (ap s c.next.ensures.door)
+    (s c.args.self.now.door) (s c.next.new.self.door) (s c.sync_rows-in-ComesTwice.new.self) c.args.link c.sync_rows-in-ComesTwice.result
+    (ap s c.next.ensures.door)
     c.sync_rows-in-ComesTwice.ensures.read)
     c.requires.device
 
@@ -53,7 +55,8 @@ sync_rows-requires-in-ComesTwice-2-clause-fits g c =
     let s = g.D.Door.sight in
     rw (nodes-after (look-step c.args.link c.args.device c.args.place.now (parcel_of c.args.to) (λ got. Parceled c.args.place.now c.args.to got))
     (λ a b p. p.nodes)
-    (s c.args.self.now.door) (s c.next.new.self.door) (s c.sync_rows-in-ComesTwice.new.self) c.args.link c.sync_rows-in-ComesTwice.result (ap s c.next.ensures.door)
+    (s c.args.self.now.door) (s c.next.new.self.door) (s c.sync_rows-in-ComesTwice.new.self) c.args.link c.sync_rows-in-ComesTwice.result
+    (ap s c.next.ensures.door)
     c.sync_rows-in-ComesTwice.ensures.read)
     c.requires.fits
 
