@@ -1,5 +1,5 @@
 -- What a pass came to, and what each event counts for. (This project's own.)
-use Rattle.std.specs.Prelude.{◌==◌, ◌&&◌, ℕ, Bool, false, Option, None, Some}
+use Rattle.std.specs.Prelude.{◌≡◌, ◌==◌, ◌&&◌, ℕ, Bool, true, false, Option, None, Some}
 use Rattle.sw_outside.specs.Counts.{raised}
 use Rattle.sw_container_steps.specs.declared.cont_answer.ContAnswer.{ContAnswer}
 use Rattle.sw_container_steps.specs.declared.cont_answer.ContAnswer.TheVariants as conts
@@ -81,3 +81,8 @@ finished o = record o { done = (o.left == 0) }
 -- done exactly where nothing is left, and a condition of the pass holds
 abbrev pub finished_where : Bool → Outcome → Outcome
 finished_where holds o = record o { done = (o.left == 0) && holds }
+
+-- an answer that gave nothing hinders the pass. Want of memory counts for nothing, and ends it: it doesn't go on
+abbrev pub Hinders : Option Hindrance → Outcome → Outcome → Bool → Type 0
+Hinders (Some hindrance) o p on = (p ≡ hindered o hindrance) × (on ≡ true)
+Hinders None o p on = (p ≡ o) × (on ≡ false)

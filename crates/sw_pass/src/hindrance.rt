@@ -13,7 +13,7 @@ pub enum Hindrance {
     Conflict,
     /// A journal has no room.
     JournalFull,
-    /// A call of a volume failed, or a file is damaged.
+    /// A call of a volume or a keeper failed, or a file is damaged.
     Failed,
 }
 

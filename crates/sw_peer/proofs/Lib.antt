@@ -1,2 +1,3 @@
 pub mod Calls
 pub mod ContCalls
+pub mod Heard

@@ -5,7 +5,7 @@ use Rattle.std.specs.Result.{OnOk, is_ok}
 use Rattle.std.specs.declared.alloc.Global.{Global}
 use Rattle.std.specs.declared.vec.Vec.{Vec}
 use Rattle.sw_outside.specs.Counts.{raised}
-use Rattle.sw_pass.specs.Outcomes.{asking, finished, nothing_yet}
+use Rattle.sw_pass.specs.Outcomes.{Hinders, asking, finished, nothing_yet}
 use Rattle.sw_pass.specs.declared.hindrance.Hindrance.{Hindrance}
 use Rattle.sw_pass.specs.declared.outcome.Outcome.{Outcome}
 use Rattle.sw_object_steps.specs.Parts.{AreHashes}
@@ -14,7 +14,7 @@ use Rattle.sw_peer.specs.declared.link.Link.TheVariants.{Local, Sent}
 use Rattle.sw_replicator.proofs.Reading.{hashes-pair, hashes-told, later, pair-trans}
 use Rattle.sw_replicator.specs.Causes.{AsksEach, AsksOnce}
 use Rattle.sw_replicator.specs.Meeting.{PairMoves, known, state_by}
-use Rattle.sw_replicator.specs.Pushing.{Hinders, differing}
+use Rattle.sw_replicator.specs.Pushing.{differing}
 use Rattle.sw_suffix.specs.declared.told.SuffixHash.{SuffixHash}
 
 -- what a push came to asks alike when it is finished

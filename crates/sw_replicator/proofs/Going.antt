@@ -1,11 +1,12 @@
 -- A push of which nothing is left: each call was answered, and what was sent was acknowledged.
+use Rattle.sw_pass.specs.Turns.{InTurn}
 use Rattle.std.proofs.Common.{◌≡◌, ℕ, Bool, true, false, List, [], ◌∷◌, sym, ◌∙◌, ap, arith, ◌⊎◌, inl, inr, Option, Some, None, Result, Ok, Err}
 use Rattle.std.specs.declared.alloc.Global.{Global}
 use Rattle.std.specs.declared.vec.Vec.{Vec}
 use Rattle.sw_diskfile.specs.declared.file_name.FileName.{FileName}
 use Rattle.sw_diskfile.specs.declared.picking.Picked.{Picked}
 use Rattle.sw_outside.specs.Counts.{raised}
-use Rattle.sw_pass.specs.Outcomes.{answer_hindrance, asking, fault_hindrance, hindered, losing, nothing_yet, sending}
+use Rattle.sw_pass.specs.Outcomes.{Hinders, answer_hindrance, asking, fault_hindrance, hindered, losing, nothing_yet, sending}
 use Rattle.sw_pass.specs.declared.hindrance.Hindrance.{Hindrance}
 use Rattle.sw_pass.specs.declared.hindrance.Hindrance.TheVariants.{Missing}
 use Rattle.sw_pass.specs.declared.outcome.Outcome.{Outcome}
@@ -19,7 +20,7 @@ use Rattle.sw_object_steps.specs.declared.dir_fault.DirFault.{DirFault}
 use Rattle.sw_peer.specs.declared.link.Link.TheVariants.{Local, Sent}
 use Rattle.sw_peer.specs.declared.link.Lost.{Lost}
 use Rattle.sw_object_steps.specs.declared.stored.Stored.{Stored}
-use Rattle.sw_replicator.specs.Pushing.{CountsFor, Hinders, InTurn, IsAskedNext, IsBeside, IsCompared, IsFilePushed, IsLinePushed}
+use Rattle.sw_replicator.specs.Pushing.{CountsFor, IsAskedNext, IsBeside, IsCompared, IsFilePushed, IsLinePushed}
 use Rattle.sw_replicator.specs.Pushing.{IsOursPushed, IsPassedOn, IsRun, IsSuffixPushed, differing, is_wanted}
 use Rattle.sw_suffix.specs.SuffixTexts.{files}
 use Rattle.sw_suffix.specs.declared.dir_line.DirLine.{DirLine}

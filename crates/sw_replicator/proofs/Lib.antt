@@ -12,4 +12,3 @@ pub mod Reaching
 pub mod Reading
 mod Searching
 mod Taking
-pub mod Turns

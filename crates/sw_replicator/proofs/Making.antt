@@ -1,6 +1,7 @@
 -- What a transfer that was acknowledged leaves at the receiver.
 use Rattle.std.proofs.Common.{◌≡◌, ℕ, Bool, true, false, List, [], ◌∷◌, ◌++◌, refl, sym, ◌∙◌, ap, subst, ◌⊎◌, inl, inr, Ok}
 use Rattle.std.specs.List.{fold}
+use Rattle.sw_peer.proofs.Heard.{last}
 use Rattle.sw_hashpath.specs.declared.name.Name.{Name}
 use Rattle.sw_object_steps.proofs.Answering.{refused-held}
 use Rattle.sw_object_steps.proofs.Ruling.{are-rules, none-of}
@@ -20,7 +21,7 @@ use Rattle.sw_peer.proofs.Calls.{calls-moves, comes-moves, made-step}
 use Rattle.sw_peer.specs.Sights.{Calls, Comes, IsAt, IsMade, Moves}
 use Rattle.sw_peer.specs.Sights.{Nodes, Sight}
 use Rattle.sw_peer.specs.declared.link.Link.TheVariants.{Sent}
-use Rattle.sw_replicator.proofs.Reading.{last, same-holds}
+use Rattle.sw_replicator.proofs.Reading.{same-holds}
 use Rattle.sw_replicator.proofs.Taking.{grown-least, least-keeps}
 use Rattle.sw_replicator.specs.Meeting.{known, state_at, state_by}
 use Rattle.sw_state.proofs.JoinLaws.{comes_again}

@@ -1,10 +1,11 @@
 -- What the reads of a push tell, and where its calls move.
-use Rattle.std.proofs.Common.{◌≡◌, ℕ, Bool, true, false, List, [], ◌∷◌, ◌++◌, get_or, refl, sym, ◌∙◌, ap, subst, ◌⊎◌, inl, inr, Option, Result, Ok, Err, IsOk}
-use Rattle.std.proofs.Common.{arith, rules}
+use Rattle.std.proofs.Common.{◌≡◌, ℕ, Bool, true, false, List, [], ◌∷◌, ◌++◌, get_or, refl, sym, ◌∙◌, ap, subst, ◌⊎◌, inl, inr, Option, Result, Ok}
+use Rattle.std.proofs.Common.{arith}
 use Rattle.std.proofs.lemmas.Bool.Decides.{nat_tests}
 use Rattle.std.specs.List.{All}
 use Rattle.std.specs.declared.alloc.Global.{Global}
 use Rattle.std.specs.declared.vec.Vec.{Vec}
+use Rattle.sw_peer.proofs.Heard.{last}
 use Rattle.sw_diskfile.specs.declared.file_name.FileName.{FileName}
 use Rattle.sw_hashpath.specs.HashParts.{suffix_of}
 use Rattle.sw_hashpath.specs.declared.name.Name.{Name}
@@ -21,7 +22,7 @@ use Rattle.sw_object_steps.specs.declared.answer.Answer.{Answer}
 use Rattle.sw_object_steps.specs.declared.change.Change.{Change}
 use Rattle.sw_object_steps.specs.declared.dir_fault.DirFault.{DirFault}
 use Rattle.sw_object_steps.specs.declared.stored.Stored.{Stored}
-use Rattle.sw_peer.proofs.Calls.{IsStep, PartFrame, calls-moves, comes-moves, made-step, moves-refl, moves-trans, moves-wider, part-step, same-refl}
+use Rattle.sw_peer.proofs.Calls.{IsStep, PartFrame, calls-moves, comes-moves, made-step, moves-refl, moves-trans, moves-wider, part-step}
 use Rattle.sw_peer.specs.Sights.{Calls, Comes, HoldsAll, IsAt, IsFilesRead, IsHashesRead, IsInPart, IsMade, IsPartRead, IsSame, IsWriteRead, Moves}
 use Rattle.sw_peer.specs.Sights.{Nodes, PartMoves, Sight, in_part, in_suffix, is_one}
 use Rattle.sw_peer.specs.declared.link.Link.{Link}
@@ -37,21 +38,6 @@ use Rattle.sw_step.proofs.Settled.{tell}
 use Rattle.sw_step.specs.Rules.{doubts_about}
 use Rattle.sw_suffix.specs.declared.dir_line.DirLine.{DirLine}
 use Rattle.sw_suffix.specs.declared.told.SuffixHash.{SuffixHash}
-
--- ---- what is lost
-
--- nothing is lost at the device itself
-pub local-heard : {A : Type 0} (step : Sight → A → Sight → Type 0) (s : Sight) (r : Result A Lost) (t : Sight) → Calls step s Local r t → IsOk r
-local-heard step s (Ok x) t p = search rules
-local-heard step s (Err lost) t p = absurd (apart p.0)
-  where
-    apart : Local ≡ Sent → ⊥
-    apart same = cc
-
--- a call that was answered so
-pub heard : {A : Type 0} (step : Sight → A → Sight → Type 0) (s : Sight) (link : Link) (r q : Result A Lost) (t : Sight)
-    → r ≡ q → Calls step s link r t → Calls step s link q t
-heard {A} step s link r q t is p = subst (λ (y : Result A Lost). Calls step s link y t) is p
 
 -- ---- frames
 
@@ -94,14 +80,6 @@ holds-trans a b c earlier p q alone d hash = q alone d hash ∙ p (earlier alone
 
 pub same-holds : (a b : Sight) → IsSame a b → HoldsAll a b
 same-holds a b p alone d hash = ap (λ (s : Sight). s.objects.holds d hash) p.same
-
--- ---- the copy whose answer was heard
-
-module _ {A : Type 0} (step : Sight → A → Sight → Type 0) where
-  pub last : (s : Sight) (xs : List A) (x : A) (t : Sight) → Comes step s (xs ++ x ∷ []) t
-      → (m : Sight) × (n : Sight) × Comes step s xs m × step m x n × IsSame n t
-  last s [] x t p = (s, p.0, same-refl s, p.1, p.2)
-  last s (y ∷ ys) x t p = let r = last p.0 ys x t p.2 in (r.0, r.1, (p.0, p.1, r.2), r.3, r.4)
 
 -- ---- reads of the partition
 

@@ -1,15 +1,15 @@
 -- The push of a partition from one device to another, over any door: the calls that it makes, one after the other, and what it counts.
 -- (OpenStack Swift's object replicator pushes the suffixes whose hashes differ; what of them is sent, and in which order, is this
 -- project's own.)
-use Rattle.std.specs.Prelude.{◌≡◌, ℕ, Bool, true, false, not, filter, List, [], ◌∷◌, Option, None, Some, ◌⊎◌, Result, Ok, Err}
+use Rattle.std.specs.Prelude.{◌≡◌, ℕ, Bool, true, false, not, filter, List, Option, None, Some, ◌⊎◌, Result, Ok, Err}
 use Rattle.std.specs.Str.{bytes_eq}
 use Rattle.std.specs.declared.alloc.Global.{Global}
 use Rattle.std.specs.declared.vec.Vec.{Vec}
 use Rattle.sw_diskfile.specs.declared.file_name.FileName.{FileName}
 use Rattle.sw_diskfile.specs.declared.picking.Picked.{Picked}
-use Rattle.sw_pass.specs.Outcomes.{answer_hindrance, asking, fault_hindrance, finished, hindered, losing, nothing_yet, sending}
+use Rattle.sw_pass.specs.Outcomes.{Hinders, answer_hindrance, asking, fault_hindrance, finished, hindered, losing, nothing_yet, sending}
+use Rattle.sw_pass.specs.Turns.{InTurn}
 use Rattle.sw_outside.specs.declared.errors.NoMemory.{NoMemory}
-use Rattle.sw_pass.specs.declared.hindrance.Hindrance.{Hindrance}
 use Rattle.sw_pass.specs.declared.hindrance.Hindrance.TheVariants.{Missing}
 use Rattle.sw_pass.specs.declared.outcome.Outcome.{Outcome}
 use Rattle.sw_object_steps.specs.Journals.{Hash}
@@ -44,27 +44,12 @@ is_wanted theirs file = is_new_to (picked_outline theirs) file.time file.tag
 
 -- ---- counts
 
--- an answer that gave nothing hinders the pass. Want of memory counts for nothing, and ends it: it doesn't go on
-abbrev pub Hinders : Option Hindrance → Outcome → Outcome → Bool → Type 0
-Hinders (Some hindrance) o p on = (p ≡ hindered o hindrance) × (on ≡ true)
-Hinders None o p on = (p ≡ o) × (on ≡ false)
-
 -- what the answer of a transfer counts for: it is acknowledged where the receiver has the write now, or had it
 abbrev pub CountsFor : Change → Result Answer Lost → Outcome → Outcome → Bool → Type 0
 CountsFor change (Ok answer) o p on =
     ((is_held change answer ≡ true) × (p ≡ o) × (on ≡ true))
     ⊎ ((is_held change answer ≡ false) × Hinders (answer_hindrance answer) o p on)
 CountsFor change (Err lost) o p on = (p ≡ losing o) × (on ≡ true)
-
--- ---- one after the other
-
--- the items in order, each from the nodes and the counts that the one before it left; none follows one that wanted memory
-module _ {A : Type 0} (one : A → Sight → Outcome → Sight → Outcome → Bool → Type 0) where
-  abbrev pub InTurn : List A → Sight → Outcome → Sight → Outcome → Bool → Type 0
-  InTurn [] s o t p on = (t ≡ s) × (p ≡ o) × (on ≡ true)
-  InTurn (x ∷ xs) s o t p on =
-      ((mid : Sight) × (between : Outcome) × one x s o mid between true × InTurn xs mid between t p on)
-      ⊎ (one x s o t p false × (on ≡ false))
 
 -- ---- the calls of a push, in their order
 

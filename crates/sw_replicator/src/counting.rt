@@ -1,7 +1,8 @@
+ghost use Rattle.sw_pass.specs.Outcomes.{Hinders};
 ghost use Rattle.std.specs.Prelude.{◌≡◌, Ok};
 ghost use Rattle.std.specs.Result.{is_ok};
 ghost use Rattle.sw_object_steps.specs.declared.change.Change.TheVariants.{Receive};
-ghost use Rattle.sw_replicator.specs.Pushing.{CountsFor, Hinders};
+ghost use Rattle.sw_replicator.specs.Pushing.{CountsFor};
 ghost use Rattle.sw_state.specs.declared.write.Write.{Write};
 
 use sw_object_steps::Answer;

@@ -1,3 +1,4 @@
+ghost use Rattle.sw_pass.specs.Turns.{InTurn};
 ghost use Rattle.std.specs.Prelude.{◌≡◌, true, Ok, Some, map};
 ghost use Rattle.std.specs.Cmp.Lexicographic.{slice_cmp};
 ghost use Rattle.std.specs.List.{All};
@@ -6,7 +7,7 @@ ghost use Rattle.std.specs.Option.{option_to_list};
 ghost use Rattle.std.specs.Ordering.{nat_cmp};
 ghost use Rattle.std.specs.Result.{is_ok};
 ghost use Rattle.sw_object_steps.specs.Parts.{IsOfPart};
-ghost use Rattle.sw_replicator.specs.Pushing.{InTurn, IsFilePushed, IsLinePushed, IsPassedOn};
+ghost use Rattle.sw_replicator.specs.Pushing.{IsFilePushed, IsLinePushed, IsPassedOn};
 ghost use Rattle.sw_replicator.specs.Routes.{Leads};
 
 use crate::comparing::{is_wanted, picked_in};

@@ -1,3 +1,4 @@
+ghost use Rattle.sw_pass.specs.Turns.{InTurn};
 ghost use Rattle.std.specs.Prelude.{◌≡◌, ◌≢◌, ◌<◌, ◌+◌, ◌-◌, ◌^◌, ◌⊎◌, min, true, length, map, IfOk, OnOk};
 ghost use Rattle.std.specs.List.{All};
 ghost use Rattle.std.specs.List.Sorted.{IsStrictlySortedBy};
@@ -7,7 +8,7 @@ ghost use Rattle.sw_outside.specs.Counts.{raised};
 ghost use Rattle.sw_pass.specs.Outcomes.{nothing_yet};
 ghost use Rattle.sw_replicator.specs.Causes.{AsksEach, AsksOnce, HasCauses};
 ghost use Rattle.sw_replicator.specs.Meeting.{Meets, PairMoves, Reaches};
-ghost use Rattle.sw_replicator.specs.Pushing.{InTurn, IsPush, IsRun, IsSuffixPushed, differing};
+ghost use Rattle.sw_replicator.specs.Pushing.{IsPush, IsRun, IsSuffixPushed, differing};
 ghost use Rattle.sw_replicator.specs.Routes.{Leads};
 
 use crate::comparing::differs;

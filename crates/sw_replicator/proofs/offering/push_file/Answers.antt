@@ -1,10 +1,11 @@
 use Rattle.std.proofs.Common.{refl, sym, ◌∙◌, ap, subst, inr, Ok, Err, Some, None}
 use Rattle.std.specs.Result.{is_ok}
+use Rattle.sw_peer.proofs.Heard.{heard, local-heard}
+use Rattle.sw_pass.proofs.Counts.{hinders-of}
 use Rattle.sw_pass.specs.Outcomes.{fault_hindrance}
 use Rattle.sw_peer.specs.Sights.{IsWriteRead, Nodes}
 use Rattle.sw_peer.specs.declared.link.Link.TheVariants.{Local}
-use Rattle.sw_replicator.proofs.Keeping.{hinders-of}
-use Rattle.sw_replicator.proofs.Reading.{heard, local-heard, write-move, write-told}
+use Rattle.sw_replicator.proofs.Reading.{write-move, write-told}
 use Rattle.sw_replicator.specs.Routes.{Leads}
 use Rattle.sw_replicator.proofs.offering.push_file.Goals as goal
 

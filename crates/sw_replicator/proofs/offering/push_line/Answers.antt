@@ -1,3 +1,4 @@
+use Rattle.sw_pass.specs.Turns.{InTurn}
 use Rattle.std.proofs.Common.{sym, subst}
 use Rattle.std.specs.Option.{option_to_list}
 use Rattle.std.specs.Result.{is_ok}
@@ -5,8 +6,8 @@ use Rattle.sw_diskfile.specs.declared.picking.Picked.{Picked}
 use Rattle.sw_object_steps.specs.Parts.{IsOfPart}
 use Rattle.sw_peer.specs.Sights.{Nodes}
 use Rattle.sw_replicator.proofs.Keeping.{files-keep}
-use Rattle.sw_replicator.proofs.Turns.{turn-append, turn-stop}
-use Rattle.sw_replicator.specs.Pushing.{InTurn, IsFilePushed}
+use Rattle.sw_pass.proofs.Turns.{turn-append, turn-stop}
+use Rattle.sw_replicator.specs.Pushing.{IsFilePushed}
 use Rattle.sw_replicator.specs.Routes.{Leads}
 use Rattle.sw_suffix.specs.SuffixTexts.{files}
 use Rattle.sw_replicator.proofs.offering.push_line.Goals as goal

@@ -3,7 +3,7 @@ use Rattle.std.proofs.lemmas.List.Elements.{All-take}
 use Rattle.sw_object_steps.specs.Parts.{IsOfPart}
 use Rattle.sw_peer.specs.Sights.{Nodes}
 use Rattle.sw_replicator.proofs.Keeping.{lines-keep}
-use Rattle.sw_replicator.proofs.Turns.{turn-ended, turn-more}
+use Rattle.sw_pass.proofs.Turns.{turn-ended, turn-more}
 use Rattle.sw_replicator.specs.Pushing.{IsLinePushed}
 use Rattle.sw_replicator.specs.Routes.{Leads}
 use Rattle.sw_suffix.specs.declared.dir_line.DirLine.{DirLine}

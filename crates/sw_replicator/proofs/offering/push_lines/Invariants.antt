@@ -1,5 +1,6 @@
+use Rattle.sw_pass.specs.Turns.{InTurn}
 use Rattle.std.proofs.Common.{◌≡◌, true, take}
-use Rattle.sw_replicator.specs.Pushing.{InTurn, IsLinePushed}
+use Rattle.sw_replicator.specs.Pushing.{IsLinePushed}
 use Rattle.sw_replicator.proofs.offering.push_lines.Given as goal
 
 abbrev pub invariant-loop-line : goal.invariant-loop-line

@@ -1,9 +1,10 @@
+use Rattle.sw_pass.specs.Turns.{InTurn}
 use Rattle.std.proofs.Common.{sym, subst, Option}
 use Rattle.std.specs.Option.{option_to_list}
 use Rattle.std.specs.Result.{is_ok}
 use Rattle.sw_diskfile.specs.declared.file_name.FileName.{FileName}
-use Rattle.sw_replicator.proofs.Turns.{turn-one}
-use Rattle.sw_replicator.specs.Pushing.{InTurn, IsFilePushed}
+use Rattle.sw_pass.proofs.Turns.{turn-one}
+use Rattle.sw_replicator.specs.Pushing.{IsFilePushed}
 use Rattle.sw_replicator.proofs.offering.push_some_file.Goals as goal
 
 pub returns-in-Some-clause-pushes : goal.returns-in-Some-clause-pushes

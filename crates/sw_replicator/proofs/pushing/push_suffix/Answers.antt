@@ -1,17 +1,19 @@
+use Rattle.sw_peer.proofs.Heard.{heard, local-heard}
+use Rattle.sw_pass.proofs.Counts.{hinders-of}
+use Rattle.sw_pass.specs.Turns.{InTurn}
 use Rattle.std.proofs.Common.{◌<◌, ◌^◌, ◌∙◌, refl, sym, ap, subst, map, List, Ok, Err}
 use Rattle.std.specs.List.{All}
 use Rattle.std.specs.Cmp.Lexicographic.{slice_cmp}
 use Rattle.std.specs.List.Sorted.{IsStrictlySortedBy}
 use Rattle.std.specs.Ordering.{nat_cmp}
 use Rattle.std.specs.Result.{is_ok}
-use Rattle.sw_pass.specs.Outcomes.{asking, fault_hindrance, losing}
+use Rattle.sw_pass.specs.Outcomes.{Hinders, asking, fault_hindrance, losing}
 use Rattle.sw_pass.specs.declared.outcome.Outcome.{Outcome}
 use Rattle.sw_object_steps.specs.Parts.{IsOfPart}
 use Rattle.sw_peer.specs.Sights.{IsFilesRead, Nodes}
 use Rattle.sw_peer.specs.declared.link.Link.TheVariants.{Local, Sent}
-use Rattle.sw_replicator.proofs.Keeping.{hinders-of}
-use Rattle.sw_replicator.proofs.Reading.{files-move, files-told, heard, lines-within, local-heard}
-use Rattle.sw_replicator.specs.Pushing.{Hinders, InTurn, IsLinePushed}
+use Rattle.sw_replicator.proofs.Reading.{files-move, files-told, lines-within}
+use Rattle.sw_replicator.specs.Pushing.{IsLinePushed}
 use Rattle.sw_replicator.specs.Routes.{Leads}
 use Rattle.sw_suffix.specs.declared.dir_line.DirLine.{DirLine}
 use Rattle.sw_replicator.proofs.pushing.push_suffix.Goals as goal

@@ -5,7 +5,7 @@ use Rattle.sw_outside.specs.Counts.{raised}
 use Rattle.sw_object_steps.specs.Parts.{md5_in}
 use Rattle.sw_peer.specs.Sights.{Nodes}
 use Rattle.sw_replicator.proofs.Keeping.{suffixes-keep}
-use Rattle.sw_replicator.proofs.Turns.{turn-broken, turn-passed}
+use Rattle.sw_pass.proofs.Turns.{turn-broken, turn-passed}
 use Rattle.sw_replicator.specs.Pushing.{IsSuffixPushed, differing, is_same_md5}
 use Rattle.sw_replicator.specs.Routes.{Leads}
 use Rattle.sw_suffix.specs.declared.told.SuffixHash.{SuffixHash}

@@ -1,5 +1,6 @@
+use Rattle.sw_pass.specs.Turns.{InTurn}
 use Rattle.std.proofs.Common.{◌≡◌, ◌+◌, ◌-◌, ◌^◌, min, true, length, take}
-use Rattle.sw_replicator.specs.Pushing.{InTurn, IsSuffixPushed, differing}
+use Rattle.sw_replicator.specs.Pushing.{IsSuffixPushed, differing}
 use Rattle.sw_replicator.proofs.pushing.push_suffixes.Given as goal
 
 abbrev pub invariant-loop-one : goal.invariant-loop-one

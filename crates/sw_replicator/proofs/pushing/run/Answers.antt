@@ -1,3 +1,6 @@
+use Rattle.sw_peer.proofs.Heard.{heard, local-heard}
+use Rattle.sw_pass.proofs.Counts.{hinders-from}
+use Rattle.sw_pass.specs.Turns.{InTurn}
 use Rattle.std.proofs.Common.{◌≡◌, ◌<◌, ◌∙◌, inl, inr, refl, sym, ap, subst, map, List, Ok, Err}
 use Rattle.std.specs.List.{All}
 use Rattle.std.specs.List.Sorted.{IsStrictlySortedBy}
@@ -9,9 +12,9 @@ use Rattle.sw_pass.specs.declared.outcome.Outcome.{Outcome}
 use Rattle.sw_peer.specs.Sights.{IsHashesRead, Nodes}
 use Rattle.sw_peer.specs.declared.link.Link.TheVariants.{Local, Sent}
 use Rattle.sw_replicator.proofs.Asking.{asks-each, asks-once}
-use Rattle.sw_replicator.proofs.Keeping.{hinders-from, suffixes-keep}
-use Rattle.sw_replicator.proofs.Reading.{hashes-move, hashes-told, heard, local-heard}
-use Rattle.sw_replicator.specs.Pushing.{InTurn, IsSuffixPushed, differing}
+use Rattle.sw_replicator.proofs.Keeping.{suffixes-keep}
+use Rattle.sw_replicator.proofs.Reading.{hashes-move, hashes-told}
+use Rattle.sw_replicator.specs.Pushing.{IsSuffixPushed, differing}
 use Rattle.sw_replicator.specs.Routes.{Leads}
 use Rattle.sw_suffix.specs.declared.told.SuffixHash.{SuffixHash}
 use Rattle.sw_replicator.proofs.pushing.run.Goals as goal
