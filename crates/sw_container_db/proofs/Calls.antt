@@ -2,24 +2,28 @@
 use Rattle.std.proofs.Common.{◌≡◌, ◌≢◌, ℕ, ◌≤◌, Bool, true, false, if◌then◌else◌, List, [], ◌∷◌, ◌++◌, refl, sym, ◌∙◌}
 use Rattle.std.proofs.Common.{ap, subst, arith, Option, Some, None, ◌⊎◌, inl}
 use Rattle.std.proofs.Common.{inr, Result, Ok, Err}
+use Rattle.std.specs.Option.{option_map_or}
 use Rattle.sw_hashpath.specs.declared.place.Place.{Place}
 use Rattle.sw_outside.specs.Counts.{raised}
 use Rattle.sw_keeper.specs.declared.tables.Tables.{Tables}
+use Rattle.sw_rows.specs.Rows.{rows_above}
 use Rattle.sw_rows.specs.Sums.{bytes_of, count_of, hash_of}
+use Rattle.sw_sync.specs.Points.{point_at}
 use Rattle.sw_listing.specs.Listing.{listing}
 use Rattle.sw_listing.specs.declared.entry.Entry.{Entry}
 use Rattle.sw_listing.specs.declared.query.Query.{Query}
 use Rattle.sw_step.specs.Steps.{Tells}
 use Rattle.sw_container_steps.specs.Presence.{deletion_after, is_no_time, is_present}
-use Rattle.sw_container_steps.specs.Reads.{info_of, listing_of}
+use Rattle.sw_container_steps.specs.Reads.{info_of, listing_of, parcel_of}
 use Rattle.sw_container_steps.specs.Steps.{cont_made_answer, creation_answer, entries_for}
 use Rattle.sw_container_steps.specs.Rules.{cont_ending, look_by}
 use Rattle.sw_container_steps.specs.declared.cont_answer.ContAnswer.{ContAnswer}
 use Rattle.sw_container_steps.specs.declared.cont_answer.ContAnswer.TheVariants as conts
 use Rattle.sw_container_steps.specs.declared.cont_change.ContChange.{ContChange}
-use Rattle.sw_container_steps.specs.declared.cont_change.ContChange.TheVariants.{Create, Remove, MergeRow, MergeRows}
+use Rattle.sw_container_steps.specs.declared.cont_change.ContChange.TheVariants.{Create, Remove, MergeRow, MergeRows, SetSync}
 use Rattle.sw_container_steps.specs.declared.cont_entry.ContEntry.{ContEntry}
 use Rattle.sw_container_steps.specs.declared.info.Info.{Info}
+use Rattle.sw_container_steps.specs.declared.syncing.Parcel.{Parcel}
 use Rattle.sw_container_db.specs.Calling.{Called, CalledBy, Came, CommitFails, CommitWants, Counts, Looked, ReadCalled, RefusedBy, SameTables, Seen}
 use Rattle.sw_container_db.specs.Calling.{Wrote, beside, beside_made, call_for, left_by, load_at, loaded_after, raised_by}
 use Rattle.sw_container_db.specs.ContDirs.{ContKept, doubts_in}
@@ -100,6 +104,7 @@ module _ {K : Type 0} (tells : K → Bool) (holds : K → Place → Option Table
   called-made loads others read k n place (Remove time) t front done = done
   called-made loads others read k n place (MergeRow row) t front done = done
   called-made loads others read k n place (MergeRows rows) t front done = done
+  called-made loads others read k n place (SetSync device rowid) t front done = done
 
   -- ---- what was read of the tables
 
@@ -130,6 +135,22 @@ module _ {K : Type 0} (tells : K → Bool) (holds : K → Place → Option Table
                 bytes = bytes_of t.rows.list;
                 hash = hash_of t.rows.list;
                 front = front;
+              }) else Err conts.Absent) n
+          at true = look
+          at false = look
+
+  pub parceled : (k n : ContKept K) (place : Place) (device : ℕ) (t : Option Tables) (front : ℕ) (got : Result Parcel ContAnswer)
+      → got ≡ parcel_of device t front → Seen tells holds faults calls k place n → ReadCalled tells holds faults calls k place got n
+  parceled k n place device t front got is look = subst (λ (r : Result Parcel ContAnswer). ReadCalled tells holds faults calls k place r n) (sym is) (by t)
+    where
+      by : (t : Option Tables) → ReadCalled tells holds faults calls k place (parcel_of device t front) n
+      by None = look
+      by (Some t) = at (is_no_time (deletion_after t.put_time t.delete_time))
+        where
+          at : (b : Bool) → ReadCalled tells holds faults calls {A = Parcel} k place
+              (if b then Ok (record {
+                rows = rows_above (option_map_or (λ (rowid : ℕ). rowid) (point_at t.syncs 0 device) 0) t.rows.list;
+                top = t.rows.top;
               }) else Err conts.Absent) n
           at true = look
           at false = look

@@ -65,12 +65,13 @@ of-place read place change entries are full = of-batch place entries full
     (subst (λ (es : List ContEntry). AreOf cont_rules place (one_batch es)) (sym are) (are-rules.own_changes read place change refl))
 
 -- the sign tells that they were made
-pub seen : (read held : Option Tables) (place : Place) (change : ContChange) (entries : List ContEntry) (sign : Option (ℕ × Option ℕ × ℕ))
-    → cont_refusal read place change ≡ None → entries ≡ entries_for read place change → entries ≢ [] → sign ≡ sign_of read → read ≡ held →
-    sign_of (fold entered held entries) ≢ sign
+pub seen : (read held : Option Tables) (place : Place) (change : ContChange) (entries : List ContEntry) (sign : Option (ℕ × Option ℕ × ℕ × Option ℕ))
+    → cont_refusal read place change ≡ None → entries ≡ entries_for read place change → entries ≢ [] → sign ≡ sign_of entries read → read ≡ held →
+    sign_of entries (fold entered held entries) ≢ sign
 seen read held place change entries sign allowed are full tells is same =
     entries-are-seen read place change allowed (λ none. full (are ∙ none))
-    (ap (λ (e : List ContEntry). sign_of (fold entered read e)) (sym are) ∙ (ap (λ (t : Option Tables). sign_of (fold entered t entries)) is ∙ (same ∙ tells)))
+    (ap (λ (e : List ContEntry). sign_of e (fold entered read e)) (sym are)
+    ∙ (ap (λ (t : Option Tables). sign_of entries (fold entered t entries)) is ∙ (same ∙ (tells ∙ ap (λ (e : List ContEntry). sign_of e read) are))))
 
 -- the tables after the batch are those that are held then
 pub kept-there : (old new : Holdings) (place : Place) (taken read after : Option Tables) (batch : List Change) → taken ≡ read → read ≡ old place →

@@ -2,11 +2,14 @@
 use Rattle.std.proofs.Common.{◌≡◌, ◌≢◌, ℕ, ◌≤◌, Bool, true, false, if◌then◌else◌, List, [], ◌∷◌, ◌++◌, length, Option, Some, None, Result, Ok, Err, ◌⊎◌}
 use Rattle.std.proofs.Common.{inl, inr, refl, sym, ◌∙◌, ap, subst, arith}
 use Rattle.std.specs.List.{fold}
+use Rattle.std.specs.Option.{option_map_or}
 use Rattle.std.proofs.lemmas.List.{append-nil}
 use Rattle.sw_hashpath.specs.declared.place.Place.{Place}
 use Rattle.sw_outside.specs.Faults.{HasRisen}
 use Rattle.sw_keeper.specs.declared.tables.Tables.{Tables}
+use Rattle.sw_rows.specs.Rows.{rows_above}
 use Rattle.sw_rows.specs.Sums.{bytes_of, count_of, hash_of}
+use Rattle.sw_sync.specs.Points.{point_at}
 use Rattle.sw_listing.specs.Listing.{listing}
 use Rattle.sw_listing.specs.declared.query.Query.{Query}
 use Rattle.sw_history.proofs.Growing.{grows-refl, grows-trans}
@@ -17,7 +20,7 @@ use Rattle.sw_step.specs.Steps.{Answers, EndsSeen, EndsUnseen, IsDamaged, IsLost
 use Rattle.sw_container_steps.proofs.Ruling.{made-ends, never-damaged, refusal-ends}
 use Rattle.sw_container_steps.specs.Entries.{entered}
 use Rattle.sw_container_steps.specs.Presence.{deletion_after, is_no_time}
-use Rattle.sw_container_steps.specs.Reads.{info_of, listing_of}
+use Rattle.sw_container_steps.specs.Reads.{info_of, listing_of, parcel_of}
 use Rattle.sw_container_steps.specs.Rules.{ChangesContainer, ContHistory, ContJournal, ReadsContainer, cont_ending, cont_look, cont_room, cont_rules, look_by}
 use Rattle.sw_container_steps.specs.Rules.{one_batch}
 use Rattle.sw_container_steps.specs.Steps.{cont_made_answer, cont_refusal, entries_for}
@@ -26,6 +29,7 @@ use Rattle.sw_container_steps.specs.declared.cont_answer.ContAnswer.TheVariants 
 use Rattle.sw_container_steps.specs.declared.cont_change.ContChange.{ContChange}
 use Rattle.sw_container_steps.specs.declared.cont_entry.ContEntry.{ContEntry}
 use Rattle.sw_container_steps.specs.declared.info.Info.{Info}
+use Rattle.sw_container_steps.specs.declared.syncing.Parcel.{Parcel}
 
 abbrev pub later : ContHistory → ContJournal → ℕ → ContHistory
 later h j f = record h { journal = j; faults = f }
@@ -303,5 +307,16 @@ listing-tells query None front = refl
 listing-tells query (Some t) front = by (is_no_time (deletion_after t.put_time t.delete_time))
   where
     by : (b : Bool) → cont_look (if b then Ok (listing query t.rows.list) else Err conts.Absent) ≡ Tells
+    by true = refl
+    by false = refl
+
+pub parcel-tells : (device : ℕ) (t : Option Tables) (front : ℕ) → cont_look (parcel_of device t front) ≡ Tells
+parcel-tells device None front = refl
+parcel-tells device (Some t) front = by (is_no_time (deletion_after t.put_time t.delete_time))
+  where
+    by : (b : Bool) → cont_look {A = Parcel} (if b then Ok (record {
+      rows = rows_above (option_map_or (λ (rowid : ℕ). rowid) (point_at t.syncs 0 device) 0) t.rows.list;
+      top = t.rows.top;
+    }) else Err conts.Absent) ≡ Tells
     by true = refl
     by false = refl

@@ -144,8 +144,8 @@ module _ {K : Type 0} (tells : K → Bool) (holds : K → Place → Option Table
       → ChangesContainer true (cont_history_of tells holds faults k) (holds k.keeper) d.place change answer
       (record { told = tells k.began; opening = holds k.began; journal = record k.journal { doubts = d.batch.items ∷ [] }; faults = faults keeper })
       (holds keeper d.place)
-      → (tells k.keeper ≡ true → d.sign ≡ sign_of (holds k.keeper d.place))
-      → (tells k.keeper ≡ true → sign_of (fold entered (holds k.keeper d.place) d.batch.items) ≢ d.sign)
+      → (tells k.keeper ≡ true → d.sign ≡ sign_of d.batch.items (holds k.keeper d.place))
+      → (tells k.keeper ≡ true → sign_of d.batch.items (fold entered (holds k.keeper d.place) d.batch.items) ≢ d.sign)
       → IsOf cont_rules d.place d.batch.items → (tells k.began ≡ true → AreHeld now_loaded (holds keeper)) → IsContDir tells holds faults
       (record { keeper = keeper; began = k.began; loaded = now_loaded; fresh = fresh; journal = record k.journal { doubts = d.batch.items ∷ [] } })
       (Some d)
@@ -156,8 +156,8 @@ module _ {K : Type 0} (tells : K → Bool) (holds : K → Place → Option Table
     fits = λ is. fits-after _ d.place change answer (holds keeper) step others is is;
     signed = λ is.
         let here : stood d.place ≡ holds k.keeper d.place = fits-none none is d.place in (
-          sign (node.same ∙ is) ∙ ap sign_of (sym here),
-          subst (λ (t : Option Tables). sign_of (fold entered t d.batch.items) ≢ d.sign) (sym here) (apart (node.same ∙ is)),
+          sign (node.same ∙ is) ∙ ap (sign_of d.batch.items) (sym here),
+          subst (λ (t : Option Tables). sign_of d.batch.items (fold entered t d.batch.items) ≢ d.sign) (sym here) (apart (node.same ∙ is)),
         );
     held = still;
   }
@@ -200,7 +200,7 @@ module _ {K : Type 0} (tells : K → Bool) (holds : K → Place → Option Table
     -- the batch of a doubt had been made
     pub kept-settled : (keeper : K) (fresh : List ContEntry) (now_loaded : List Loaded) (entries : List ContEntry) → tells keeper ≡ tells k.keeper
         → (tells k.keeper ≡ true → (p : Place) → holds keeper p ≡ holds k.keeper p)
-        → (tells k.keeper ≡ true → sign_of (holds k.keeper d.place) ≢ d.sign) → entries ≡ k.journal.entries ++ d.batch.items
+        → (tells k.keeper ≡ true → sign_of d.batch.items (holds k.keeper d.place) ≢ d.sign) → entries ≡ k.journal.entries ++ d.batch.items
         → (tells k.began ≡ true → AreHeld now_loaded (holds keeper)) → IsContDir tells holds faults
         (record {
           keeper = keeper;
@@ -226,7 +226,7 @@ module _ {K : Type 0} (tells : K → Bool) (holds : K → Place → Option Table
 
         made : tells k.began ≡ true → holds k.keeper d.place ≡ fold entered (stood d.place) d.batch.items
         made is = elim (either is) [
-          | inl unmade ↦ absurd (apart (node.same ∙ is) (ap sign_of unmade ∙ sym (signed is).0))
+          | inl unmade ↦ absurd (apart (node.same ∙ is) (ap (sign_of d.batch.items) unmade ∙ sym (signed is).0))
           | inr all ↦ all
         ]
 
@@ -240,7 +240,8 @@ module _ {K : Type 0} (tells : K → Bool) (holds : K → Place → Option Table
 
     -- it had not been made
     pub kept-dropped : (keeper : K) (fresh : List ContEntry) (now_loaded : List Loaded) → tells keeper ≡ tells k.keeper
-        → (tells k.keeper ≡ true → (p : Place) → holds keeper p ≡ holds k.keeper p) → (tells k.keeper ≡ true → sign_of (holds k.keeper d.place) ≡ d.sign)
+        → (tells k.keeper ≡ true → (p : Place) → holds keeper p ≡ holds k.keeper p)
+        → (tells k.keeper ≡ true → sign_of d.batch.items (holds k.keeper d.place) ≡ d.sign)
         → (tells k.began ≡ true → AreHeld now_loaded (holds keeper)) → IsContDir tells holds faults
         (record { keeper = keeper; began = k.began; loaded = now_loaded; fresh = fresh; journal = record k.journal { doubts = [] } }) None
     kept-dropped keeper fresh now_loaded told same sign still = record {
@@ -260,7 +261,7 @@ module _ {K : Type 0} (tells : K → Bool) (holds : K → Place → Option Table
           | inl here ↦ subst (λ (x : Place). holds k.keeper x ≡ stood x) (sym here)
               (elim (either is) [
                 | inl unmade ↦ unmade
-                | inr made ↦ absurd ((signed is).1 (ap sign_of (sym made) ∙ sign (node.same ∙ is)))
+                | inr made ↦ absurd ((signed is).1 (ap (sign_of d.batch.items) (sym made) ∙ sign (node.same ∙ is)))
               ])
           | inr away ↦ elsewhere is p away
         ]

@@ -134,7 +134,8 @@ module _ {K : Type 0} (tells : K → Bool) (holds : K → Place → Option Table
               (λ told. may-there (holds k.keeper) (holds k.keeper) (holds keeper) place changes read batch (λ p. refl) (is told) all_make
               (may (node.same ∙ told)))
 
-          pub doubted-kept : (d : Doubt) (fresh : List ContEntry) → Lacks place others → d.place ≡ place → d.batch.items ≡ batch → d.sign ≡ sign_of read
+          pub doubted-kept : (d : Doubt) (fresh : List ContEntry) → Lacks place others → d.place ≡ place
+              → d.batch.items ≡ batch → d.sign ≡ sign_of d.batch.items read
               → IsContDir tells holds faults (record {
                 keeper = keeper;
                 began = k.began;
@@ -149,8 +150,8 @@ module _ {K : Type 0} (tells : K → Bool) (holds : K → Place → Option Table
               (later (cont_history_of tells holds faults k) (record k.journal { doubts = d.batch.items ∷ [] }) (faults keeper)) (holds keeper x)) (sym here)
               (subst (λ (es : List ContEntry). StepTo conts.Failed (record k.journal { doubts = es ∷ [] }) (faults keeper) (holds keeper place)) (sym items)
               make-doubted))
-              (λ told. sign ∙ ap sign_of (held told ∙ ap (holds k.keeper) (sym here)))
-              (λ told. subst (λ (x : Place). sign_of (fold entered (holds k.keeper x) d.batch.items) ≢ d.sign) (sym here)
+              (λ told. sign ∙ ap (sign_of d.batch.items) (held told ∙ ap (holds k.keeper) (sym here)))
+              (λ told. subst (λ (x : Place). sign_of d.batch.items (fold entered (holds k.keeper x) d.batch.items) ≢ d.sign) (sym here)
               (seen read (holds k.keeper place) place change d.batch.items d.sign decided.0 (items ∙ are) (λ nothing. some (sym items ∙ nothing)) sign
               (held told)))
               (subst (λ (x : Place). IsOf cont_rules x d.batch.items) (sym here)

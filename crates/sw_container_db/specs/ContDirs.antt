@@ -40,7 +40,7 @@ AreOwn (Some d) = IsOf cont_rules d.place d.batch.items
 -- its sign is that of what stands, and it would change that
 abbrev pub IsSigned : Option Doubt → (Place → Option Tables) → Type 0
 IsSigned None stood = ⊤
-IsSigned (Some d) stood = (d.sign ≡ sign_of (stood d.place)) × (sign_of (fold entered (stood d.place) d.batch.items) ≢ d.sign)
+IsSigned (Some d) stood = (d.sign ≡ sign_of d.batch.items (stood d.place)) × (sign_of d.batch.items (fold entered (stood d.place) d.batch.items) ≢ d.sign)
 
 -- the invariant: the keeper tells as it did, and the journal has the one doubt that there may be. Where the keeper tells what it holds, each place may
 -- stand for what is held there, the sign of the doubt tells whether it was made, and what is loaded is what is held

@@ -68,7 +68,7 @@ impl<K: Keeper + Drop> ContDir<K> {
         if !has_room(count, more, self.max_entries, has_numbers(tables, &batch)) {
             return ContAnswer::JournalFull;
         }
-        let sign = sign_of(tables);
+        let sign = sign_of(&batch, tables);
         if make_room(&mut self.entries, &mut self.fresh, batch.len()).is_err() {
             return ContAnswer::NoMemory;
         }

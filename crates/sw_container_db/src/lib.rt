@@ -4,8 +4,9 @@
 //! loaded as long as they are what the keeper holds, so that steps at the same few places need no load: those of at most 64 containers, with at most
 //! 262,144 rows, or of one container alone. Those that were used longest ago go first. It keeps the journal: the entries that were
 //! made since it began, and those of the one step that failed in its commit, of which all were made or none. Whatever step comes next first loads
-//! the doubted place, and by the times of the container and the greatest number that it gave out it finds whether they were made. The values of the
-//! entries that were made are moved, not copied, to where [`ContDir::take_fresh`] takes them out; once they are taken, only contracts see them.
+//! the doubted place, and by the times of the container, the greatest number that it gave out and the sync point that the entries set it finds whether
+//! they were made. The values of the entries that were made are moved, not copied, to where [`ContDir::take_fresh`] takes them out; once they are taken,
+//! only contracts see them.
 //!
 //! Each step is one by the rules of containers (`sw_container_steps`), in the words of `sw_step`. `specs/ContDirs` says what contracts see of a lock,
 //! `specs/Stepping` what a step is, and `specs/Calling` which calls of the keeper it makes, what each leaves where it is the one that failed, and which

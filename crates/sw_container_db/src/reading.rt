@@ -2,13 +2,13 @@ ghost use Rattle.std.specs.Prelude.{◌≡◌, ◌++◌, ◌∷◌, [], List};
 ghost use Rattle.sw_container_db.specs.Calling.{ReadCalled};
 ghost use Rattle.sw_container_db.specs.LoadedList.{IsLast};
 ghost use Rattle.sw_container_db.specs.Stepping.{IsReadStep};
-ghost use Rattle.sw_container_steps.specs.Reads.{info_of, listing_of, times_of};
+ghost use Rattle.sw_container_steps.specs.Reads.{info_of, listing_of, parcel_of, times_of};
 ghost use Rattle.sw_container_db.specs.declared.loaded_list.Loaded.{Loaded};
 ghost use Rattle.sw_hashpath.specs.declared.place.Place.{Place};
 
 use crate::cont_dir::ContDir;
 use std::alloc::Global;
-use sw_container_steps::{ContAnswer, Info, info_of, list, times_of};
+use sw_container_steps::{ContAnswer, Info, Parcel, info_of, list, sync_rows, times_of};
 use sw_hashpath::Place;
 use sw_keeper::{Keeper, Tables};
 use sw_listing::{Entries, Query};
@@ -52,6 +52,23 @@ impl<K: Keeper + Drop> ContDir<K> {
     {
         self.ready(alloc, place)?;
         match list(alloc, self.tables(), query) {
+            Ok(answer) => answer,
+            Err(NoMemory) => Err(ContAnswer::NoMemory),
+        }
+    }
+
+    /// The rows above the sync point that is kept for a device. [`ContAnswer::Absent`] exactly where there is no container.
+    pub fn sync_rows(
+        &mut self,
+        alloc: Global,
+        place: &Place,
+        device: u8,
+    ) -> Result<Parcel, ContAnswer>
+        ensures read { IsReadStep K.tells K.holds K.faults self.old place.now (parcel_of device) result self.new }
+        ensures called { ReadCalled K.tells K.holds K.faults K.calls self.old place.now result self.new }
+    {
+        self.ready(alloc, place)?;
+        match sync_rows(alloc, self.tables(), device) {
             Ok(answer) => answer,
             Err(NoMemory) => Err(ContAnswer::NoMemory),
         }

@@ -61,13 +61,15 @@ impl<K: Keeper + Drop> ContDir<K> {
 
 /// Whether the entries of a doubt were made: the sign of its tables isn't what it was.
 fn was_made<K: Keeper>(alloc: Global, keeper: &mut K, doubt: &Doubt) -> Result<bool, KeeperError>
-    ensures made { IfOk result (λ made. K.tells keeper.old ≡ true → made ≡ true → sign_of (K.holds keeper.old doubt.now.place) ≢ doubt.now.sign) }
-    ensures unmade { IfOk result (λ made. K.tells keeper.old ≡ true → made ≡ false → sign_of (K.holds keeper.old doubt.now.place) ≡ doubt.now.sign) }
+    ensures made { IfOk result (λ made. K.tells keeper.old ≡ true → made ≡ true
+        → sign_of doubt.now.batch.items (K.holds keeper.old doubt.now.place) ≢ doubt.now.sign) }
+    ensures unmade { IfOk result (λ made. K.tells keeper.old ≡ true → made ≡ false
+        → sign_of doubt.now.batch.items (K.holds keeper.old doubt.now.place) ≡ doubt.now.sign) }
     ensures same { K.tells keeper.old ≡ true → (p : Place) → K.holds keeper.new p ≡ K.holds keeper.old p }
     ensures told { K.tells keeper.new ≡ K.tells keeper.old }
     ensures cause { HasCause (K.faults keeper.old) (K.faults keeper.new) result }
     ensures calls { K.calls keeper.new ≡ raised (K.calls keeper.old) }
 {
     let tables = keeper.load(alloc, &doubt.place)?;
-    Ok(!is_same_sign(&sign_of(&tables), &doubt.sign))
+    Ok(!is_same_sign(&sign_of(&doubt.batch, &tables), &doubt.sign))
 }

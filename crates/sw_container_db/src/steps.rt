@@ -46,4 +46,13 @@ impl<K: Keeper + Drop> ContDir<K> {
     {
         self.change(alloc, place, &ContChange::MergeRows { rows })
     }
+
+    /// Keeps that a device has all rows up to a number, where that is above the number that is kept. [`ContAnswer::Absent`] exactly where the
+    /// container is absent.
+    pub fn set_sync(&mut self, alloc: Global, place: &Place, device: u8, rowid: u64) -> ContAnswer
+        ensures made { IsStep K.tells K.holds K.faults self.old place.now (changes.SetSync device rowid) result self.new }
+        ensures called { Called K.tells K.holds K.faults K.calls self.old place.now (changes.SetSync device rowid) result self.new }
+    {
+        self.change(alloc, place, &ContChange::SetSync { device, rowid })
+    }
 }

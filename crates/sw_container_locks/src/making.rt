@@ -2,12 +2,12 @@
 
 ghost use Rattle.std.specs.Prelude.{◌≡◌, []};
 ghost use Rattle.sw_container_locks.specs.Making.{IsChangedIn, IsReadIn, line_of, taken};
-ghost use Rattle.sw_container_steps.specs.Reads.{info_of, listing_of, times_of};
-ghost use Rattle.sw_peer.specs.declared.cont_event.ContEvent.TheVariants.{Changed, Informed, Listed, Timed};
+ghost use Rattle.sw_container_steps.specs.Reads.{info_of, listing_of, parcel_of, times_of};
+ghost use Rattle.sw_peer.specs.declared.cont_event.ContEvent.TheVariants.{Changed, Informed, Listed, Parceled, Timed};
 
 use std::alloc::Global;
 use sw_container_db::ContDir;
-use sw_container_steps::{ContAnswer, ContChange, Info};
+use sw_container_steps::{ContAnswer, ContChange, Info, Parcel};
 use sw_hashpath::Place;
 use sw_keeper::Keeper;
 use sw_listing::{Entries, Query};
@@ -85,6 +85,25 @@ pub(crate) fn list_in<K: Keeper + Drop>(
 {
     let got = dir.list(alloc, place, query);
     let event = ContEvent::Listed(Seen::of(place), Seen::of(query), Seen::of(&got));
+    let line = line_of(alloc, dir, link, device, event);
+    (got, line)
+}
+
+/// Reads the rows above the sync point that the container keeps for a device, and makes the line of that.
+pub(crate) fn sync_rows_in<K: Keeper + Drop>(
+    alloc: Global,
+    dir: &mut ContDir<K>,
+    link: Link,
+    device: u8,
+    place: &Place,
+    to: u8,
+) -> (Result<Parcel, ContAnswer>, KeptLine)
+    requires fresh { dir.old.fresh ≡ [] }
+    ensures { IsReadIn K.tells K.holds K.faults K.calls dir.old link device place.now (parcel_of to) (λ got. Parceled place.now to got) result.0 dir.new
+        result.1 }
+{
+    let got = dir.sync_rows(alloc, place, to);
+    let event = ContEvent::Parceled(Seen::of(place), to, Seen::of(&got));
     let line = line_of(alloc, dir, link, device, event);
     (got, line)
 }

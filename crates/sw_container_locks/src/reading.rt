@@ -1,13 +1,13 @@
 ghost use Rattle.sw_container_locks.specs.Making.{IsReadAt};
 ghost use Rattle.sw_container_locks.specs.Slots.{IsOpen};
-ghost use Rattle.sw_container_steps.specs.Reads.{info_of, listing_of, times_of};
-ghost use Rattle.sw_peer.specs.declared.cont_event.ContEvent.TheVariants.{Informed, Listed, Timed};
+ghost use Rattle.sw_container_steps.specs.Reads.{info_of, listing_of, parcel_of, times_of};
+ghost use Rattle.sw_peer.specs.declared.cont_event.ContEvent.TheVariants.{Informed, Listed, Parceled, Timed};
 
 use crate::cont_locks::ContLocks;
 use crate::cont_slot::ContSlot;
-use crate::making::{info_in, list_in, times_in};
+use crate::making::{info_in, list_in, sync_rows_in, times_in};
 use std::alloc::Global;
-use sw_container_steps::{ContAnswer, Info};
+use sw_container_steps::{ContAnswer, Info, Parcel};
 use sw_hashpath::Place;
 use sw_keeper::Keeper;
 use sw_listing::{Entries, Query};
@@ -75,5 +75,26 @@ impl<K: Keeper + Drop> ContLocks<K> {
             unreachable!()
         };
         list_in(alloc, dir, link, device, place, query)
+    }
+
+    /// Reads the rows above the sync point that the container keeps for the device `to`, and the greatest number given out. [`ContAnswer::Absent`]
+    /// exactly where there is no container.
+    pub fn sync_rows(
+        &mut self,
+        alloc: Global,
+        lock: usize,
+        link: Link,
+        device: u8,
+        place: &Place,
+        to: u8,
+    ) -> (Result<Parcel, ContAnswer>, KeptLine)
+        requires is_open { IsOpen self.old lock }
+        ensures { IsReadAt K.tells K.holds K.faults K.calls lock link device place.now (parcel_of to) (λ got. Parceled place.now to got) self.old result.0
+            self.new result.1 }
+    {
+        let ContSlot::Open(dir) = &mut self.slots[lock] else {
+            unreachable!()
+        };
+        sync_rows_in(alloc, dir, link, device, place, to)
     }
 }

@@ -8,6 +8,7 @@ use Rattle.sw_container_steps.specs.Deciding.{IsDecided}
 use Rattle.sw_container_steps.specs.declared.cont_entry.ContEntry.{ContEntry}
 use Rattle.sw_container_steps.specs.declared.deciding.Decision.TheVariants.{Makes}
 use Rattle.sw_container_steps.specs.Entries.{all_entered}
+use Rattle.sw_container_steps.specs.Laws.{sign_of}
 use Rattle.sw_container_steps.specs.Steps.{entries_for}
 use Rattle.sw_container_db.specs.Calling.{left_by}
 use Rattle.sw_container_db.specs.ContDirs.{ContKept, doubts_in}
@@ -118,7 +119,7 @@ commit-requires g c =
           c.count_of-count.ensures.length c.count_of-more.ensures.length
           c.if-more-eq0.false c.has_numbers.result c.has_room.result c.deref.result.now c.deref.ensures.value c.has_numbers.ensures c.has_room.ensures
           c.if-not-has_room.false c.take_last-tables.result (c.take_last-tables.ensures.taken others (tables_at place read) at)
-          c.deref-2.result.now c.deref-2.ensures.value c.in-Ok.made.batch c.in-Ok.made.tables
+          c.deref-3.result.now c.deref-3.ensures.value c.in-Ok.made.batch c.in-Ok.made.tables
           c.in-Ok.ensures.makes c.in-Ok.ensures.tables
           c.in-Ok.ensures.fits;
     }
@@ -144,7 +145,7 @@ invariant_of-self-in-Ok-commit g c =
     c.count_of-count.ensures.length c.count_of-more.ensures.length
     c.if-more-eq0.false c.has_numbers.result c.has_room.result c.deref.result.now c.deref.ensures.value c.has_numbers.ensures c.has_room.ensures
     c.if-not-has_room.false c.take_last-tables.result (c.take_last-tables.ensures.taken others (tables_at place read) at)
-    c.deref-2.result.now c.deref-2.ensures.value c.in-Ok.made.batch c.in-Ok.made.tables
+    c.deref-3.result.now c.deref-3.ensures.value c.in-Ok.made.batch c.in-Ok.made.tables
     c.in-Ok.ensures.makes c.in-Ok.ensures.tables
     c.commit.new.self c.commit.ensures.told c.commit.ensures.cause.later (λ told. c.in-Ok-commit.ensures.ok told) c.enter.new.entries.items joined
     c.made_answer-answer.result c.made_answer-answer.ensures _ lacks)
@@ -167,7 +168,7 @@ returns-in-Ok-commit-clause-made g c =
     c.count_of-count.ensures.length c.count_of-more.ensures.length
     c.if-more-eq0.false c.has_numbers.result c.has_room.result c.deref.result.now c.deref.ensures.value c.has_numbers.ensures c.has_room.ensures
     c.if-not-has_room.false c.take_last-tables.result (c.take_last-tables.ensures.taken others (tables_at place read) at)
-    c.deref-2.result.now c.deref-2.ensures.value c.in-Ok.made.batch c.in-Ok.made.tables
+    c.deref-3.result.now c.deref-3.ensures.value c.in-Ok.made.batch c.in-Ok.made.tables
     c.in-Ok.ensures.makes c.in-Ok.ensures.tables
     c.commit.new.self c.commit.ensures.told c.commit.ensures.cause.later (λ told. c.in-Ok-commit.ensures.ok told) c.enter.new.entries.items joined
     c.made_answer-answer.result c.made_answer-answer.ensures)
@@ -206,7 +207,7 @@ returns-in-Err-Failed-clause-made g c =
     c.count_of-count.ensures.length c.count_of-more.ensures.length
     c.if-more-eq0.false c.has_numbers.result c.has_room.result c.deref.result.now c.deref.ensures.value c.has_numbers.ensures c.has_room.ensures
     c.if-not-has_room.false c.take_last-tables.result (c.take_last-tables.ensures.taken others (tables_at place read) at)
-    c.deref-2.result.now c.deref-2.ensures.value c.in-Ok.made.batch c.in-Ok.made.tables
+    c.deref-3.result.now c.deref-3.ensures.value c.in-Ok.made.batch c.in-Ok.made.tables
     c.in-Ok.ensures.makes c.in-Ok.ensures.tables
     c.commit.new.self c.commit.ensures.told c.commit.ensures.cause.later risen may in
     elim c.match-made-2.branch [
@@ -236,11 +237,12 @@ invariant_of-self-in-Err-Failed g c =
     c.count_of-count.ensures.length c.count_of-more.ensures.length
     c.if-more-eq0.false c.has_numbers.result c.has_room.result c.deref.result.now c.deref.ensures.value c.has_numbers.ensures c.has_room.ensures
     c.if-not-has_room.false c.take_last-tables.result (c.take_last-tables.ensures.taken others (tables_at place read) at)
-    c.deref-2.result.now c.deref-2.ensures.value c.in-Ok.made.batch c.in-Ok.made.tables
+    c.deref-3.result.now c.deref-3.ensures.value c.in-Ok.made.batch c.in-Ok.made.tables
     c.in-Ok.ensures.makes c.in-Ok.ensures.tables
     c.commit.new.self c.commit.ensures.told c.commit.ensures.cause.later risen may
     (record { place = c.let_go-in-Err-Failed.result; batch = c.into-batch.result; sign = c.sign_of-sign.result }) _ lacks
-    (c.let_go-in-Err-Failed.ensures.place others (tables_at place None) emptied) refl c.sign_of-sign.ensures)
+    (c.let_go-in-Err-Failed.ensures.place others (tables_at place None) emptied) refl
+    (c.sign_of-sign.ensures ∙ ap (λ (es : List ContEntry). sign_of es read) c.deref-2.ensures.value))
 
 pub invariant_of-self-in-Err-Failed-2 : goal.invariant_of-self-in-Err-Failed-2
 invariant_of-self-in-Err-Failed-2 g c =
@@ -264,11 +266,12 @@ invariant_of-self-in-Err-Failed-2 g c =
     c.count_of-count.ensures.length c.count_of-more.ensures.length
     c.if-more-eq0.false c.has_numbers.result c.has_room.result c.deref.result.now c.deref.ensures.value c.has_numbers.ensures c.has_room.ensures
     c.if-not-has_room.false c.take_last-tables.result (c.take_last-tables.ensures.taken others (tables_at place read) at)
-    c.deref-2.result.now c.deref-2.ensures.value c.in-Ok.made.batch c.in-Ok.made.tables
+    c.deref-3.result.now c.deref-3.ensures.value c.in-Ok.made.batch c.in-Ok.made.tables
     c.in-Ok.ensures.makes c.in-Ok.ensures.tables
     c.commit.new.self c.commit.ensures.told c.commit.ensures.cause.later risen may
     (record { place = c.let_go-in-Err-Failed.result; batch = c.into-batch.result; sign = c.sign_of-sign.result }) _ lacks
-    (c.let_go-in-Err-Failed.ensures.place others (tables_at place None) emptied) refl c.sign_of-sign.ensures)
+    (c.let_go-in-Err-Failed.ensures.place others (tables_at place None) emptied) refl
+    (c.sign_of-sign.ensures ∙ ap (λ (es : List ContEntry). sign_of es read) c.deref-2.ensures.value))
 
 pub invariant_of-self-in_default : goal.invariant_of-self-in_default
 invariant_of-self-in_default g c =
@@ -333,8 +336,8 @@ returns-in-Ok-commit-clause-called g c others given at =
     let are : c.into-batch.result.items ≡ entries_for given place change = c.into-batch.ensures ∙ decided.1 in
     let full : c.into-batch.result.items ≢ [] = nonempty c.into-batch.result.items c.count_of-more.result c.count_of-more.ensures.length c.if-more-eq0.false in
     let leaves : c.in-Ok.made.tables ≡ left_by given place change = c.in-Ok.ensures.tables
-    ∙ (ap (λ (t : Option Tables). all_entered t c.deref-2.result.now) (c.take_last-tables.ensures.taken others (tables_at place given) inside)
-    ∙ ap (all_entered given) (c.deref-2.ensures.value ∙ are)) in
+    ∙ (ap (λ (t : Option Tables). all_entered t c.deref-3.result.now) (c.take_last-tables.ensures.taken others (tables_at place given) inside)
+    ∙ ap (all_entered given) (c.deref-3.ensures.value ∙ are)) in
     rw (sym c.self.view_is, c.made_answer-answer.ensures)
     (called-made v.tells v.holds v.faults v.calls 0 others given _ _ place change c.last-tables.result.now
     (c.count_of-count.result + c.count_of-more.result)
