@@ -3,7 +3,7 @@ use crate::steps::{place, time};
 use std::alloc::Global;
 use std::test::Fail;
 use sw_container_locks::ContLocks;
-use sw_container_steps::{ContAnswer, ContChange};
+use sw_container_steps::{ContAnswer, ContChange, Parcel};
 use sw_hashpath::Place;
 use sw_keeper::{Keeper, MemKeeper};
 use sw_listing::Query;
@@ -78,6 +78,21 @@ fn listed<K: Keeper + Drop>(
     Some(listing.ok()?.as_slice().len())
 }
 
+/// How many rows go to device 1 from a lock, and the greatest number given out, where the container is there.
+fn parceled<K: Keeper + Drop>(
+    alloc: Global,
+    locks: &mut ContLocks<K>,
+    lock: usize,
+    place: &Place,
+) -> Option<(usize, u64)> {
+    if !locks.is_open(lock) {
+        return None;
+    }
+    let (parcel, _) = locks.sync_rows(alloc, lock, Link::Sent, 0, place, 1);
+    let Parcel { rows, top } = parcel.ok()?;
+    Some((rows.as_slice().len(), top))
+}
+
 /// Lifts the second lock, and sets it down again: how many keepers were given.
 fn restarted<K: Keeper + Drop>(alloc: Global, locks: &mut ContLocks<K>) -> Option<usize> {
     if !locks.is_open(1) {
@@ -104,6 +119,7 @@ fn a_restarted_lock_keeps_its_containers_and_no_entries(rt: HostRuntime) -> Resu
     assert_eq!(rt; front(alloc, &mut locks, 1, &place), Some(0));
     assert_eq!(rt; put_time(alloc, &mut locks, 1, &place), Some(1));
     assert_eq!(rt; listed(alloc, &mut locks, 1, &place, &query), Some(0));
+    assert_eq!(rt; parceled(alloc, &mut locks, 1, &place), Some((0, 0)));
     assert_eq!(rt; created(alloc, &mut locks, 2, &place), None);
     assert_eq!(rt; locks.stop().len(), 2);
     Ok(())

@@ -19,3 +19,5 @@ mod making;
 mod rows;
 #[cfg(test)]
 mod steps;
+#[cfg(test)]
+mod syncs;

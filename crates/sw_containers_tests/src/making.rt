@@ -39,6 +39,15 @@ fn text(alloc: Global, text: &str) -> Result<Bytes, NoMemory>
     Ok(bytes)
 }
 
+/// Whether these are the names of the rows, in order.
+pub fn are_named(rows: &[Row], names: &[&str]) -> bool {
+    rows.len() == names.len()
+        && rows
+            .iter()
+            .zip(names)
+            .all(|(row, name)| row.name.as_slice() == name.as_bytes())
+}
+
 /// Merges a row, and tells whether it was put in.
 pub fn merge(rt: &impl Abort, alloc: Global, rows: &mut Rows, row: Row) -> Result<bool, Fail> {
     assert!(rt; rows.top() < 1000);

@@ -1,4 +1,4 @@
-use crate::making::{merge, row};
+use crate::making::{are_named, merge, row};
 use std::test::Fail;
 use sw_rows::{NamedRows, Rows, laws};
 
@@ -68,6 +68,7 @@ fn rows_come_in_the_order_of_their_numbers_and_are_copied(rt: HostRuntime) -> Re
     }
     assert!(rt; is_list(&rows, &[(2, "a"), (3, "c"), (4, "b")]));
     assert!(rt; is_list(&rows.copy(alloc)?, &[(2, "a"), (3, "c"), (4, "b")]));
+    assert!(rt; are_named(&rows.above(alloc, 2)?, &["c", "b"]));
     assert!(rt;
         rows.get(b"a")
             .is_some_and(|row| row.created_at.units() == 1)

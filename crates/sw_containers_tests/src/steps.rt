@@ -21,12 +21,15 @@ enum Step {
     Row(&'static str, u64, bool),
     /// Two rows of a name at two times, both live.
     Rows(&'static str, u64, u64),
+    /// A sync point: its device, and its number.
+    Sync(u8, u64),
 }
 
 /// Steps one after the other at a container of a hidden account: each with the name of its answer and the number in it, then
 /// the greatest number of a row, and how many rows are live; none where the container is absent.
-const STEPS: [(Step, &str, u64, u64, Option<u64>); 16] = [
+const STEPS: [(Step, &str, u64, u64, Option<u64>); 21] = [
     (Step::Remove(1), "Absent", 0, 0, None),
+    (Step::Sync(1, 1), "Absent", 0, 0, None),
     (Step::Row("o", 500_000, true), "Absent", 0, 0, None),
     (Step::Row("o", 500_000, false), "Done", 2, 1, Some(1)),
     (Step::Row("o", 500_000, true), "Done", 3, 2, Some(0)),
@@ -42,6 +45,10 @@ const STEPS: [(Step, &str, u64, u64, Option<u64>); 16] = [
     (Step::Rows("q", 2, 1), "Done", 10, 6, Some(1)),
     (Step::Row("q", 3, true), "Done", 11, 7, Some(0)),
     (Step::Create(500_002), "There", 11, 7, Some(0)),
+    (Step::Sync(1, 7), "Done", 12, 7, Some(0)),
+    (Step::Sync(1, 7), "Done", 12, 7, Some(0)),
+    (Step::Sync(1, 6), "Done", 12, 7, Some(0)),
+    (Step::Sync(2, 0), "Done", 13, 7, Some(0)),
 ];
 
 pub fn time(units: u64) -> Timestamp {
@@ -70,6 +77,10 @@ fn change_of(alloc: Global, step: &Step) -> Result<ContChange, NoMemory> {
                 rows: RowList::from(vec![in alloc; first, second]?),
             }
         }
+        Step::Sync(device, rowid) => ContChange::SetSync {
+            device: *device,
+            rowid: *rowid,
+        },
     })
 }
 
