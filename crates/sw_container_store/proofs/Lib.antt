@@ -1,3 +1,4 @@
 mod Running
 mod Paging
 mod Naming
+mod Syncing

@@ -2,9 +2,9 @@
 -- project's own.)
 use Rattle.std.specs.Prelude.{ℕ, List, codes}
 use Rattle.sw_container_store.specs.declared.statements.Command.{Command}
-use Rattle.sw_container_store.specs.declared.statements.Command.TheVariants.{Begin, Commit, PutInfo, PutRow, CutRow}
+use Rattle.sw_container_store.specs.declared.statements.Command.TheVariants.{Begin, Commit, PutInfo, PutRow, CutRow, PutSync}
 use Rattle.sw_container_store.specs.declared.statements.Query.{Query}
-use Rattle.sw_container_store.specs.declared.statements.Query.TheVariants.{Format, Info, Top, Rows}
+use Rattle.sw_container_store.specs.declared.statements.Query.TheVariants.{Format, Info, Top, Rows, Syncs}
 
 unfoldable pub command_text : Command → List ℕ
 command_text Begin = codes "BEGIN"
@@ -13,6 +13,7 @@ command_text PutInfo =
     codes "INSERT OR REPLACE INTO container_info (id, account, container, hash, put_timestamp, delete_timestamp) VALUES (1, ?1, ?2, ?3, ?4, ?5)"
 command_text PutRow = codes "INSERT INTO object (ROWID, name, created_at, size, content_type, etag, deleted) VALUES (?1, ?2, ?3, ?4, ?5, ?6, ?7)"
 command_text CutRow = codes "DELETE FROM object WHERE ROWID = ?1"
+command_text PutSync = codes "INSERT OR REPLACE INTO outgoing_sync (range, device, sync_point) VALUES (?1, ?2, ?3)"
 
 -- how many rows a command changes where it is done
 unfoldable pub changes_of : Command → ℕ
@@ -21,9 +22,11 @@ changes_of Commit = 0
 changes_of PutInfo = 1
 changes_of PutRow = 1
 changes_of CutRow = 1
+changes_of PutSync = 1
 
 unfoldable pub query_text : Query → List ℕ
 query_text Format = codes "SELECT version FROM format"
 query_text Info = codes "SELECT account, container, hash, put_timestamp, delete_timestamp FROM container_info"
 query_text Top = codes "SELECT seq FROM sqlite_sequence WHERE name = 'object'"
 query_text Rows = codes "SELECT ROWID, name, created_at, size, content_type, etag, deleted FROM object WHERE ROWID > ?1 ORDER BY ROWID LIMIT 1000"
+query_text Syncs = codes "SELECT range, device, sync_point FROM outgoing_sync ORDER BY range, device"

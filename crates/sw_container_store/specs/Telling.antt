@@ -1,5 +1,5 @@
 -- What a database tells of itself, over any database. (This project's own.)
-use Rattle.std.specs.Prelude.{◌≡◌, ◌-◌, ◌<◌, ◌≤◌, ℕ, ℤ, true, pos, length, map, List, [], ◌∷◌, ◌++◌, Option, None, Some, IfSome, slice_get}
+use Rattle.std.specs.Prelude.{◌≡◌, ◌+◌, ◌-◌, ◌<◌, ◌≤◌, ℕ, ℤ, true, pos, length, map, List, [], ◌∷◌, ◌++◌, Option, None, Some, IfSome, slice_get}
 use Rattle.std.specs.List.{flat_map}
 use Rattle.std.specs.Option.{option_map}
 use Rattle.std.specs.Str.{bytes_eq}
@@ -9,11 +9,12 @@ use Rattle.sw_hashpath.specs.declared.place.Place.{Place}
 use Rattle.sw_keeper.specs.declared.tables.Tables.{Tables}
 use Rattle.sw_rows.specs.Rows.{Listed}
 use Rattle.sw_rows.specs.declared.numbered.Numbered.{Numbered}
+use Rattle.sw_sync.specs.Points.{PointList}
 use Rattle.sw_container_store.specs.declared.reading.Info.{Info}
 use Rattle.sw_container_store.specs.declared.statements.Query.{Query}
-use Rattle.sw_container_store.specs.declared.statements.Query.TheVariants.{Format, Info as InfoQuery, Top, Rows}
+use Rattle.sw_container_store.specs.declared.statements.Query.TheVariants.{Format, Info as InfoQuery, Top, Rows, Syncs}
 use Rattle.sw_container_store.specs.OpenList.{is_same}
-use Rattle.sw_container_store.specs.Values.{info_rows, numbered_values}
+use Rattle.sw_container_store.specs.Values.{info_rows, numbered_values, point_values}
 
 -- the greatest number that was given out, as rows have it
 abbrev pub IsTop : List SqlRow → ℕ → Type 0
@@ -26,12 +27,17 @@ pub record EndsAt (page : List SqlRow) (end : ℤ) : Type 0 where
   pub last : slice_get page (length page - 1) ≡ Some row
   pub number : column row 0 ≡ Int end
 
+-- sync points for all names of a container, of devices that rise from the one number on and are below the other. (All names are the range of number 0.)
+abbrev pub AreSyncs : ℕ → ℕ → PointList → Type 0
+AreSyncs low high [] = low ≤ high
+AreSyncs low high (point ∷ points) = (point.0.0 ≡ 0) × (low ≤ point.0.1) × AreSyncs (point.0.1 + 1) high points
+
 module _ {D : Type 0} where
-  -- asked once, it told that its format is that of this project, which has the number 1
+  -- asked once, it told that its format is that of this project, which has the number 2
   pub record TellsFormat (Shows : Query → SqlRow → D → D → List SqlRow → Type 0) (old new : D) : Type 0 where
     pub row : SqlRow
     pub shown : Shows Format [] old new (row ∷ [])
-    pub number : column row 0 ≡ Int (pos 1)
+    pub number : column row 0 ≡ Int (pos 2)
 
   -- asked once, it told this of itself
   abbrev pub TellsInfo : (Query → SqlRow → D → D → List SqlRow → Type 0) → D → D → Option Info → Type 0
@@ -81,13 +87,20 @@ module _ {D : Type 0} where
     pub top : TellsTop Shows old mid rows.top
     pub list : TellsList Shows mid new rows.list
 
-  -- it was asked of itself, and then its rows: it is the database of the place, and these are its times and rows
+  -- asked once, it told exactly these sync points, each device once; a device has a number below 256
+  pub record TellsSyncs (Shows : Query → SqlRow → D → D → List SqlRow → Type 0) (old new : D) (points : PointList) : Type 0 where
+    pub shown : Shows Syncs [] old new (map point_values points)
+    pub each : AreSyncs 0 256 points
+
+  -- it was asked of itself, then its rows, and then its sync points: it is the database of the place, and these are its times, rows and points
   pub record TellsHeld (Shows : Query → SqlRow → D → D → List SqlRow → Type 0) (place : Place) (old new : D) (tables : Tables) : Type 0 where
     pub mid : D
+    pub read : D
     pub its : Place
     pub same : is_same its place ≡ true
     pub info : TellsInfo Shows old mid (Some record { place = its; put_time = tables.put_time; delete_time = tables.delete_time })
-    pub rows : TellsRows Shows mid new tables.rows
+    pub rows : TellsRows Shows mid read tables.rows
+    pub syncs : TellsSyncs Shows read new tables.syncs
 
   -- these tables are in it: where none are it was asked of itself, and nothing else
   abbrev pub TellsTables : (Query → SqlRow → D → D → List SqlRow → Type 0) → Place → D → D → Option Tables → Type 0

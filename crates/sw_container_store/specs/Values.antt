@@ -5,9 +5,10 @@ use Rattle.sqlite_value.specs.declared.value.Value.{Value}
 use Rattle.sqlite_value.specs.declared.value.Value.TheVariants.{Null, Int, Text, Blob}
 use Rattle.sw_hashpath.specs.declared.place.Place.{Place}
 use Rattle.sw_keeper.specs.declared.batch.Change.{Change}
-use Rattle.sw_keeper.specs.declared.batch.Change.TheVariants.{Times, PutRow, CutRow}
+use Rattle.sw_keeper.specs.declared.batch.Change.TheVariants.{Times, PutRow, CutRow, SetSync}
 use Rattle.sw_rows.specs.declared.numbered.Numbered.{Numbered}
 use Rattle.sw_rows.specs.declared.row.Row.{Row}
+use Rattle.sw_sync.specs.Points.{PointKey}
 use Rattle.sw_container_store.specs.declared.reading.Info.{Info}
 use Rattle.sw_container_store.specs.declared.statements.Command.{Command}
 use Rattle.sw_container_store.specs.declared.statements.Command.TheVariants as command
@@ -36,6 +37,10 @@ row_values rowid row =
 abbrev pub numbered_values : Numbered → SqlRow
 numbered_values n = row_values n.rowid n.row
 
+-- a sync point: the range, the device and the number
+abbrev pub point_values : PointKey × ℕ → SqlRow
+point_values point = Int (pos point.0.0) ∷ Int (pos point.0.1) ∷ Int (pos point.1) ∷ []
+
 -- a command and its values
 pub record Asked : Type 0 where
   pub command : Command
@@ -46,6 +51,7 @@ abbrev pub asked_of : Place → Change → Asked
 asked_of place (Times put_time delete_time) = record { command = command.PutInfo; values = info_values place put_time delete_time }
 asked_of place (PutRow row rowid) = record { command = command.PutRow; values = row_values rowid row }
 asked_of place (CutRow rowid) = record { command = command.CutRow; values = Int (pos rowid) ∷ [] }
+asked_of place (SetSync device rowid) = record { command = command.PutSync; values = point_values ((0, device), rowid) }
 
 abbrev pub begin : Asked
 begin = record { command = command.Begin; values = [] }

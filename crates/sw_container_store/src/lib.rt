@@ -5,7 +5,7 @@
 //! where OpenStack Swift keeps a container's; its databases are connections of `sqlite`. What SQLite promises of a database (that a transaction is made whole
 //! or not at all, also over a crash) is trusted; which statements are asked of it, and how its rows are read, is proved.
 //!
-//! The next layer up is `sw_store`, whose stores start such a keeper beside the volume of each lock. No command asks it for anything yet.
+//! The next layer up is `sw_store`, whose stores start such a keeper beside the volume of each lock; `sw serve` is what asks it.
 #![tactic(auto)]
 
 mod container_store;
@@ -21,4 +21,4 @@ pub use container_store::ContainerStore;
 pub use database::{Damage, Database, Databases};
 pub use host_databases::HostDatabases;
 pub use sql_database::SqlDatabase;
-pub use statements::{Command, Query, SCHEMA};
+pub use statements::{Command, Query, SCHEMA, UPGRADE};

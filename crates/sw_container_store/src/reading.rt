@@ -2,13 +2,14 @@ ghost use Rattle.std.specs.Prelude.{◌≡◌, ◌++◌, ◌∷◌, [], pos, map
 ghost use Rattle.std.specs.Str.{is_utf8 as is_utf8_text};
 ghost use Rattle.sqlite_value.specs.declared.value.Value.TheVariants as value;
 ghost use Rattle.sqlite_value.specs.Order.{column};
-ghost use Rattle.sw_container_store.specs.Telling.{EndsAt, IsChecked, TellsFormat, TellsInfo, TellsPlace, TellsRows, TellsTables, TellsTop};
-ghost use Rattle.sw_container_store.specs.Values.{info_values, numbered_values, time_value};
+ghost use Rattle.sw_container_store.specs.Telling.{AreSyncs, EndsAt, IsChecked, TellsFormat, TellsInfo, TellsPlace};
+ghost use Rattle.sw_container_store.specs.Telling.{TellsRows, TellsSyncs, TellsTables, TellsTop};
+ghost use Rattle.sw_container_store.specs.Values.{info_values, numbered_values, point_values, time_value};
 ghost use Rattle.sw_timestamp.specs.TimeText.{text_of};
 
 use crate::database::{Damage, Database};
 use crate::open_list::{has_hash, is_same};
-use crate::statements::Query;
+use crate::statements::{Query, WHOLE};
 use sqlite::Row;
 use sqlite::types::ValueRef;
 use std::alloc::Global;
@@ -16,6 +17,7 @@ use sw_hashpath::Place;
 use sw_keeper::Tables;
 use sw_outside::{Bytes, NoMemory, StoreError, is_utf8};
 use sw_rows::{Numbered, Rows};
+use sw_sync::Points;
 use sw_timestamp::Timestamp;
 
 /// How many rows are read at once, unless there are no more.
@@ -37,10 +39,12 @@ pub(crate) fn tables_in<D: Database>(
         return Err(database.refuse(Damage::Container));
     }
     let rows = rows_in(alloc, database)?;
+    let syncs = syncs_in(alloc, database)?;
     Ok(Some(Tables {
         put_time: info.put_time,
         delete_time: info.delete_time,
         rows,
+        syncs,
     }))
 }
 
@@ -60,14 +64,14 @@ pub(crate) fn check<D: Database>(
     }
 }
 
-/// Whether the database has the format of this project, which has the number 1.
+/// Whether the database has the format of this project, which has the number 2.
 pub(crate) fn check_format<D: Database>(database: &mut D) -> Result<(), StoreError>
     ensures told { OnOk result (TellsFormat D.shows database.old database.new) }
     ensures key { D.key database.new ≡ D.key database.old }
 {
     let rows = database.ask(Query::Format, &[])?;
     match rows.as_slice() {
-        [row] if number(row, 0) == Some(1) => Ok(()),
+        [row] if number(row, 0) == Some(2) => Ok(()),
         _ => Err(database.refuse(Damage::Format)),
     }
 }
@@ -155,6 +159,18 @@ fn top_in<D: Database>(database: &mut D) -> Result<u64, StoreError>
     }
 }
 
+/// All sync points in a database.
+fn syncs_in<D: Database>(alloc: Global, database: &mut D) -> Result<Points, StoreError>
+    ensures told { IfOk result (λ points. TellsSyncs D.shows database.old database.new points) }
+    ensures key { D.key database.new ≡ D.key database.old }
+{
+    let rows = database.ask(Query::Syncs, &[])?;
+    match points_of(alloc, &rows)? {
+        Some(points) => Ok(points),
+        None => Err(database.refuse(Damage::Row)),
+    }
+}
+
 /// Puts the rows of a page behind the others. It answers false where one of them is none, or can't stand there.
 fn add_page(alloc: Global, rows: &mut Rows, page: &[Row]) -> Result<bool, NoMemory>
     ensures { IfOk result (λ all. IsTrue all →
@@ -176,6 +192,37 @@ fn add(alloc: Global, rows: &mut Rows, row: &Row) -> Result<bool, NoMemory>
         Some(numbered) => rows.restore(alloc, numbered.rowid, numbered.row),
         None => Ok(false),
     }
+}
+
+/// The sync points that rows are, where each is one for all names, of a device that is above the one before it.
+fn points_of(alloc: Global, rows: &[Row]) -> Result<Option<Points>, NoMemory>
+    ensures values { IfOk result (λ points. IfSome points (λ p. map point_values p ≡ rows.now)) }
+    ensures each { IfOk result (λ points. IfSome points (λ p. AreSyncs 0 256 p)) }
+{
+    let mut points = Points::new(alloc);
+    let mut least = 0;
+    for row in rows {
+        let Some((device, rowid)) = point_of(row) else {
+            return Ok(None);
+        };
+        if u16::from(device) < least {
+            return Ok(None);
+        }
+        points.set(WHOLE, device, rowid)?;
+        least = u16::from(device) + 1;
+    }
+    Ok(Some(points))
+}
+
+/// The device and the number of a sync point for all names, where a row is one.
+fn point_of(row: &Row) -> Option<(u8, u64)>
+    ensures { IfSome result (λ point. row.now ≡ point_values ((0, point.0), point.1)) }
+{
+    if row.column_count() != 3 || number(row, 0)? != u64::from(WHOLE) {
+        return None;
+    }
+    let device = u8::try_from(number(row, 1)?).ok()?;
+    Some((device, number(row, 2)?))
 }
 
 /// The number of the last row of a page, as the database has it.
@@ -287,7 +334,7 @@ fn text(row: &Row, at: usize) -> Option<&[u8]>
 }
 
 /// The number in a column, where one stands there that isn't below 0.
-fn number(row: &Row, at: usize) -> Option<u64>
+pub(crate) fn number(row: &Row, at: usize) -> Option<u64>
     ensures { IfSome result (λ number. column row.now at ≡ value.Int (pos number)) }
 {
     match row.get_ref(at) {

@@ -4,7 +4,8 @@ ghost use Rattle.sqlite.specs.State.{Executes, HasCleanDisk, Shown};
 ghost use Rattle.sw_container_store.specs.Statements.{changes_of, command_text, query_text};
 
 use crate::database::{Damage, Database};
-use crate::statements::{Command, Query, SCHEMA};
+use crate::reading::number;
+use crate::statements::{Command, Query, SCHEMA, UPGRADE};
 use sqlite::types::ValueRef;
 use sqlite::{Connection, Error, ErrorCode, File, FileStore, Row};
 use std::io;
@@ -22,7 +23,8 @@ pub struct SqlDatabase<'a, N: Notes> {
 }
 
 impl<'a, N: Notes> SqlDatabase<'a, N> {
-    /// Opens the database at a path, and makes it with its tables where there is none. An open looks at the whole of it.
+    /// Opens the database at a path, and makes it with its tables where there is none. One of format 1 gets the table that it lacks. An open looks at the
+    /// whole of it.
     pub fn open(rt: &HostRuntime, notes: &'a N, path: String) -> Result<Self, StoreError>
         ensures { IfOk result (λ d. d.path ≡ path) }
     {
@@ -40,7 +42,7 @@ impl<'a, N: Notes> SqlDatabase<'a, N> {
         }
     }
 
-    /// Makes the tables, where there are none.
+    /// Makes the tables, where there are none or not all.
     fn make_tables(&mut self) -> Result<(), StoreError>
         ensures { self.new.path ≡ self.old.path }
     {
@@ -59,9 +61,21 @@ impl<'a, N: Notes> SqlDatabase<'a, N> {
 fn make_missing(connection: &mut Connection<FileStore<File>>) -> Result<(), Error> {
     let row = connection.query_row("SELECT count(*) FROM sqlite_schema", &[])?;
     if row.get::<i64>(0)? == 0 {
-        connection.execute_batch(SCHEMA)?;
+        return connection.execute_batch(SCHEMA);
+    }
+    let rows = connection.query_all(Query::Format.text(), &[])?;
+    if is_first_format(&rows) {
+        connection.execute_batch(UPGRADE)?;
     }
     Ok(())
+}
+
+/// Whether the rows of the format say that it is format 1.
+fn is_first_format(rows: &[Row]) -> bool {
+    match rows {
+        [row] => number(row, 0) == Some(1),
+        _ => false,
+    }
 }
 
 /// What an error of a database is to the keeper: want of memory is no failure. The reason of each other one is kept.

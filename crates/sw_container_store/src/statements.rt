@@ -3,16 +3,27 @@ ghost use Rattle.sw_container_store.specs.Statements.{changes_of, command_text, 
 
 /// The tables of a database and the number of their format, made in one transaction. A row's name, of which there is one for each, is found by an index. That
 /// a number (ROWID) is never given out again is kept by AUTOINCREMENT, also over a later start. (After the tables of OpenStack Swift's container databases;
-/// the table of the format, and that the account's and the container's hash is there, are this project's own.)
+/// the table of the format, and that the account's and the container's hash is there, are this project's own. Swift has its points in `outgoing_sync` too, by
+/// the id of the other database; here they are by device, and by range.)
 pub const SCHEMA: &str = "BEGIN; \
 CREATE TABLE format (version INTEGER NOT NULL) STRICT; \
-INSERT INTO format (version) VALUES (1); \
+INSERT INTO format (version) VALUES (2); \
 CREATE TABLE container_info (id INTEGER PRIMARY KEY, account TEXT NOT NULL, container TEXT NOT NULL, hash BLOB NOT NULL, \
 put_timestamp TEXT NOT NULL, delete_timestamp TEXT) STRICT; \
 CREATE TABLE object (ROWID INTEGER PRIMARY KEY AUTOINCREMENT, name TEXT NOT NULL, created_at TEXT NOT NULL, size INTEGER NOT NULL, \
 content_type TEXT NOT NULL, etag BLOB NOT NULL, deleted INTEGER NOT NULL) STRICT; \
 CREATE UNIQUE INDEX object_name ON object (name); \
+CREATE TABLE outgoing_sync (range INTEGER NOT NULL, device INTEGER NOT NULL, sync_point INTEGER NOT NULL, PRIMARY KEY (range, device)) STRICT; \
 COMMIT";
+
+/// Makes the tables of format 1, which had no sync points, those of this format, in one transaction. What is in them stays.
+pub const UPGRADE: &str = "BEGIN; \
+CREATE TABLE outgoing_sync (range INTEGER NOT NULL, device INTEGER NOT NULL, sync_point INTEGER NOT NULL, PRIMARY KEY (range, device)) STRICT; \
+UPDATE format SET version = 2; \
+COMMIT";
+
+/// Sync points are kept for all names of a container, and not for a part of them: by the number of the first range.
+pub(crate) const WHOLE: u32 = 0;
 
 /// What a database is asked to do. Each is one statement.
 #[derive(Clone, Copy, Debug, PartialEq, Eq)]
@@ -27,6 +38,8 @@ pub enum Command {
     PutRow,
     /// Takes the row of a number away.
     CutRow,
+    /// Keeps a sync point, in place of the one of its range and device.
+    PutSync,
 }
 
 impl Command {
@@ -43,6 +56,8 @@ impl Command {
             Command::PutRow =>
                 "INSERT INTO object (ROWID, name, created_at, size, content_type, etag, deleted) VALUES (?1, ?2, ?3, ?4, ?5, ?6, ?7)",
             Command::CutRow => "DELETE FROM object WHERE ROWID = ?1",
+            Command::PutSync =>
+                "INSERT OR REPLACE INTO outgoing_sync (range, device, sync_point) VALUES (?1, ?2, ?3)",
         }
     }
 
@@ -53,7 +68,7 @@ impl Command {
     {
         match self {
             Command::Begin | Command::Commit => 0,
-            Command::PutInfo | Command::PutRow | Command::CutRow => 1,
+            Command::PutInfo | Command::PutRow | Command::CutRow | Command::PutSync => 1,
         }
     }
 }
@@ -69,6 +84,8 @@ pub enum Query {
     Top,
     /// The next rows above a number, in the order of their numbers: at most 1,000.
     Rows,
+    /// All sync points, in order of range, then device.
+    Syncs,
 }
 
 impl Query {
@@ -84,6 +101,8 @@ impl Query {
             Query::Top => "SELECT seq FROM sqlite_sequence WHERE name = 'object'",
             Query::Rows =>
                 "SELECT ROWID, name, created_at, size, content_type, etag, deleted FROM object WHERE ROWID > ?1 ORDER BY ROWID LIMIT 1000",
+            Query::Syncs =>
+                "SELECT range, device, sync_point FROM outgoing_sync ORDER BY range, device",
         }
     }
 }

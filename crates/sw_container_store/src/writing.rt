@@ -2,11 +2,11 @@ ghost use Rattle.std.specs.Prelude.{◌≡◌, ◌∷◌, [], pos, if◌then◌e
 ghost use Rattle.sqlite.specs.Values.{bound};
 ghost use Rattle.sqlite_value.specs.declared.value.Value.TheVariants.{Int, Text, Blob};
 ghost use Rattle.sw_container_store.specs.Runs.{RunsAll};
-ghost use Rattle.sw_container_store.specs.Values.{asked_of, info_values, row_values, transaction};
+ghost use Rattle.sw_container_store.specs.Values.{asked_of, info_values, point_values, row_values, transaction};
 ghost use Rattle.sw_timestamp.specs.TimeText.{text_of};
 
 use crate::database::{Damage, Database};
-use crate::statements::Command;
+use crate::statements::{Command, WHOLE};
 use sqlite::types::ValueRef;
 use sw_hashpath::Place;
 use sw_keeper::{Batch, Change};
@@ -50,6 +50,7 @@ fn make_change<D: Database>(
             let number = number_of(database, *rowid)?;
             database.run(Command::CutRow, &[ValueRef::Int(number)])
         }
+        Change::SetSync { device, rowid } => put_point(database, *device, *rowid),
     }
 }
 
@@ -110,6 +111,21 @@ fn row_values<'a>(
         ValueRef::Blob(row.etag.as_slice()),
         ValueRef::Int(if row.deleted { 1 } else { 0 }),
     ]
+}
+
+fn put_point<D: Database>(database: &mut D, device: u8, rowid: u64) -> Result<(), StoreError>
+    ensures runs { OnOk result (D.runs Command.PutSync (point_values ((0, device), rowid)) database.old database.new) }
+    ensures key { D.key database.new ≡ D.key database.old }
+{
+    let number = number_of(database, rowid)?;
+    database.run(
+        Command::PutSync,
+        &[
+            ValueRef::Int(i64::from(WHOLE)),
+            ValueRef::Int(i64::from(device)),
+            ValueRef::Int(number),
+        ],
+    )
 }
 
 /// The text of a time.

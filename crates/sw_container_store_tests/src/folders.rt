@@ -8,6 +8,7 @@ use sw_hashpath::{Place, Secrets};
 use sw_keeper::{Batch, Change, Tables};
 use sw_outside::{Bytes, NoMemory};
 use sw_rows::Row;
+use sw_sync::Points;
 use sw_timestamp::Timestamp;
 
 /// The path of an empty folder of this process and test.
@@ -83,7 +84,7 @@ pub(crate) fn creation(alloc: Global, name: &str, units: u64) -> Result<Batch, N
     Ok(Batch::from(vec![in alloc; times, Change::PutRow(row, 1)]?))
 }
 
-/// What tables are, in one text: their times, the greatest number given out, and each row.
+/// What tables are, in one text: their times, the greatest number given out, each row, and each sync point.
 pub(crate) fn tables_text(alloc: Global, tables: &Option<Tables>) -> Result<String, Fail> {
     let Some(tables) = tables else {
         return Ok(String::from_str(alloc, "none")?);
@@ -97,6 +98,7 @@ pub(crate) fn tables_text(alloc: Global, tables: &Option<Tables>) -> Result<Stri
     for (rowid, row) in tables.rows.iter() {
         add_row(alloc, &mut text, rowid, row)?;
     }
+    add_points(alloc, &mut text, &tables.syncs)?;
     Ok(text)
 }
 
@@ -111,5 +113,14 @@ fn add_row(alloc: Global, text: &mut String, rowid: u64, row: &Row) -> Result<()
         row.deleted
     )?;
     text.push_str(&row)?;
+    Ok(())
+}
+
+fn add_points(alloc: Global, text: &mut String, points: &Points) -> Result<(), Fail> {
+    for device in 0..=u8::MAX {
+        if let Some(rowid) = points.get(0, device) {
+            text.push_str(&format!(in alloc; "\nsync {device} {rowid}")?)?;
+        }
+    }
     Ok(())
 }

@@ -1,5 +1,6 @@
 //! Tests of containers' databases, over real ones below the host's own folder for such: where a container's stands, that what was put is found by a keeper
-//! that is opened later, that a number isn't given out again, how many databases are open, and that nothing is put into one that is gone.
+//! that is opened later, that a number isn't given out again, how many databases are open, that nothing is put into one that is gone, and what becomes of sync
+//! points, and of a database from before there were any.
 #![tactic(auto)]
 
 #[cfg(test)]
@@ -10,3 +11,5 @@ mod gone;
 mod host;
 #[cfg(test)]
 mod many;
+#[cfg(test)]
+mod syncs;

@@ -1,8 +1,8 @@
-use Rattle.std.proofs.Common.{◌≡◌, ◌∙◌, ℕ, List, Ok, sym, subst}
+use Rattle.std.proofs.Common.{◌∙◌, ℕ, List, Ok, subst}
 use Rattle.sqlite.specs.Files.{file_state}
 use Rattle.sqlite.specs.State.{Executes}
 use Rattle.sqlite.specs.Values.{bound}
-use Rattle.sw_container_store.specs.Statements.{changes_of, command_text}
+use Rattle.sw_container_store.specs.Statements.{changes_of}
 use Rattle.sw_container_store.proofs.sql_database.SqlDatabaseDatabase.run.Goals as goal
 
 -- the text is that of the command, and as many rows were changed as it changes
