@@ -1,0 +1,162 @@
+ghost use Rattle.std.specs.Prelude.{◌≡◌, ◌≢◌, ◌<◌, true, IfOk};
+ghost use Rattle.std.specs.Result.{is_ok};
+ghost use Rattle.sw_cont_replicator.specs.Causes.{HasCauses};
+ghost use Rattle.sw_cont_replicator.specs.Pushing.{IsParcelSent, IsPointKept, IsPush, IsRowSent, IsRun, PairMoves, point_told};
+ghost use Rattle.sw_pass.specs.Outcomes.{nothing_yet};
+ghost use Rattle.sw_pass.specs.Turns.{InTurn};
+
+use crate::counting::{count_answer, count_point, hinder};
+use std::alloc::Global;
+use sw_container_steps::{ContChange, Parcel, RowList};
+use sw_hashpath::Place;
+use sw_outside::NoMemory;
+use sw_pass::{Hindrance, Outcome};
+use sw_peer::{ContainerDoor, Link, Lost};
+use sw_rows::Row;
+
+/// Pushes the rows of a container that the device `to` isn't known to have from the device `from`. The devices differ.
+///
+/// It is done where the sender's own read and the point that it keeps were answered, and the receiver acknowledged each row; `left` of the outcome
+/// counts the rows that it didn't acknowledge, and is 1 where the sender's rows weren't read. [`NoMemory`] comes where a call wanted memory, and none
+/// follows.
+pub fn push_rows<D: ContainerDoor>(
+    alloc: Global,
+    door: &mut D,
+    from: u8,
+    to: u8,
+    place: &Place,
+) -> Result<Outcome, NoMemory>
+    requires from { from < (D.sight door.old).nodes.devices }
+    requires to { to < (D.sight door.old).nodes.devices }
+    requires apart { from ≢ to }
+    requires fits { (D.sight door.old).nodes.fits_place place.now ≡ true }
+    ensures pushes { IsPush from to place.now (D.sight door.old) result (D.sight door.new) }
+    ensures moves { PairMoves from to place.now (D.sight door.old) (D.sight door.new) }
+    ensures asks { (D.sight door.new).asks ≡ (D.sight door.old).asks }
+    ensures causes { IfOk result (λ o. HasCauses (D.sight door.old) (D.sight door.new) o) }
+{
+    let mut outcome = Outcome::new();
+    let kept = run(alloc, door, from, to, place, &mut outcome)?;
+    Ok(outcome.finish_where(kept))
+}
+
+/// The calls of a push. It answers whether the point is kept.
+fn run<D: ContainerDoor>(
+    alloc: Global,
+    door: &mut D,
+    from: u8,
+    to: u8,
+    place: &Place,
+    outcome: &mut Outcome,
+) -> Result<bool, NoMemory>
+    requires from { from < (D.sight door.old).nodes.devices }
+    requires to { to < (D.sight door.old).nodes.devices }
+    requires fits { (D.sight door.old).nodes.fits_place place.now ≡ true }
+    requires fresh { outcome.old ≡ nothing_yet }
+    ensures pushes { IsRun from to place.now (D.sight door.old) (D.sight door.new) outcome.new (point_told result) (is_ok result) }
+    ensures asks { (D.sight door.new).asks ≡ (D.sight door.old).asks }
+{
+    let read = door.sync_rows(alloc, Link::Local, from, place, to);
+    match read.unwrap() {
+        Ok(parcel) => send_parcel(alloc, door, from, to, place, parcel, outcome),
+        Err(answer) => {
+            hinder(Hindrance::of_container_answer(&answer), outcome)?;
+            Ok(false)
+        }
+    }
+}
+
+/// Sends the rows of a parcel, and keeps its greatest number as the point where all were acknowledged.
+fn send_parcel<D: ContainerDoor>(
+    alloc: Global,
+    door: &mut D,
+    from: u8,
+    to: u8,
+    place: &Place,
+    parcel: Parcel,
+    outcome: &mut Outcome,
+) -> Result<bool, NoMemory>
+    requires from { from < (D.sight door.old).nodes.devices }
+    requires to { to < (D.sight door.old).nodes.devices }
+    requires fits { (D.sight door.old).nodes.fits_place place.now ≡ true }
+    ensures pushes { IsParcelSent from to place.now parcel (D.sight door.old) outcome.old (D.sight door.new) outcome.new (point_told result) (is_ok result) }
+    ensures asks { (D.sight door.new).asks ≡ (D.sight door.old).asks }
+{
+    let Parcel { rows, top } = parcel;
+    send_rows(alloc, door, to, place, rows, outcome)?;
+    keep_point(alloc, door, from, to, place, top, outcome)
+}
+
+/// Sends rows in their order.
+fn send_rows<D: ContainerDoor>(
+    alloc: Global,
+    door: &mut D,
+    to: u8,
+    place: &Place,
+    rows: RowList,
+    outcome: &mut Outcome,
+) -> Result<(), NoMemory>
+    requires to { to < (D.sight door.old).nodes.devices }
+    requires fits { (D.sight door.old).nodes.fits_place place.now ≡ true }
+    ensures pushes { InTurn (IsRowSent to place.now) rows (D.sight door.old) outcome.old (D.sight door.new) outcome.new (is_ok result) }
+    ensures nodes { (D.sight door.new).nodes ≡ (D.sight door.old).nodes }
+    ensures asks { (D.sight door.new).asks ≡ (D.sight door.old).asks }
+{
+    let rows: Vec<Row> = rows.into();
+    for row in rows {
+        send_row(alloc, door, to, place, row, outcome)?;
+    }
+    Ok(())
+}
+
+/// Sends a row.
+fn send_row<D: ContainerDoor>(
+    alloc: Global,
+    door: &mut D,
+    to: u8,
+    place: &Place,
+    row: Row,
+    outcome: &mut Outcome,
+) -> Result<(), NoMemory>
+    requires to { to < (D.sight door.old).nodes.devices }
+    requires fits { (D.sight door.old).nodes.fits_place place.now ≡ true }
+    ensures pushes { IsRowSent to place.now row (D.sight door.old) outcome.old (D.sight door.new) outcome.new (is_ok result) }
+    ensures nodes { (D.sight door.new).nodes ≡ (D.sight door.old).nodes }
+    ensures asks { (D.sight door.new).asks ≡ (D.sight door.old).asks }
+{
+    outcome.count_sent();
+    let change = ContChange::MergeRow { row };
+    match door.change_container(alloc, Link::Sent, to, place, &change) {
+        Ok(answer) => count_answer(&answer, outcome),
+        Err(Lost) => {
+            outcome.lose();
+            Ok(())
+        }
+    }
+}
+
+/// Keeps at the sender that the receiver has all rows up to a number, where no row is left, and answers whether it did.
+fn keep_point<D: ContainerDoor>(
+    alloc: Global,
+    door: &mut D,
+    from: u8,
+    to: u8,
+    place: &Place,
+    top: u64,
+    outcome: &mut Outcome,
+) -> Result<bool, NoMemory>
+    requires from { from < (D.sight door.old).nodes.devices }
+    requires fits { (D.sight door.old).nodes.fits_place place.now ≡ true }
+    ensures pushes { IsPointKept from to place.now top (D.sight door.old) outcome.old (D.sight door.new) outcome.new (point_told result) (is_ok result) }
+    ensures asks { (D.sight door.new).asks ≡ (D.sight door.old).asks }
+{
+    if outcome.left != 0 {
+        return Ok(false);
+    }
+    let change = ContChange::SetSync {
+        device: to,
+        rowid: top,
+    };
+    let answer = door.change_container(alloc, Link::Local, from, place, &change);
+    count_point(&answer.unwrap(), outcome)
+}
