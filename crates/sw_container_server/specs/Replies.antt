@@ -21,12 +21,13 @@ use Rattle.sw_timestamp.specs.TimeText.{normal_text}
 -- ---- steps
 
 -- the status that tells that a change was made, or had nothing to change: a row that was put is created, a deletion has nothing to tell. (A
--- creation is told by its answer, and no request asks for several rows)
+-- creation is told by its answer, and no request asks for several rows or sets a sync point)
 abbrev pub made_status : ContChange → ℕ
 made_status (changes.Create time) = 201
 made_status (changes.Remove time) = 204
 made_status (changes.MergeRow row) = if row.deleted then 204 else 201
 made_status (changes.MergeRows rows) = 201
+made_status (changes.SetSync device rowid) = 201
 
 -- the reply to what a step was answered; the first argument is the status where it was made
 abbrev pub reply_to : ℕ → ContAnswer → Response

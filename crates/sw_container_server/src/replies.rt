@@ -12,9 +12,11 @@ pub fn made_status(change: &ContChange) -> u16
     ensures { result ≡ made_status_of change.now }
 {
     match change {
-        ContChange::Create { .. } | ContChange::MergeRows { .. } => 201,
+        ContChange::Create { .. } => 201,
         ContChange::Remove { .. } => 204,
         ContChange::MergeRow { row } => { if row.deleted { 204 } else { 201 } }
+        // No request asks for these.
+        ContChange::MergeRows { .. } | ContChange::SetSync { .. } => 201,
     }
 }
 

@@ -1,5 +1,5 @@
 mod Growing
 pub mod OneControl
-mod OneReplication
+mod OnePush
 mod Refusals
 pub mod ToldOutcomes

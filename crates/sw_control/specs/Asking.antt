@@ -3,14 +3,15 @@ use Rattle.std.specs.Prelude.{◌≡◌, ◌≢◌, ⊤, ℕ, ◌^◌, ◌<◌, 
 use Rattle.std.specs.List.{slice_split, starts_with}
 use Rattle.std.specs.Str.{bytes_eq}
 use Rattle.percent_encoding.specs.Percent.{percent_decode}
+use Rattle.sw_container_server.specs.Places.{IsHashed}
 use Rattle.sw_message.specs.declared.fields.Field.{Field}
 use Rattle.sw_message.specs.declared.request.Request.{Request}
 use Rattle.sw_object_server.specs.Places.{IsDevice}
 use Rattle.sw_object_server.specs.Targets.{behind_segment, first_segment, is_slash}
 use Rattle.sw_ring.specs.declared.ring.Ring.{Ring}
-use Rattle.sw_control.specs.Replications.{IsReplication}
+use Rattle.sw_control.specs.Pushes.{IsReplication, IsRowPush}
 use Rattle.sw_control.specs.declared.asking.Control.{Control}
-use Rattle.sw_control.specs.declared.asking.Control.TheVariants.{Trail, Files, Restart, Replicate, Refused}
+use Rattle.sw_control.specs.declared.asking.Control.TheVariants.{Trail, Files, Restart, Replicate, PushRows, Refused}
 
 -- whether the path's first segment is that of control requests
 abbrev pub is_control : List ℕ → Bool
@@ -31,6 +32,8 @@ AsksFor ring words fields (Files device) = (name : List ℕ) × IsDevice ring na
 AsksFor ring words fields (Restart device) = (name : List ℕ) × IsDevice ring name (Some device) × (words ≡ codes "POST" ∷ codes "restart" ∷ name ∷ [])
 AsksFor ring words fields (Replicate asked) = (from : List ℕ) × (to : List ℕ) × (part : List ℕ) × IsReplication ring from to part fields asked
     × (words ≡ codes "POST" ∷ codes "replicate" ∷ from ∷ to ∷ part ∷ [])
+AsksFor ring words fields (PushRows asked) = (from : List ℕ) × (to : List ℕ) × (account : List ℕ) × (container : List ℕ)
+    × IsRowPush ring from to account container fields asked × (words ≡ codes "POST" ∷ codes "rows" ∷ from ∷ to ∷ account ∷ container ∷ [])
 AsksFor ring words fields Refused = ⊥
 
 -- what these words and fields ask for. They are refused exactly where they ask for nothing that is known
@@ -42,11 +45,14 @@ IsAsked ring words fields asked = AsksFor ring words fields asked
 abbrev pub IsControl : Ring → Request → Control → Type 0
 IsControl ring r asked = IsAsked ring (words_of r) r.fields asked
 
--- the devices that are asked for are among the ring's, and so is the partition; a push is from one device to another
+-- The devices that are asked for are among the ring's, and so is the partition; the container has a good name, and its hash is that of its path. A push is
+-- from one device to another
 abbrev pub IsPlaced : Ring → Control → Type 0
 IsPlaced ring Trail = ⊤
 IsPlaced ring (Files device) = device < length ring.devices
 IsPlaced ring (Restart device) = device < length ring.devices
 IsPlaced ring (Replicate asked) = (asked.from < length ring.devices) × (asked.to < length ring.devices) × (asked.from ≢ asked.to)
     × (asked.part < 2 ^ ring.power)
+IsPlaced ring (PushRows asked) = (asked.from < length ring.devices) × (asked.to < length ring.devices) × (asked.from ≢ asked.to)
+    × IsHashed ring asked.place
 IsPlaced ring Refused = ⊤

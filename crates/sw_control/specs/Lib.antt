@@ -2,6 +2,6 @@ pub mod Asking
 pub mod Growth
 pub mod Laws
 pub mod OutcomeText
-pub mod Replications
+pub mod Pushes
 pub mod Texts
 pub mod TrailText

@@ -1,8 +1,8 @@
 -- The text of a trail: a text line for each entry that a step added to a journal, and for each restart. (This project's own.)
-use Rattle.std.specs.Prelude.{ℕ, ◌+◌, List, [], ◌∷◌, ◌++◌, codes, decimal, map, slice_index_or, if◌then◌else◌}
+use Rattle.std.specs.Prelude.{ℕ, ◌+◌, List, [], ◌∷◌, ◌++◌, codes, decimal, map, slice_index_or, if◌then◌else◌, Option, None, Some}
 use Rattle.std.specs.List.{flat_map}
 use Rattle.sw_container_steps.specs.declared.cont_entry.ContEntry.{ContEntry}
-use Rattle.sw_container_steps.specs.declared.cont_entry.ContEntry.TheVariants.{Created, Merged, Removed}
+use Rattle.sw_container_steps.specs.declared.cont_entry.ContEntry.TheVariants.{Created, Merged, Removed, Synced}
 use Rattle.sw_hashpath.specs.declared.name.Name.{Name}
 use Rattle.sw_hashpath.specs.declared.place.Place.{Place}
 use Rattle.sw_metafile.specs.Escapes.{escape}
@@ -63,6 +63,7 @@ abbrev pub entry_word : ContEntry → List ℕ
 entry_word (Created place time) = codes "create"
 entry_word (Removed place time) = codes "remove"
 entry_word (Merged place row) = codes "row"
+entry_word (Synced place device rowid) = codes "sync"
 
 -- the path of a container
 abbrev pub place_path : Place → List ℕ
@@ -73,16 +74,23 @@ abbrev pub entry_path : ContEntry → List ℕ
 entry_path (Created place time) = place_path place
 entry_path (Removed place time) = place_path place
 entry_path (Merged place row) = place_path place ++ (codes "/" ++ row.name)
+entry_path (Synced place device rowid) = place_path place
 
--- the time that it gives the container, or that of the row
-abbrev pub entry_time : ContEntry → ℕ
-entry_time (Created place time) = time
-entry_time (Removed place time) = time
-entry_time (Merged place row) = row.created_at
+-- the time that it gives the container, or that of the row; a sync point has none
+abbrev pub entry_time : ContEntry → Option ℕ
+entry_time (Created place time) = Some time
+entry_time (Removed place time) = Some time
+entry_time (Merged place row) = Some row.created_at
+entry_time (Synced place device rowid) = None
+
+-- a time in its normal form, or a hyphen
+abbrev pub time_text : Option ℕ → List ℕ
+time_text None = codes "-"
+time_text (Some time) = normal_text time
 
 -- what is said of an entry of a container lock's journal
 abbrev pub entry_told : List ℕ → ContEntry → List ℕ
-entry_told device entry = told (entry_word entry) device (entry_path entry) (normal_text (entry_time entry))
+entry_told device entry = told (entry_word entry) device (entry_path entry) (time_text (entry_time entry))
 
 -- what is said of a step at this device: of each doubt of an object that it settled, then of its own write, and of all entries that it added at a
 -- container, those of settled doubts first

@@ -5,6 +5,7 @@ ghost use Rattle.sw_object_server.specs.Targets.{is_slash};
 ghost use Rattle.sw_control.specs.Asking.{IsAsked, IsControl, IsPlaced, is_control as is_control_path, segments_of};
 
 use crate::replication::{Replication, replication_of};
+use crate::row_push::{RowPush, row_push_of};
 use std::alloc::{AllocError, Global};
 use sw_message::{FieldList, Request};
 use sw_object_server::{at_slash, decoded};
@@ -22,6 +23,8 @@ pub enum Control {
     Restart(u8),
     /// A push of a partition from one device to another.
     Replicate(Replication),
+    /// A push of the rows of a container from one device to another.
+    PushRows(RowPush),
     /// Nothing that is known: a 400.
     Refused,
 }
@@ -46,29 +49,46 @@ pub fn read_control(alloc: Global, ring: &Ring, request: &Request) -> Result<Con
     ensures placed { IfOk result (IsPlaced ring.now) }
 {
     let words = words_of(alloc, request.path.as_slice())?;
-    Ok(asked(ring, request, &words))
+    asked(alloc, ring, request, &words)
 }
 
 /// What a request with these words behind its method asks for.
-fn asked(ring: &Ring, request: &Request, words: &[Bytes]) -> Control
-    ensures asked { IsAsked ring.now (request.now.method ∷ words.now) request.now.fields result }
-    ensures placed { IsPlaced ring.now result }
+fn asked(
+    alloc: Global,
+    ring: &Ring,
+    request: &Request,
+    words: &[Bytes],
+) -> Result<Control, NoMemory>
+    ensures asked { IfOk result (IsAsked ring.now (request.now.method ∷ words.now) request.now.fields) }
+    ensures placed { IfOk result (IsPlaced ring.now) }
 {
     let method = request.method.as_str();
     match words {
-        [word] if method == "GET" && word.as_slice() == b"trail".as_slice() => Control::Trail,
-        [word, device] => of_device(ring, method, word.as_slice(), device.as_slice()),
+        [word] if method == "GET" && word.as_slice() == b"trail".as_slice() => Ok(Control::Trail),
+        [word, device] => Ok(of_device(ring, method, word.as_slice(), device.as_slice())),
         [word, from, to, part] if method == "POST" && word.as_slice() == b"replicate".as_slice() =>
             {
-                of_push(
+                Ok(of_push(
                     ring,
                     from.as_slice(),
                     to.as_slice(),
                     part.as_slice(),
                     &request.fields,
-                )
+                ))
             }
-        _ => Control::Refused,
+        [word, from, to, account, container]
+            if method == "POST" && word.as_slice() == b"rows".as_slice() => {
+            of_rows(
+                alloc,
+                ring,
+                from.as_slice(),
+                to.as_slice(),
+                account.as_slice(),
+                container.as_slice(),
+                &request.fields,
+            )
+        }
+        _ => Ok(Control::Refused),
     }
 }
 
@@ -97,6 +117,25 @@ fn of_push(ring: &Ring, from: &[u8], to: &[u8], part: &[u8], fields: &FieldList)
     match replication_of(ring, from, to, part, fields) {
         Some(replication) => Control::Replicate(replication),
         None => Control::Refused,
+    }
+}
+
+/// What the names of two devices, those of a container and the fields ask for behind the words of a push of rows.
+fn of_rows(
+    alloc: Global,
+    ring: &Ring,
+    from: &[u8],
+    to: &[u8],
+    account: &[u8],
+    container: &[u8],
+    fields: &FieldList,
+) -> Result<Control, NoMemory>
+    ensures asked { IfOk result (IsAsked ring.now (codes "POST" ∷ codes "rows" ∷ from.now ∷ to.now ∷ account.now ∷ container.now ∷ []) fields.now) }
+    ensures placed { IfOk result (IsPlaced ring.now) }
+{
+    match row_push_of(alloc, ring, from, to, account, container, fields)? {
+        Some(push) => Ok(Control::PushRows(push)),
+        None => Ok(Control::Refused),
     }
 }
 

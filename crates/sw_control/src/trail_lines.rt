@@ -121,8 +121,13 @@ impl TextLines {
     {
         let path = entry_path(alloc, entry)?;
         let mut digits = [0u8; 16];
-        entry_time(entry).write_normal(&mut digits);
-        self.add(entry_word(entry), device, &path, &digits)
+        match entry_time(entry) {
+            Some(time) => {
+                time.write_normal(&mut digits);
+                self.add(entry_word(entry), device, &path, &digits)
+            }
+            None => self.add(entry_word(entry), device, &path, b"-"),
+        }
     }
 
     /// Adds that of a write.
@@ -235,17 +240,19 @@ fn entry_word(entry: &ContEntry) -> &'static [u8]
         ContEntry::Created(_, _) => b"create",
         ContEntry::Removed(_, _) => b"remove",
         ContEntry::Merged(_, _) => b"row",
+        ContEntry::Synced(_, _, _) => b"sync",
     }
 }
 
-/// The time that an entry gives its container, or that of its row.
-fn entry_time(entry: &ContEntry) -> Timestamp
+/// The time that an entry gives its container, or that of its row. A sync point has none.
+fn entry_time(entry: &ContEntry) -> Option<Timestamp>
     ensures { result ≡ Rattle.sw_control.specs.TrailText.entry_time entry.now }
 {
     match entry {
-        ContEntry::Created(_, time) => *time,
-        ContEntry::Removed(_, time) => *time,
-        ContEntry::Merged(_, row) => row.created_at,
+        ContEntry::Created(_, time) => Some(*time),
+        ContEntry::Removed(_, time) => Some(*time),
+        ContEntry::Merged(_, row) => Some(row.created_at),
+        ContEntry::Synced(_, _, _) => None,
     }
 }
 
@@ -254,7 +261,9 @@ fn entry_path(alloc: Global, entry: &ContEntry) -> Result<Vec<u8>, NoMemory>
     ensures { IfOk result (λ path. path.items ≡ Rattle.sw_control.specs.TrailText.entry_path entry.now) }
 {
     match entry {
-        ContEntry::Created(place, _) | ContEntry::Removed(place, _) => place_path(alloc, place),
+        ContEntry::Created(place, _)
+        | ContEntry::Removed(place, _)
+        | ContEntry::Synced(place, _, _) => place_path(alloc, place),
         ContEntry::Merged(place, row) => {
             let mut path = place_path(alloc, place)?;
             path.extend_from_slice(b"/")?;

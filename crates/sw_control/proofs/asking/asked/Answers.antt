@@ -1,5 +1,6 @@
-use Rattle.std.proofs.Common.{◌≡◌, ◌≤◌, ◌<◌, ℕ, List, [], ◌∷◌, codes, length, get_or, arith, rules}
+use Rattle.std.proofs.Common.{◌≡◌, ◌≤◌, ◌<◌, ℕ, List, [], ◌∷◌, codes, length, get_or, Result, IfOk, arith, rules}
 use Rattle.sw_message.specs.declared.fields.Field.{Field}
+use Rattle.sw_outside.specs.declared.errors.NoMemory.{NoMemory}
 use Rattle.sw_ring.specs.declared.ring.Ring.{Ring}
 use Rattle.sw_control.specs.Asking.{IsAsked}
 use Rattle.sw_control.specs.declared.asking.Control.{Control}
@@ -25,9 +26,24 @@ four_words (v ∷ w ∷ x ∷ []) a b c d least most is_a is_b is_c is_d = absur
 four_words (v ∷ w ∷ x ∷ y ∷ []) a b c d least most is_a is_b is_c is_d = cc
 four_words (v ∷ w ∷ x ∷ y ∷ z ∷ words) a b c d least most is_a is_b is_c is_d = absurd (omega arith)
 
+five_words : (words : List (List ℕ)) (a b c d e : List ℕ) → 5 ≤ length words → length words < 6
+    → a ≡ get_or words 0 a → b ≡ get_or words 1 b → c ≡ get_or words 2 c → d ≡ get_or words 3 d → e ≡ get_or words 4 e
+    → words ≡ a ∷ b ∷ c ∷ d ∷ e ∷ []
+five_words [] a b c d e least most is_a is_b is_c is_d is_e = absurd (omega arith)
+five_words (v ∷ []) a b c d e least most is_a is_b is_c is_d is_e = absurd (omega arith)
+five_words (v ∷ w ∷ []) a b c d e least most is_a is_b is_c is_d is_e = absurd (omega arith)
+five_words (v ∷ w ∷ x ∷ []) a b c d e least most is_a is_b is_c is_d is_e = absurd (omega arith)
+five_words (v ∷ w ∷ x ∷ y ∷ []) a b c d e least most is_a is_b is_c is_d is_e = absurd (omega arith)
+five_words (v ∷ w ∷ x ∷ y ∷ z ∷ []) a b c d e least most is_a is_b is_c is_d is_e = cc
+five_words (u ∷ v ∷ w ∷ x ∷ y ∷ z ∷ words) a b c d e least most is_a is_b is_c is_d is_e = absurd (omega arith)
+
 along : (ring : Ring) (words same : List (List ℕ)) (fields : List Field) (asked : Control)
     → words ≡ same → IsAsked ring same fields asked → IsAsked ring words fields asked
 along ring words same fields asked is known = rw is known
+
+along_ok : (ring : Ring) (words same : List (List ℕ)) (fields : List Field) (got : Result Control NoMemory)
+    → words ≡ same → IfOk got (IsAsked ring same fields) → IfOk got (IsAsked ring words fields)
+along_ok ring words same fields got is known = rw is known
 
 pub returns-in-len1-clause-asked : goal.returns-in-len1-clause-asked
 returns-in-len1-clause-asked c =
@@ -47,3 +63,12 @@ returns-in-len4-clause-asked c =
     let method : c.as_str-method.result.now ≡ codes "POST" = search rules in
     let word : c.word-item-then-words-lt5.result ≡ codes "replicate" = search rules in
     along _ _ _ _ _ (cc) c.of_push.ensures.asked
+
+pub returns-in-len5-clause-asked : goal.returns-in-len5-clause-asked
+returns-in-len5-clause-asked c =
+    let words = five_words c.args.words.now c.word-item-then-words-lt6.result c.from-item-then-words-lt6.result c.to-item-then-words-lt6.result
+    c.account-item.result c.container-item.result c.in-len5.len_at_least c.in-len5.len_below
+    c.word-item-then-words-lt6.is c.from-item-then-words-lt6.is c.to-item-then-words-lt6.is c.account-item.is c.container-item.is in
+    let method : c.as_str-method.result.now ≡ codes "POST" = search rules in
+    let word : c.word-item-then-words-lt6.result ≡ codes "rows" = search rules in
+    along_ok _ _ _ _ _ (cc) c.of_rows.ensures.asked
