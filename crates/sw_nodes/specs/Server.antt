@@ -19,13 +19,14 @@ use Rattle.sw_control.specs.TrailText.{trail_text}
 use Rattle.sw_control.specs.declared.asking.Control.{Control}
 use Rattle.sw_control.specs.declared.asking.Control.TheVariants as controls
 use Rattle.sw_control.specs.declared.replication.Replication.{Replication}
+use Rattle.sw_control.specs.declared.row_push.RowPush.{RowPush}
 use Rattle.sw_machine.specs.Doors.{RunsOn}
 use Rattle.sw_core.specs.Listing.{AreCalm, ListsFiles, is_failed}
 use Rattle.sw_core.specs.Worlds.{KeeperSeen, AllNodes, IsSameWorld, Lifts, SetsDown, sight_of}
 use Rattle.sw_outside.specs.declared.errors.NoMemory.{NoMemory}
 use Rattle.sw_pass.specs.declared.outcome.Outcome.{Outcome}
 use Rattle.sw_peer.specs.Sights.{IsListed}
-use Rattle.sw_steps.specs.Passing.{IsPushedOver}
+use Rattle.sw_steps.specs.Passing.{AreRowsPushedOver, IsPushedOver}
 use Rattle.sw_volume.specs.Tree.{Folders}
 use Rattle.sw_volume.specs.declared.errors.VolumeError.{VolumeError}
 use Rattle.sw_volume.specs.declared.errors.VolumeError.TheVariants as volume_errors
@@ -66,12 +67,20 @@ module _ {V K : Type 0} (tells : V → Bool) (files : V → Folders) (faults : V
     pub pushed : IsPushedOver asked.from asked.to asked.part asked.acts (sight_of tells files faults keeps w) outcome (sight_of tells files faults keeps after)
     pub reply : IsPushReply outcome response
 
+  -- The rows of a container were pushed, and what came of it replied. A push that wanted memory was made as far as it came
+  pub record AreRowsPushed (asked : RowPush) (w : AllNodes V K) (response : Response) (after : AllNodes V K) : Type 0 where
+    pub outcome : Result Outcome NoMemory
+    pub pushed : AreRowsPushedOver asked.from asked.to asked.place asked.acts (sight_of tells files faults keeps w) outcome
+        (sight_of tells files faults keeps after)
+    pub reply : IsPushReply outcome response
+
   -- what a control request asks for was done
   abbrev pub IsControlDone : Ring → AllNodes V K → Control → Response → AllNodes V K → Type 0
   IsControlDone ring w controls.Trail response after = (after ≡ w) × (response ≡ text_reply (trail_text ring.devices w.lines))
   IsControlDone ring w (controls.Files device) response after = IsFiled device w response after
   IsControlDone ring w (controls.Restart device) response after = IsRestarted device w after × (response ≡ text_reply [])
   IsControlDone ring w (controls.Replicate asked) response after = IsReplicated asked w response after
+  IsControlDone ring w (controls.PushRows asked) response after = AreRowsPushed asked w response after
   IsControlDone ring w controls.Refused response after = (after ≡ w) × (response ≡ bare 400)
 
   -- a control request was answered, or memory ran out before anything was done

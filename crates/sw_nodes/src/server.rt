@@ -8,12 +8,12 @@ ghost use Rattle.sw_control.specs.Asking.{IsPlaced, is_control as is_control_pat
 ghost use Rattle.sw_container_server.specs.Targets.{is_for_containers as is_for_containers_of};
 ghost use Rattle.sw_replica_server.specs.Targets.{is_replication_of};
 ghost use Rattle.sw_control.specs.declared.asking.Control.TheVariants as controls;
-ghost use Rattle.sw_nodes.specs.Server.{IsControlDone, IsFiled, IsPushReply, IsReplicated};
+ghost use Rattle.sw_nodes.specs.Server.{AreRowsPushed, IsControlDone, IsFiled, IsPushReply, IsReplicated};
 
 use std::alloc::Global;
 use sw_container_server::is_for_containers;
 use sw_control::{
-    Control, Replication, files_text, is_control, outcome_text, read_control, text_reply,
+    Control, Replication, RowPush, files_text, is_control, outcome_text, read_control, text_reply,
     trail_text,
 };
 use sw_core::World;
@@ -25,7 +25,7 @@ use sw_pass::Outcome;
 use sw_replica_server::is_replication;
 use sw_ring::Ring;
 use sw_session::{Server, ServerFault};
-use sw_steps::push_over;
+use sw_steps::{push_over, push_rows_over};
 use sw_stores::Stores;
 use sw_stores::ranges::restart_range;
 use sw_volume::VolumeError;
@@ -143,6 +143,7 @@ impl<S: Stores> Nodes<'_, S> {
             Ok(Control::Files(device)) => Ok(self.files(alloc, device)),
             Ok(Control::Restart(device)) => self.restart(alloc, device),
             Ok(Control::Replicate(asked)) => Ok(self.replicate(alloc, asked)),
+            Ok(Control::PushRows(asked)) => Ok(self.push_rows(alloc, &asked)),
             Ok(Control::Refused) => Ok(bare(alloc, 400)),
             Err(NoMemory) => Ok(bare(alloc, 500)),
         }
@@ -187,6 +188,27 @@ impl<S: Stores> Nodes<'_, S> {
             asked.from,
             asked.to,
             asked.part,
+            asked.acts,
+        ) {
+            Ok(outcome) => pushed(alloc, &outcome),
+            Err(NoMemory) => bare(alloc, 500),
+        }
+    }
+
+    /// Pushes the rows of a container from one device to another, and replies what came of it. A push that wanted memory was made as far as it came.
+    fn push_rows(&mut self, alloc: Global, asked: &RowPush) -> Response
+        requires placed { IsPlaced self.old.ring.now (controls.PushRows asked.now) }
+        requires ready { IsReady S.out self.old.ring.now self.old.network.door self.old.stores.now }
+        ensures pushed { AreRowsPushed S.V.tells S.V.holds S.V.faults (keeper_seen S.K.tells S.K.holds S.K.faults) asked.now self.old.network.door result
+            self.new.network.door }
+        ensures same { (self.new.ring ≡ self.old.ring) × (self.new.stores ≡ self.old.stores) }
+    {
+        match push_rows_over(
+            alloc,
+            &mut self.network,
+            asked.from,
+            asked.to,
+            &asked.place,
             asked.acts,
         ) {
             Ok(outcome) => pushed(alloc, &outcome),

@@ -2,7 +2,7 @@ ghost use Rattle.std.specs.Prelude.{◌≡◌};
 ghost use Rattle.sw_nodes_tests.specs.Silent.{answer_to, silent};
 
 use std::alloc::Global;
-use sw_container_steps::{ContAnswer, ContChange, Info};
+use sw_container_steps::{ContAnswer, ContChange, Info, Parcel};
 use sw_hashpath::{Name, Place};
 use sw_listing::{Entries, Query};
 use sw_object_steps::{Answer, Change, Got};
@@ -118,6 +118,18 @@ impl ContainerDoor for Refusing {
         _place: &Place,
         _query: &Query,
     ) -> Result<Result<Entries, ContAnswer>, Lost> {
+        self.steps = self.steps.saturating_add(1);
+        Ok(Err(ContAnswer::NoMemory))
+    }
+
+    fn sync_rows(
+        &mut self,
+        _alloc: Global,
+        _link: Link,
+        _device: u8,
+        _place: &Place,
+        _to: u8,
+    ) -> Result<Result<Parcel, ContAnswer>, Lost> {
         self.steps = self.steps.saturating_add(1);
         Ok(Err(ContAnswer::NoMemory))
     }

@@ -1,4 +1,5 @@
 -- What goes on along the parts of a push, whatever came of them.
+use Rattle.sw_pass.specs.Turns.{InTurn}
 use Rattle.std.proofs.Common.{◌≡◌, ◌≢◌, ℕ, Bool, true, false, List, [], ◌∷◌, refl, sym, ◌∙◌, ap, subst, inl, inr, Option, Some, None, Result, Ok, Err}
 use Rattle.std.proofs.lemmas.List.Elements.{recursion_from_All}
 use Rattle.std.specs.List.{AllByRecursion}
@@ -22,7 +23,7 @@ use Rattle.sw_object_steps.specs.declared.stored.Stored.{Stored}
 use Rattle.sw_replicator.proofs.Compared.{IsPicked, all-both, files-count, own-lines}
 use Rattle.sw_replicator.proofs.Reading.{files-held, files-told, lines-within, write-held, write-told}
 use Rattle.sw_replicator.specs.Meeting.{known, state_at, state_by}
-use Rattle.sw_replicator.specs.Pushing.{InTurn, IsAskedNext, IsBeside, IsCompared, IsFilePushed, IsLinePushed, IsOursPushed, IsPassedOn, IsRun, IsSuffixPushed}
+use Rattle.sw_replicator.specs.Pushing.{IsAskedNext, IsBeside, IsCompared, IsFilePushed, IsLinePushed, IsOursPushed, IsPassedOn, IsRun, IsSuffixPushed}
 use Rattle.sw_replicator.specs.Pushing.{differing}
 use Rattle.sw_state.specs.States.{writes_of}
 use Rattle.sw_state.specs.declared.state.State.{State}

@@ -20,7 +20,7 @@ push-runs from to part apart s (Ok outcome) t push = (run-goes from to part apar
 push-runs from to part apart s (Err wanting) t push = (run-goes from to part apart s t push.0 false push.1).runs
 
 -- a run knows nothing of what a door around counts
-run-within : (s t : Sight) (acts now : Acts) (sent faults asks messages more asked : ℕ)
+pub run-within : (s t : Sight) (acts now : Acts) (sent faults asks messages more asked : ℕ)
     → RunsOn (around s acts sent faults asks) (around t now messages more asked) → RunsOn s t
 run-within s t acts now sent faults asks messages more asked runs m stands =
     let run = runs m (record { objects = stands.objects; containers = stands.containers }) in (

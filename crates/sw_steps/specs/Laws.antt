@@ -9,7 +9,8 @@ use Rattle.sw_outside.specs.declared.errors.NoMemory.{NoMemory}
 use Rattle.sw_pass.specs.declared.outcome.Outcome.{Outcome}
 use Rattle.sw_peer.specs.Sights.{Sight}
 use Rattle.sw_steps.specs.Exchanging.{AreMet}
-use Rattle.sw_steps.specs.Passing.{IsPushedOver}
+use Rattle.sw_hashpath.specs.declared.place.Place.{Place}
+use Rattle.sw_steps.specs.Passing.{AreRowsPushedOver, IsPushedOver}
 use Rattle.sw_steps.specs.Stepping.{AreMade}
 use Rattle.sw_steps.specs.declared.step.Step.{Step}
 
@@ -18,6 +19,11 @@ use Rattle.sw_steps.specs.declared.step.Step.{Step}
 abbrev pub PushingRuns : Type 0
 PushingRuns = (from to part : ℕ) (acts : Acts) (s : Sight) (result : Result Outcome NoMemory) (t : Sight) → IsPushedOver from to part acts s result t
     → from ≢ to → t.alone ≡ true → RunsOn s t
+
+-- So is a push of rows. Each message carries a row that its sender has, as far as the sender's lock tells what it has
+abbrev pub RowPushesRun : Type 0
+RowPushesRun = (from to : ℕ) (place : Place) (acts : Acts) (s : Sight) (result : Result Outcome NoMemory) (t : Sight)
+    → AreRowsPushedOver from to place acts s result t → from ≢ to → t.alone ≡ true → RunsOn s t
 
 -- Where a list of steps is made that has a push from a to b and a later one back, and what the list told of both says that they are done, both
 -- devices hold the join of what both held, of each hash that the steps between them left

@@ -1,5 +1,7 @@
 -- A pass through a door that loses and repeats messages. (This project's own.)
 use Rattle.std.specs.Prelude.{ℕ, Result}
+use Rattle.sw_cont_replicator.specs.Pushing as rows
+use Rattle.sw_hashpath.specs.declared.place.Place.{Place}
 use Rattle.sw_lossy.specs.Losses.{around, begun}
 use Rattle.sw_lossy.specs.declared.acts.Acts.{Acts}
 use Rattle.sw_outside.specs.declared.errors.NoMemory.{NoMemory}
@@ -15,3 +17,11 @@ pub record IsPushedOver (from to part : ℕ) (acts : Acts) (s : Sight) (result :
   pub faults : ℕ
   pub asks : ℕ
   pub pushes : IsPush from to part (begun acts s) result (around t acts_behind messages faults asks)
+
+-- the same of a push of rows
+pub record AreRowsPushedOver (from to : ℕ) (place : Place) (acts : Acts) (s : Sight) (result : Result Outcome NoMemory) (t : Sight) : Type 0 where
+  pub acts_behind : Acts
+  pub messages : ℕ
+  pub faults : ℕ
+  pub asks : ℕ
+  pub pushes : rows.IsPush from to place (begun acts s) result (around t acts_behind messages faults asks)

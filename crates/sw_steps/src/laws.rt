@@ -1,10 +1,15 @@
 //! Laws of steps and passes. Each function does nothing: its clause is the law.
 
-ghost use Rattle.sw_steps.specs.Laws.{PushingRuns, StepsMeet, WorldsAreApart};
+ghost use Rattle.sw_steps.specs.Laws.{PushingRuns, RowPushesRun, StepsMeet, WorldsAreApart};
 
 /// A push at nodes that nobody else changes is a run of the machine, whatever comes of it.
 pub fn pushing_runs()
     ensures { PushingRuns }
+{}
+
+/// A push of rows at nodes that nobody else changes is a run of the machine, whatever comes of it.
+pub fn row_pushes_run()
+    ensures { RowPushesRun }
 {}
 
 /// A push that is told as done and a later one back, in a list of steps, leave both devices with the join of what both held.

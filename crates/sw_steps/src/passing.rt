@@ -1,11 +1,13 @@
-ghost use Rattle.std.specs.Prelude.{◌≢◌, ◌<◌, ◌^◌};
-ghost use Rattle.sw_steps.specs.Passing.{IsPushedOver};
+ghost use Rattle.std.specs.Prelude.{◌≡◌, ◌≢◌, ◌<◌, ◌^◌, true};
+ghost use Rattle.sw_steps.specs.Passing.{AreRowsPushedOver, IsPushedOver};
 
 use std::alloc::Global;
+use sw_cont_replicator::push_rows;
+use sw_hashpath::Place;
 use sw_lossy::{Acts, Lossy};
 use sw_outside::NoMemory;
 use sw_pass::Outcome;
-use sw_peer::{FaithfulDoor, ReplicaDoor};
+use sw_peer::{ContainerDoor, FaithfulDoor, ReplicaDoor};
 use sw_replicator::push;
 
 /// Pushes a partition through a door that loses and repeats messages; `acts` says which, by their numbers in this push, from 1. The door
@@ -26,4 +28,23 @@ pub fn push_over<D: ReplicaDoor + FaithfulDoor + Drop>(
 {
     door.begin(acts);
     push(alloc, door, from, to, part)
+}
+
+/// Pushes the rows of a container through such a door.
+pub fn push_rows_over<D: ContainerDoor + FaithfulDoor + Drop>(
+    alloc: Global,
+    door: &mut Lossy<D>,
+    from: u8,
+    to: u8,
+    place: &Place,
+    acts: Acts,
+) -> Result<Outcome, NoMemory>
+    requires from { from < (D.sight door.old.door).nodes.devices }
+    requires to { to < (D.sight door.old.door).nodes.devices }
+    requires apart { from ≢ to }
+    requires fits { (D.sight door.old.door).nodes.fits_place place.now ≡ true }
+    ensures { AreRowsPushedOver from to place.now acts (D.sight door.old.door) result (D.sight door.new.door) }
+{
+    door.begin(acts);
+    push_rows(alloc, door, from, to, place)
 }

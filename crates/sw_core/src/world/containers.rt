@@ -1,6 +1,6 @@
 use crate::world::World;
 use std::alloc::Global;
-use sw_container_steps::{ContAnswer, ContChange, Info};
+use sw_container_steps::{ContAnswer, ContChange, Info, Parcel};
 use sw_hashpath::Place;
 use sw_keeper::Keeper;
 use sw_listing::{Entries, Query};
@@ -81,6 +81,26 @@ impl<V: Volume + Drop, K: Keeper + Drop> ContainerDoor for World<V, K> {
         let (got, line) = self
             .containers
             .list(alloc, lock, link, device, place, query);
+        self.lines.push_reserved(line);
+        Ok(got)
+    }
+
+    fn sync_rows(
+        &mut self,
+        alloc: Global,
+        link: Link,
+        device: u8,
+        place: &Place,
+        to: u8,
+    ) -> Result<Result<Parcel, ContAnswer>, Lost> {
+        let lock = self.lock(device, &place.hash);
+        if self.lines.reserve(1).is_err() {
+            self.containers.may_stand(lock);
+            return Ok(Err(ContAnswer::NoMemory));
+        }
+        let (got, line) = self
+            .containers
+            .sync_rows(alloc, lock, link, device, place, to);
         self.lines.push_reserved(line);
         Ok(got)
     }

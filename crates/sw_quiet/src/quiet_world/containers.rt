@@ -1,6 +1,6 @@
 use crate::quiet_world::QuietWorld;
 use std::alloc::Global;
-use sw_container_steps::{ContAnswer, ContChange, Info};
+use sw_container_steps::{ContAnswer, ContChange, Info, Parcel};
 use sw_hashpath::Place;
 use sw_keeper::Keeper;
 use sw_listing::{Entries, Query};
@@ -58,6 +58,19 @@ impl<V: Volume + Drop, K: Keeper + Drop> ContainerDoor for QuietWorld<V, K> {
         query: &Query,
     ) -> Result<Result<Entries, ContAnswer>, Lost> {
         let got = self.world.list(alloc, link, device, place, query);
+        let _ = self.world.take_trail(alloc);
+        got
+    }
+
+    fn sync_rows(
+        &mut self,
+        alloc: Global,
+        link: Link,
+        device: u8,
+        place: &Place,
+        to: u8,
+    ) -> Result<Result<Parcel, ContAnswer>, Lost> {
+        let got = self.world.sync_rows(alloc, link, device, place, to);
         let _ = self.world.take_trail(alloc);
         got
     }

@@ -1,7 +1,8 @@
 use Rattle.sw_core.specs.Worlds.{keeper_seen}
 use Rattle.std.proofs.Common.{ap, subst, inl, inr, refl}
 use Rattle.sw_control.specs.Asking.{IsControl, IsPlaced}
-use Rattle.sw_nodes.proofs.Controlling.{came_again, done_nothing, files_listed, push_ready, stayed_away, trail_told, was_pushed}
+use Rattle.sw_nodes.proofs.Controlling.{came_again, done_nothing, files_listed, push_ready, row_push_ready, rows_were_pushed, stayed_away, trail_told}
+use Rattle.sw_nodes.proofs.Controlling.{was_pushed}
 use Rattle.sw_control.specs.declared.asking.Control.TheVariants as controls
 use Rattle.sw_nodes.proofs.server.Nodes.control.Goals as goal
 
@@ -54,6 +55,27 @@ returns-in-Ok-Replicate-clause-ready g c =
     c.in-Ok-Replicate.asked c.replicate.result
     (subst (IsControl c.args.self.now.ring.now c.args.request.now) c.in-Ok-Replicate.field-0-is c.in-Ok-Replicate.ensures.exact)
     (ap (λ r. r.now) c.replicate.ensures.same.0) c.replicate.ensures.same.1 c.requires.ready c.replicate.ensures.replicated
+
+pub returns-in-Ok-PushRows-clause-served : goal.returns-in-Ok-PushRows-clause-served
+returns-in-Ok-PushRows-clause-served g c =
+    rows_were_pushed g.S.V.Volume.tells g.S.V.Volume.holds g.S.V.Volume.faults (keeper_seen g.S.K.Keeper.tells g.S.K.Keeper.holds g.S.K.Keeper.faults)
+    g.S.Stores.faults g.S.Stores.calls g.S.Stores.out c.args.self.now.ring.now
+    c.push_rows.new.self.ring.now c.args.self.now.network.door c.push_rows.new.self.network.door c.args.self.now.stores c.push_rows.new.self.stores
+    c.args.request.now
+    c.args._now c.push_rows.result c.in-Ok-PushRows.asked c.requires.control
+    (subst (IsControl c.args.self.now.ring.now c.args.request.now) c.in-Ok-PushRows.field-0-is c.in-Ok-PushRows.ensures.exact)
+    (subst (IsPlaced c.args.self.now.ring.now) c.in-Ok-PushRows.field-0-is c.in-Ok-PushRows.ensures.placed)
+    (ap (λ r. r.now) c.push_rows.ensures.same.0) c.push_rows.ensures.same.1 c.requires.ready c.push_rows.ensures.pushed
+
+pub returns-in-Ok-PushRows-clause-ready : goal.returns-in-Ok-PushRows-clause-ready
+returns-in-Ok-PushRows-clause-ready g c =
+    row_push_ready g.S.V.Volume.tells g.S.V.Volume.holds g.S.V.Volume.faults (keeper_seen g.S.K.Keeper.tells g.S.K.Keeper.holds g.S.K.Keeper.faults)
+    g.S.Stores.faults g.S.Stores.calls g.S.Stores.out c.args.self.now.ring.now
+    c.push_rows.new.self.ring.now c.args.self.now.network.door c.push_rows.new.self.network.door c.args.self.now.stores c.push_rows.new.self.stores
+    c.args.request.now
+    c.in-Ok-PushRows.asked c.push_rows.result
+    (subst (IsPlaced c.args.self.now.ring.now) c.in-Ok-PushRows.field-0-is c.in-Ok-PushRows.ensures.placed)
+    (ap (λ r. r.now) c.push_rows.ensures.same.0) c.push_rows.ensures.same.1 c.requires.ready c.push_rows.ensures.pushed
 
 pub returns-in-Ok-Trail-clause-served : goal.returns-in-Ok-Trail-clause-served
 returns-in-Ok-Trail-clause-served g c =

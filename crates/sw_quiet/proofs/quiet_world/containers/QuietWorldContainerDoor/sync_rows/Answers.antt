@@ -1,0 +1,16 @@
+use Rattle.std.proofs.Common.{sym}
+use Rattle.sw_core.specs.Worlds.{keeper_seen, sight_of}
+use Rattle.sw_container_steps.specs.Reads.{parcel_of}
+use Rattle.sw_peer.specs.ContSights.{IsLooked}
+use Rattle.sw_peer.specs.declared.cont_event.ContEvent.TheVariants.{Parceled}
+use Rattle.sw_quiet.proofs.Trails.{calls-quiet, looked-blind}
+use Rattle.sw_quiet.proofs.quiet_world.containers.QuietWorldContainerDoor.sync_rows.Goals as goal
+
+pub returns-clause-read : goal.returns-clause-read
+returns-clause-read g c =
+    let v = g.V.Volume in let k = g.K.Keeper in
+    rw (sym c.self.view_is, c.take_trail.ensures.after)
+    (calls-quiet (IsLooked c.args.link c.args.device c.args.place.now (parcel_of c.args.to) (λ got. Parceled c.args.place.now c.args.to got))
+    (looked-blind c.args.link c.args.device c.args.place.now (parcel_of c.args.to) (λ got. Parceled c.args.place.now c.args.to got))
+    (sight_of v.tells v.holds v.faults (keeper_seen k.tells k.holds k.faults) c.self.inside.world) c.args.link c.sync_rows-got.result
+    (sight_of v.tells v.holds v.faults (keeper_seen k.tells k.holds k.faults) c.sync_rows-got.new.self) c.sync_rows-got.ensures.read)
