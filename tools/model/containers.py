@@ -77,7 +77,7 @@ def merge_row(nodes, device, place, digest, row):
         container.put_time = made
         nodes.tell(b"create", device, path, made)
     if changes:
-        container.rows[row.name] = row
+        container.put(row)
         nodes.tell(b"row", device, path + b"/" + row.name, row.time)
 
 

@@ -1,7 +1,9 @@
 """Control requests, and pushes with messages that are lost or come twice."""
 from .common import TEXT_TYPE, Refused, is_digits, plain_number
+from .containers import merge_row
 from .nodes import State
 from .requests import reply
+from .rings import is_bad_name
 
 
 class Messages:
@@ -14,7 +16,7 @@ class Messages:
             raise Refused(400)
         self.named = {key: int(it) for key, it in values.items() if it is not None}
         self.count = self.lost = self.asked = self.sent = self.left = 0
-        self.kept = None
+        self.kept, self.is_refused = None, False
 
     def send(self, step, asks):
         """What the message was answered, or none where that is lost."""
@@ -30,7 +32,8 @@ class Messages:
         return answer
 
     def outcome(self):
-        return (f"done={int(self.left == 0)} lost={self.lost} kept={self.kept or '-'} later=- asked={self.asked} sent={self.sent} left={self.left}\n").encode()
+        done = int(self.left == 0 and not self.is_refused)
+        return f"done={done} lost={self.lost} kept={self.kept or '-'} later=- asked={self.asked} sent={self.sent} left={self.left}\n".encode()
 
 
 def transfer(nodes, to, write):
@@ -61,6 +64,35 @@ def push(nodes, messages, source, to, part):
                 messages.kept = messages.kept or (status if status == 503 else None)
 
 
+def row_status(nodes, to, place, row):
+    try:
+        merge_row(nodes, to, place, nodes.ring.hash(*place), row)
+        return 201
+    except Refused as refused:
+        return refused.status
+
+
+def push_rows(nodes, messages, source, to, place):
+    container = nodes.place(source, *place)
+    if container.is_absent():
+        messages.kept, messages.left = 404, 1
+        return
+    top = container.top
+    for row in container.rows_above(container.syncs.get(to, 0)):
+        status = messages.send(lambda row=row: row_status(nodes, to, place, row), False)
+        messages.left += status != 201
+        messages.kept = messages.kept or (status if status in (404, 503) else None)
+    if messages.left or container.syncs.get(to, -1) >= top:
+        return
+    try:
+        nodes.journal(source, "container", nodes.ring.hash(*place), 1)
+    except Refused as refused:
+        messages.kept, messages.is_refused = refused.status, True
+        return
+    container.syncs[to] = top
+    nodes.tell(b"sync", source, b"/" + b"/".join(place))
+
+
 def answer_control(nodes, request, segments):
     words = (request.method, *segments[1:2])
     body = None
@@ -77,6 +109,13 @@ def answer_control(nodes, request, segments):
             raise Refused(400)
         messages = Messages(request)
         push(nodes, messages, source, to, part)
+        body = messages.outcome()
+    elif words == (b"POST", b"rows") and len(segments) == 6:
+        source, to, place = nodes.ring.device(segments[2]), nodes.ring.device(segments[3]), segments[4:]
+        if None in (source, to) or source == to or is_bad_name(*place):
+            raise Refused(400)
+        messages = Messages(request)
+        push_rows(nodes, messages, source, to, tuple(place))
         body = messages.outcome()
     if body is None:
         raise Refused(400)

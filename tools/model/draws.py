@@ -4,7 +4,7 @@ import hashlib
 import json
 import re
 
-from .common import percent_decoded
+from .common import escaped, percent_decoded
 from .rings import Ring, suffix_of
 
 ACCOUNTS = [b"a", b"a", b"a", b"b", b".a", "\u00e9".encode()]
@@ -295,18 +295,22 @@ class Draw:
 
     def control_request(self):
         device, fields = self.device(), []
-        kind = self.one(["replicate"] * 6 + ["trail", "files", "restart", "other"])
-        if kind == "replicate":
+        kind = self.one(["replicate"] * 6 + ["rows"] * 6 + ["trail", "files", "restart", "other"])
+        if kind in ("replicate", "rows"):
             other = self.one(self.devices + [self.device()])
             part = self.mostly([self.used_part()], [b"00", b"16", b"x", b"", b"%31", b"0", b"1"], 92)
-            method, target = b"POST", b"/.swc/replicate/" + device + b"/" + other + b"/" + part
+            if kind == "rows":
+                names = [self.one(self.accounts), self.one(self.containers)]
+                part = self.mostly([b"/".join(map(escaped, names))], [b"a", b"/c", b"a/", b"a/c/o", b"a%2Fc", b"a/%00", b"a/%2F", b"%FF/c"], 94)
+            method, target = b"POST", b"/.swc/" + kind.encode() + b"/" + device + b"/" + other + b"/" + part
             number = self.one(MESSAGES)
             for name in (b"X-Swc-Lose", b"X-Swc-Lose-Reply", b"X-Swc-Repeat"):
                 if self.chance(25):
                     fields.append((name, self.mostly([number], MESSAGES + BAD_MESSAGES, 80)))
         elif kind == "other":
             others = [b"", b"/", b"/trail/", b"/files", b"/files/%s/x" % device, b"/x", b"/pending/%s" % device, b"/trail", b"/tra%69l?x",
-                      b"/restart/%s" % device, b"/files/%s" % device, b"/replicate/%s" % device]
+                      b"/restart/%s" % device, b"/files/%s" % device, b"/replicate/%s" % device,
+                      b"/rows/%s" % device]
             method, target = self.one([b"GET", b"POST", b"PUT", b"HEAD"]), self.one([b"/.swc", b"/.swc", b"/%2Eswc"]) + self.one(others)
         else:
             method = self.mostly([b"POST" if kind == "restart" else b"GET"], [b"PUT", b"HEAD"], 96)

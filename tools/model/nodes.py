@@ -62,8 +62,18 @@ class Row:
 
 
 class Container:
+    """Its times; its rows, with their numbers and the greatest one given out; and up to which number other devices have them all."""
+
     def __init__(self):
         self.put_time, self.delete_time, self.rows = None, None, {}
+        self.numbers, self.top, self.syncs = {}, 0, {}
+
+    def put(self, row):
+        self.top += 1
+        self.rows[row.name], self.numbers[row.name] = row, self.top
+
+    def rows_above(self, number):
+        return [self.rows[name] for name in sorted(self.numbers, key=self.numbers.get) if self.numbers[name] > number]
 
     def is_absent(self):
         return self.put_time is None or (self.delete_time is not None and self.delete_time > self.put_time)
