@@ -12,10 +12,13 @@ use Rattle.sw_sync.specs.Points.{point_at}
 use Rattle.sw_listing.specs.Listing.{listing}
 use Rattle.sw_listing.specs.declared.entry.Entry.{Entry}
 use Rattle.sw_listing.specs.declared.query.Query.{Query}
+use Rattle.sw_step.specs.Rules.{Wants}
 use Rattle.sw_step.specs.Steps.{Tells}
 use Rattle.sw_container_steps.specs.Presence.{deletion_after, is_no_time, is_present}
-use Rattle.sw_container_steps.specs.Reads.{info_of, listing_of, parcel_of}
-use Rattle.sw_container_steps.specs.Steps.{cont_made_answer, creation_answer, entries_for}
+use Rattle.sw_container_steps.specs.Reads.{info_of, listing_of, parcel_of, rows_for}
+use Rattle.sw_container_steps.specs.Deciding.{IsDecided}
+use Rattle.sw_container_steps.specs.Steps.{cont_made_answer, cont_refusal, creation_answer, entries_for}
+use Rattle.sw_container_steps.specs.declared.deciding.Decision.TheVariants.{Makes}
 use Rattle.sw_container_steps.specs.Rules.{cont_ending, look_by}
 use Rattle.sw_container_steps.specs.declared.cont_answer.ContAnswer.{ContAnswer}
 use Rattle.sw_container_steps.specs.declared.cont_answer.ContAnswer.TheVariants as conts
@@ -25,6 +28,7 @@ use Rattle.sw_container_steps.specs.declared.cont_entry.ContEntry.{ContEntry}
 use Rattle.sw_container_steps.specs.declared.info.Info.{Info}
 use Rattle.sw_container_steps.specs.declared.syncing.Parcel.{Parcel}
 use Rattle.sw_container_db.specs.Calling.{Called, CalledBy, Came, CommitFails, CommitWants, Counts, Looked, ReadCalled, RefusedBy, SameTables, Seen}
+use Rattle.sw_container_db.specs.Calling.{Enters, EntersOn, IsRead, OfNone, ReadWants, RefusedWants, StepWants}
 use Rattle.sw_container_db.specs.Calling.{Wrote, beside, beside_made, call_for, left_by, load_at, loaded_after, raised_by}
 use Rattle.sw_container_db.specs.ContDirs.{ContKept, doubts_in}
 use Rattle.sw_container_db.specs.LoadedList.{rows_held, tables_at, trimmed}
@@ -49,6 +53,28 @@ pub room-left : {A : Type 0} (entries : List A) (left : Option Tables) (others :
     → beside_made entries left others ≡ trimmed (rows_held left) others
 room-left [] left others full = absurd (full refl)
 room-left (e ∷ es) left others full = refl
+
+-- ---- where memory ran out
+
+-- an answer of another kind
+pub fine-wants : (place : Place) (change : ContChange) (read : Option Tables) (answer : ContAnswer) → cont_ending answer ≢ Wants
+    → EntersOn answer place change read
+fine-wants place change read conts.NoMemory fine = absurd (fine refl)
+fine-wants place change read (conts.New front) fine = tt
+fine-wants place change read (conts.There front) fine = tt
+fine-wants place change read (conts.Done front) fine = tt
+fine-wants place change read conts.Absent fine = tt
+fine-wants place change read (conts.Stale time) fine = tt
+fine-wants place change read (conts.NotEmpty count) fine = tt
+fine-wants place change read conts.JournalFull fine = tt
+fine-wants place change read conts.Failed fine = tt
+
+-- a step that was decided to make entries
+pub makes-enters : (t given : Option Tables) (place : Place) (change : ContChange) (entries batch : List ContEntry)
+    → IsDecided t place change (Makes entries) → batch ≡ entries → batch ≢ [] → t ≡ given → Enters place change given
+makes-enters t given place change entries batch decided is full was =
+    let enters : Enters place change t = (decided.0, λ none. full (is ∙ (decided.1 ∙ none))) in
+    subst (Enters place change) was enters
 
 module _ {K : Type 0} (tells : K → Bool) (holds : K → Place → Option Tables) (faults calls : K → ℕ) where
   -- ---- where no doubt is left, and the tables are the last
@@ -251,3 +277,95 @@ module _ {K : Type 0} (tells : K → Bool) (holds : K → Place → Option Table
   called-fault k n place change (conts.Stale time) fault w = absurd (fault refl)
   called-fault k n place change (conts.NotEmpty count) fault w = absurd (fault refl)
   called-fault k n place change conts.JournalFull fault w = absurd (fault refl)
+
+  -- ---- where memory ran out
+
+  module _ (k n : ContKept K) (place : Place) where
+    -- of a step or a read that came to no tables
+    pub unready-step : (change : ContChange) (answer : ContAnswer) → RefusedWants tells holds faults calls OfNone k place answer n
+        → StepWants tells holds faults calls k place change answer n
+    unready-step change conts.NoMemory (inl unsettled) = inl unsettled
+    unready-step change conts.NoMemory (inr (inl unread)) = inr (inl unread)
+    unready-step change conts.NoMemory (inr (inr none)) = absurd none.2
+    unready-step change (conts.New front) w = tt
+    unready-step change (conts.There front) w = tt
+    unready-step change (conts.Done front) w = tt
+    unready-step change conts.Absent w = tt
+    unready-step change (conts.Stale time) w = tt
+    unready-step change (conts.NotEmpty count) w = tt
+    unready-step change conts.JournalFull w = tt
+    unready-step change conts.Failed w = tt
+
+    pub unready-read : (takes : Option Tables → Type 0) (answer : ContAnswer) → RefusedWants tells holds faults calls OfNone k place answer n
+        → RefusedWants tells holds faults calls takes k place answer n
+    unready-read takes conts.NoMemory (inl unsettled) = inl unsettled
+    unready-read takes conts.NoMemory (inr (inl unread)) = inr (inl unread)
+    unready-read takes conts.NoMemory (inr (inr none)) = absurd none.2
+    unready-read takes (conts.New front) w = tt
+    unready-read takes (conts.There front) w = tt
+    unready-read takes (conts.Done front) w = tt
+    unready-read takes conts.Absent w = tt
+    unready-read takes (conts.Stale time) w = tt
+    unready-read takes (conts.NotEmpty count) w = tt
+    unready-read takes conts.JournalFull w = tt
+    unready-read takes conts.Failed w = tt
+
+    -- of one that came to these tables
+    pub read-step-wants : (change : ContChange) (read : Option Tables) (answer : ContAnswer) → IsRead tells holds faults calls k place read
+        → EntersOn answer place change read → StepWants tells holds faults calls k place change answer n
+    read-step-wants change read conts.NoMemory is enters = inr (inr (read, is, enters))
+    read-step-wants change read (conts.New front) is enters = tt
+    read-step-wants change read (conts.There front) is enters = tt
+    read-step-wants change read (conts.Done front) is enters = tt
+    read-step-wants change read conts.Absent is enters = tt
+    read-step-wants change read (conts.Stale time) is enters = tt
+    read-step-wants change read (conts.NotEmpty count) is enters = tt
+    read-step-wants change read conts.JournalFull is enters = tt
+    read-step-wants change read conts.Failed is enters = tt
+
+    -- what is read of tables finds memory
+    pub informed-wants : (t : Option Tables) (front : ℕ) (got : Result Info ContAnswer) → got ≡ info_of t front
+        → ReadWants tells holds faults calls OfNone k place got n
+    informed-wants t front got is = subst (λ (r : Result Info ContAnswer). ReadWants tells holds faults calls OfNone k place r n) (sym is) (by t)
+      where
+        by : (t : Option Tables) → ReadWants tells holds faults calls OfNone k place (info_of t front) n
+        by None = tt
+        by (Some t) = at (is_no_time (deletion_after t.put_time t.delete_time))
+          where
+            at : (b : Bool) → ReadWants tells holds faults calls {A = Info} OfNone k place
+                (if b then Ok (record {
+                  put_time = t.put_time;
+                  count = count_of t.rows.list;
+                  bytes = bytes_of t.rows.list;
+                  hash = hash_of t.rows.list;
+                  front = front;
+                }) else Err conts.Absent) n
+            at true = tt
+            at false = tt
+
+    pub listed-wants : (takes : Option Tables → Type 0) (query : Query) (t : Option Tables) (front : ℕ) (got : Result (List Entry) ContAnswer)
+        → got ≡ listing_of query t front → ReadWants tells holds faults calls takes k place got n
+    listed-wants takes query t front got is =
+        subst (λ (r : Result (List Entry) ContAnswer). ReadWants tells holds faults calls takes k place r n) (sym is) (by t)
+      where
+        by : (t : Option Tables) → ReadWants tells holds faults calls takes k place (listing_of query t front) n
+        by None = tt
+        by (Some t) = at (is_no_time (deletion_after t.put_time t.delete_time))
+          where
+            at : (b : Bool) → ReadWants tells holds faults calls takes k place (if b then Ok (listing query t.rows.list) else Err conts.Absent) n
+            at true = tt
+            at false = tt
+
+    pub parceled-wants : (takes : Option Tables → Type 0) (device : ℕ) (t : Option Tables) (front : ℕ) (got : Result Parcel ContAnswer)
+        → got ≡ parcel_of device t front → ReadWants tells holds faults calls takes k place got n
+    parceled-wants takes device t front got is =
+        subst (λ (r : Result Parcel ContAnswer). ReadWants tells holds faults calls takes k place r n) (sym is) (by t)
+      where
+        by : (t : Option Tables) → ReadWants tells holds faults calls takes k place (parcel_of device t front) n
+        by None = tt
+        by (Some t) = at (is_no_time (deletion_after t.put_time t.delete_time))
+          where
+            at : (b : Bool) → ReadWants tells holds faults calls {A = Parcel} takes k place
+                (if b then Ok (record { rows = rows_for device t; top = t.rows.top }) else Err conts.Absent) n
+            at true = tt
+            at false = tt

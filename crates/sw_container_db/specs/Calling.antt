@@ -1,11 +1,11 @@
 -- The calls of the keeper that a step makes, in their order, and how many of them failed: the load that settles the doubt, the load of the
 -- container's tables where they aren't loaded already, and the commit; and what stays loaded then. (This project's own.)
-use Rattle.std.specs.Prelude.{◌≡◌, ℕ, zero, suc, ◌≤◌, Bool, true, if◌then◌else◌, List, [], ◌∷◌, ◌++◌, Option, IfSome, ◌⊎◌, Result, Ok, Err}
+use Rattle.std.specs.Prelude.{◌≡◌, ◌≢◌, ⊤, ℕ, zero, suc, ◌≤◌, Bool, true, if◌then◌else◌, List, [], ◌∷◌, ◌++◌, Option, None, IfSome, ◌⊎◌, Result, Ok, Err}
 use Rattle.sw_hashpath.specs.declared.place.Place.{Place}
 use Rattle.sw_outside.specs.Counts.{raised}
 use Rattle.sw_keeper.specs.declared.tables.Tables.{Tables}
 use Rattle.sw_container_steps.specs.Entries.{all_entered}
-use Rattle.sw_container_steps.specs.Steps.{entries_for}
+use Rattle.sw_container_steps.specs.Steps.{cont_refusal, entries_for}
 use Rattle.sw_container_steps.specs.declared.cont_answer.ContAnswer.{ContAnswer}
 use Rattle.sw_container_steps.specs.declared.cont_answer.ContAnswer.TheVariants as answers
 use Rattle.sw_container_steps.specs.declared.cont_change.ContChange.{ContChange}
@@ -44,6 +44,19 @@ beside_made (x ∷ xs) left others = trimmed (rows_held left) others
 -- the tables that a step leaves, over those that it read
 abbrev pub left_by : Option Tables → Place → ContChange → Option Tables
 left_by read place change = all_entered read (entries_for read place change)
+
+-- the step isn't refused over these tables, and enters something: no other step takes memory once they were read
+abbrev pub Enters : Place → ContChange → Option Tables → Type 0
+Enters place change read = (cont_refusal read place change ≡ None) × (entries_for read place change ≢ [])
+
+-- the same, where memory ran out
+abbrev pub EntersOn : ContAnswer → Place → ContChange → Option Tables → Type 0
+EntersOn answers.NoMemory place change read = Enters place change read
+EntersOn answer place change read = ⊤
+
+-- of no tables: what is so read takes no memory
+abbrev pub OfNone : Option Tables → Type 0
+OfNone read = ⊥
 
 -- what is loaded once the doubt of a lock is settled
 abbrev pub settled_in : {K : Type 0} → ContKept K → List Loaded
@@ -174,3 +187,24 @@ module _ {K : Type 0} (tells : K → Bool) (holds : K → Place → Option Table
   NamesCalled k (Err answers.Failed) n = Unsettled 1 k n ⊎ Named 1 k n
   NamesCalled k (Err answers.NoMemory) n = Unsettled 0 k n ⊎ Named 0 k n
   NamesCalled k (Err answer) n = Named 0 k n
+
+  -- ---- where memory ran out
+
+  -- the doubt wasn't settled, or a load was needed and gave no tables, or this holds of the tables that were read
+  abbrev pub WantsOver : (Option Tables → Type 0) → ContKept K → Place → ContKept K → Type 0
+  WantsOver takes k place n = Unsettled 0 k n ⊎ Unread 0 (load_at k place) k n ⊎ ((read : Option Tables) × IsRead k place read × takes read)
+
+  -- of a step at a place
+  abbrev pub StepWants : ContKept K → Place → ContChange → ContAnswer → ContKept K → Type 0
+  StepWants k place change answers.NoMemory n = WantsOver (Enters place change) k place n
+  StepWants k place change answer n = ⊤
+
+  -- of a read at a place, by the answer in place of what it reads
+  abbrev pub RefusedWants : (Option Tables → Type 0) → ContKept K → Place → ContAnswer → ContKept K → Type 0
+  RefusedWants takes k place answers.NoMemory n = WantsOver takes k place n
+  RefusedWants takes k place answer n = ⊤
+
+  -- of a read at a place
+  abbrev pub ReadWants : {A : Type 0} → (Option Tables → Type 0) → ContKept K → Place → Result A ContAnswer → ContKept K → Type 0
+  ReadWants takes k place (Ok got) n = ⊤
+  ReadWants takes k place (Err answer) n = RefusedWants takes k place answer n

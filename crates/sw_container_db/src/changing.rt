@@ -1,5 +1,5 @@
 ghost use Rattle.std.specs.Prelude.{◌≡◌, ◌≢◌, ◌+◌, ◌<◌, ◌^◌, true, List, [], ◌∷◌, ◌++◌, Option, length, nat_le, ◌&&◌};
-ghost use Rattle.sw_container_db.specs.Calling.{Called, CalledBy};
+ghost use Rattle.sw_container_db.specs.Calling.{Called, CalledBy, EntersOn, StepWants};
 ghost use Rattle.sw_container_db.specs.ContDirs.{cont_history_of};
 ghost use Rattle.sw_container_db.specs.LoadedList.{tables_at, IsLast};
 ghost use Rattle.sw_container_db.specs.Stepping.{IsStep};
@@ -27,10 +27,12 @@ impl<K: Keeper + Drop> ContDir<K> {
     /// has no room for its entries, or their batch is committed. A step that has nothing to change commits nothing.
     ///
     /// [`ContAnswer::Failed`] comes only where a call of the keeper failed: after a load nothing was done, and after the commit the entries are in
-    /// doubt. [`ContAnswer::NoMemory`] leaves all tables as they are.
+    /// doubt. [`ContAnswer::NoMemory`] leaves all tables as they are, and once the tables were read it comes only of a step that isn't refused and
+    /// enters something.
     pub fn change(&mut self, alloc: Global, place: &Place, change: &ContChange) -> ContAnswer
         ensures made { IsStep K.tells K.holds K.faults self.old place.now change.now result self.new }
         ensures called { Called K.tells K.holds K.faults K.calls self.old place.now change.now result self.new }
+        ensures wanted { StepWants K.tells K.holds K.faults K.calls self.old place.now change.now result self.new }
     {
         match self.ready(alloc, place) {
             Ok(()) => self.make(alloc, place, change),
@@ -51,6 +53,8 @@ impl<K: Keeper + Drop> ContDir<K> {
             result (cont_history_of K.tells K.holds K.faults self.new) (K.holds self.new.keeper place.now) }
         ensures called { (others : List Loaded) → (read : Option Tables) → self.old.loaded ≡ others ++ tables_at place.now read ∷ []
             → CalledBy K.tells K.holds K.faults K.calls 0 others read self.old place.now change.now result self.new }
+        ensures wanted { (others : List Loaded) → (read : Option Tables) → self.old.loaded ≡ others ++ tables_at place.now read ∷ []
+            → EntersOn result place.now change.now read }
     {
         let tables = self.loaded.last();
         let entries = match decide(alloc, tables, place, change) {

@@ -1,5 +1,5 @@
 ghost use Rattle.std.specs.Prelude.{◌≡◌, ◌≢◌, true, List, ◌++◌, IfErr, OnOk, OnErr};
-ghost use Rattle.sw_container_db.specs.Calling.{ReadCalled, load_for, raised_by};
+ghost use Rattle.sw_container_db.specs.Calling.{OfNone, ReadCalled, ReadWants, load_for, raised_by};
 ghost use Rattle.sw_container_db.specs.ContDirs.{cont_history_of};
 ghost use Rattle.sw_container_db.specs.LoadedList.{trimmed};
 ghost use Rattle.sw_container_db.specs.Loading.{Loads};
@@ -34,6 +34,7 @@ impl<K: Keeper + Drop> ContDir<K> {
         ensures fault { IfErr result (λ answer. look_by (cont_ending answer) ≢ Tells) }
         ensures cause { IfErr result (λ answer. cont_ending answer ≡ Fails → HasRisen (K.faults self.old.keeper) (K.faults self.new.keeper)) }
         ensures called { ReadCalled K.tells K.holds K.faults K.calls self.old place.now result self.new }
+        ensures wanted { ReadWants K.tells K.holds K.faults K.calls OfNone self.old place.now result self.new }
     {
         let looked = self.look(alloc, place);
         self.may_stand();
@@ -53,6 +54,7 @@ impl<K: Keeper + Drop> ContDir<K> {
         ensures fault { IfErr result (λ answer. look_by (cont_ending answer) ≢ Tells) }
         ensures cause { IfErr result (λ answer. cont_ending answer ≡ Fails → HasRisen (K.faults self.old.keeper) (K.faults self.new.keeper)) }
         ensures called { ReadCalled K.tells K.holds K.faults K.calls self.old place.now result self.new }
+        ensures wanted { ReadWants K.tells K.holds K.faults K.calls OfNone self.old place.now result self.new }
     {
         match self.settle(alloc) {
             Ok(()) => {}

@@ -1,10 +1,12 @@
-ghost use Rattle.std.specs.Prelude.{◌≡◌, ◌++◌, ◌∷◌, [], List};
-ghost use Rattle.sw_container_db.specs.Calling.{ReadCalled};
+ghost use Rattle.std.specs.Prelude.{◌≡◌, ◌++◌, ◌∷◌, [], true, List, Option};
+ghost use Rattle.sw_container_db.specs.Calling.{OfNone, ReadCalled, ReadWants};
 ghost use Rattle.sw_container_db.specs.LoadedList.{IsLast};
 ghost use Rattle.sw_container_db.specs.Stepping.{IsReadStep};
-ghost use Rattle.sw_container_steps.specs.Reads.{info_of, listing_of, parcel_of, times_of};
+ghost use Rattle.sw_container_steps.specs.Reads.{info_of, listing_of, parcel_of, times_of, HasRowsFor};
+ghost use Rattle.sw_container_steps.specs.Presence.{is_present};
 ghost use Rattle.sw_container_db.specs.declared.loaded_list.Loaded.{Loaded};
 ghost use Rattle.sw_hashpath.specs.declared.place.Place.{Place};
+ghost use Rattle.sw_keeper.specs.declared.tables.Tables.{Tables};
 
 use crate::cont_dir::ContDir;
 use std::alloc::Global;
@@ -16,7 +18,7 @@ use sw_outside::NoMemory;
 use sw_timestamp::Timestamp;
 
 /// Reads of one container. Each settles the doubt where there is one, loads the container's tables where they aren't loaded, and
-/// answers from these. No tables change.
+/// answers from these. No tables change. Once they were read, only a listing takes memory, and rows that there are to be sent.
 impl<K: Keeper + Drop> ContDir<K> {
     /// The put time and the delete time of the container, also of a deleted one; none where it was never created.
     pub fn times(
@@ -26,6 +28,7 @@ impl<K: Keeper + Drop> ContDir<K> {
     ) -> Result<Option<(Timestamp, Option<Timestamp>)>, ContAnswer>
         ensures read { IsReadStep K.tells K.holds K.faults self.old place.now times_of result self.new }
         ensures called { ReadCalled K.tells K.holds K.faults K.calls self.old place.now result self.new }
+        ensures wanted { ReadWants K.tells K.holds K.faults K.calls OfNone self.old place.now result self.new }
     {
         self.ready(alloc, place)?;
         Ok(times_of(self.tables()))
@@ -35,6 +38,7 @@ impl<K: Keeper + Drop> ContDir<K> {
     pub fn info(&mut self, alloc: Global, place: &Place) -> Result<Info, ContAnswer>
         ensures read { IsReadStep K.tells K.holds K.faults self.old place.now info_of result self.new }
         ensures called { ReadCalled K.tells K.holds K.faults K.calls self.old place.now result self.new }
+        ensures wanted { ReadWants K.tells K.holds K.faults K.calls OfNone self.old place.now result self.new }
     {
         self.ready(alloc, place)?;
         info_of(self.tables(), self.front())
@@ -49,6 +53,7 @@ impl<K: Keeper + Drop> ContDir<K> {
     ) -> Result<Entries, ContAnswer>
         ensures read { IsReadStep K.tells K.holds K.faults self.old place.now (listing_of query.now) result self.new }
         ensures called { ReadCalled K.tells K.holds K.faults K.calls self.old place.now result self.new }
+        ensures wanted { ReadWants K.tells K.holds K.faults K.calls (λ (read : Option Tables). is_present read ≡ true) self.old place.now result self.new }
     {
         self.ready(alloc, place)?;
         match list(alloc, self.tables(), query) {
@@ -66,6 +71,7 @@ impl<K: Keeper + Drop> ContDir<K> {
     ) -> Result<Parcel, ContAnswer>
         ensures read { IsReadStep K.tells K.holds K.faults self.old place.now (parcel_of device) result self.new }
         ensures called { ReadCalled K.tells K.holds K.faults K.calls self.old place.now result self.new }
+        ensures wanted { ReadWants K.tells K.holds K.faults K.calls (HasRowsFor device) self.old place.now result self.new }
     {
         self.ready(alloc, place)?;
         match sync_rows(alloc, self.tables(), device) {

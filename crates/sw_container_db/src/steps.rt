@@ -1,4 +1,4 @@
-ghost use Rattle.sw_container_db.specs.Calling.{Called};
+ghost use Rattle.sw_container_db.specs.Calling.{Called, StepWants};
 ghost use Rattle.sw_container_db.specs.Stepping.{IsStep};
 ghost use Rattle.sw_container_steps.specs.declared.cont_change.ContChange.TheVariants as changes;
 
@@ -17,6 +17,7 @@ impl<K: Keeper + Drop> ContDir<K> {
     pub fn create(&mut self, alloc: Global, place: &Place, time: Timestamp) -> ContAnswer
         ensures made { IsStep K.tells K.holds K.faults self.old place.now (changes.Create time) result self.new }
         ensures called { Called K.tells K.holds K.faults K.calls self.old place.now (changes.Create time) result self.new }
+        ensures wanted { StepWants K.tells K.holds K.faults K.calls self.old place.now (changes.Create time) result self.new }
     {
         self.change(alloc, place, &ContChange::Create { time })
     }
@@ -26,6 +27,7 @@ impl<K: Keeper + Drop> ContDir<K> {
     pub fn remove(&mut self, alloc: Global, place: &Place, time: Timestamp) -> ContAnswer
         ensures made { IsStep K.tells K.holds K.faults self.old place.now (changes.Remove time) result self.new }
         ensures called { Called K.tells K.holds K.faults K.calls self.old place.now (changes.Remove time) result self.new }
+        ensures wanted { StepWants K.tells K.holds K.faults K.calls self.old place.now (changes.Remove time) result self.new }
     {
         self.change(alloc, place, &ContChange::Remove { time })
     }
@@ -35,6 +37,7 @@ impl<K: Keeper + Drop> ContDir<K> {
     pub fn merge_row(&mut self, alloc: Global, place: &Place, row: Row) -> ContAnswer
         ensures made { IsStep K.tells K.holds K.faults self.old place.now (changes.MergeRow row) result self.new }
         ensures called { Called K.tells K.holds K.faults K.calls self.old place.now (changes.MergeRow row) result self.new }
+        ensures wanted { StepWants K.tells K.holds K.faults K.calls self.old place.now (changes.MergeRow row) result self.new }
     {
         self.change(alloc, place, &ContChange::MergeRow { row })
     }
@@ -43,6 +46,7 @@ impl<K: Keeper + Drop> ContDir<K> {
     pub fn merge_rows(&mut self, alloc: Global, place: &Place, rows: RowList) -> ContAnswer
         ensures made { IsStep K.tells K.holds K.faults self.old place.now (changes.MergeRows rows) result self.new }
         ensures called { Called K.tells K.holds K.faults K.calls self.old place.now (changes.MergeRows rows) result self.new }
+        ensures wanted { StepWants K.tells K.holds K.faults K.calls self.old place.now (changes.MergeRows rows) result self.new }
     {
         self.change(alloc, place, &ContChange::MergeRows { rows })
     }
@@ -52,6 +56,7 @@ impl<K: Keeper + Drop> ContDir<K> {
     pub fn set_sync(&mut self, alloc: Global, place: &Place, device: u8, rowid: u64) -> ContAnswer
         ensures made { IsStep K.tells K.holds K.faults self.old place.now (changes.SetSync device rowid) result self.new }
         ensures called { Called K.tells K.holds K.faults K.calls self.old place.now (changes.SetSync device rowid) result self.new }
+        ensures wanted { StepWants K.tells K.holds K.faults K.calls self.old place.now (changes.SetSync device rowid) result self.new }
     {
         self.change(alloc, place, &ContChange::SetSync { device, rowid })
     }

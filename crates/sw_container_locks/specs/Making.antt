@@ -1,16 +1,18 @@
 -- A step at one container lock, with its line. (This project's own.)
-use Rattle.std.specs.Prelude.{◌≡◌, ℕ, Bool, List, [], Option, Result, Some, slice_set}
+use Rattle.std.specs.Prelude.{◌≡◌, ℕ, true, Bool, List, [], Option, Result, Some, slice_set}
 use Rattle.std.specs.List.{slice_get}
-use Rattle.sw_container_db.specs.Calling.{Called, ReadCalled}
+use Rattle.sw_container_db.specs.Calling.{Called, OfNone, ReadCalled, ReadWants, StepWants}
 use Rattle.sw_container_db.specs.ContDirs.{ContKept}
 use Rattle.sw_container_db.specs.Stepping.{IsReadStep, IsStep}
+use Rattle.sw_container_steps.specs.Presence.{is_present}
+use Rattle.sw_container_steps.specs.Reads.{HasRowsFor}
 use Rattle.sw_container_steps.specs.Rules.{cont_rules}
 use Rattle.sw_container_steps.specs.declared.cont_answer.ContAnswer.{ContAnswer}
 use Rattle.sw_container_steps.specs.declared.cont_change.ContChange.{ContChange}
 use Rattle.sw_container_steps.specs.declared.cont_entry.ContEntry.{ContEntry}
 use Rattle.sw_hashpath.specs.declared.place.Place.{Place}
 use Rattle.sw_peer.specs.declared.cont_event.ContEvent.{ContEvent}
-use Rattle.sw_peer.specs.declared.cont_event.ContEvent.TheVariants.{Changed}
+use Rattle.sw_peer.specs.declared.cont_event.ContEvent.TheVariants.{Changed, Timed, Informed, Listed, Parceled}
 use Rattle.sw_peer.specs.declared.line.Event.TheVariants.{AtContainer}
 use Rattle.sw_peer.specs.declared.line.Line.{Line}
 use Rattle.sw_peer.specs.declared.link.Link.{Link}
@@ -28,6 +30,15 @@ line_of link device event entered = record { device = device; link = link; event
 abbrev pub taken : {K : Type 0} → ContKept K → ContKept K
 taken k = record k { fresh = [] }
 
+-- over which tables a read takes memory once they were read, by how a line tells of it: a listing where the container is there, and rows to be sent
+-- where there are any
+abbrev pub read_takes : ContEvent → Option Tables → Type 0
+read_takes (Changed place change answer) = OfNone
+read_takes (Timed place got) = OfNone
+read_takes (Informed place got) = OfNone
+read_takes (Listed place query got) = λ read. is_present read ≡ true
+read_takes (Parceled place device got) = HasRowsFor device
+
 module _ {K : Type 0} (tells : K → Bool) (holds : K → Place → Option Tables) (faults calls : K → ℕ) where
   -- a step that may change the container, at its lock. What it entered is in the line alone
   pub record IsChangedIn (k : ContKept K) (link : Link) (device : ℕ) (place : Place) (change : ContChange) (answer : ContAnswer) (n : ContKept K) (line : Line)
@@ -35,6 +46,7 @@ module _ {K : Type 0} (tells : K → Bool) (holds : K → Place → Option Table
     pub left : ContKept K  -- as the step left the lock
     pub step : IsStep tells holds faults k place change answer left
     pub called : Called tells holds faults calls k place change answer left
+    pub wanted : StepWants tells holds faults calls k place change answer left
     pub after : n ≡ taken left
     pub line_is : line ≡ line_of link device (Changed place change answer) (added_by cont_rules step.made)
 
@@ -44,6 +56,7 @@ module _ {K : Type 0} (tells : K → Bool) (holds : K → Place → Option Table
     pub left : ContKept K
     pub step : IsReadStep tells holds faults k place reading got left
     pub called : ReadCalled tells holds faults calls k place got left
+    pub wanted : ReadWants tells holds faults calls (read_takes (event got)) k place got left
     pub after : n ≡ taken left
     pub line_is : line ≡ line_of link device (event got) step.read.follows.entries.0
 

@@ -1,7 +1,6 @@
 -- Locks that begin anew over the keepers that they have. (This project's own.)
 use Rattle.std.specs.Prelude.{◌≡◌, ℕ, ◌<◌, ◌≤◌, ◌⊎◌, Bool, true, List, length, Option, Some}
 use Rattle.std.specs.List.{slice_get}
-use Rattle.sw_container_db.specs.ContDirs.{ContKept}
 use Rattle.sw_hashpath.specs.declared.place.Place.{Place}
 use Rattle.sw_history.specs.Halves.{HalfRestarts}
 use Rattle.sw_keeper.specs.declared.tables.Tables.{Tables}

@@ -1,4 +1,4 @@
-ghost use Rattle.std.specs.Prelude.{◌≡◌, ◌↔◌, ℕ, ◌+◌, ◌<◌, ◌≤◌, length, IsTrue, IfOk, IfErr, OnErr};
+ghost use Rattle.std.specs.Prelude.{◌≡◌, ◌≢◌, ◌↔◌, ℕ, ◌+◌, ◌<◌, ◌≤◌, [], length, IsTrue, IfOk, IfErr, OnErr};
 ghost use Rattle.sw_container_locks.specs.Halves.{MayStand};
 ghost use Rattle.sw_container_locks.specs.Slots.{AreLocks, AreSetDown, IsOpen, Lifts, keepers_of, opened};
 
@@ -30,10 +30,12 @@ impl<K: Keeper + Drop> Model for ContLocks<K> {
 }
 
 impl<K: Keeper + Drop> ContLocks<K> {
-    /// The locks over these keepers, in their order. The journal of each begins. Where memory runs out the keepers come back.
+    /// The locks over these keepers, in their order. The journal of each begins. Where memory runs out the keepers come back; where there are none it
+    /// doesn't.
     pub fn open(alloc: Global, keepers: Vec<K>) -> Result<ContLocks<K>, Vec<K>>
         ensures opens { IfOk result (λ locks. locks ≡ opened keepers.items) }
         ensures back { IfErr result (λ given. given ≡ keepers) }
+        ensures some { OnErr result (keepers.items ≢ []) }
     {
         let Ok(room) = Vec::with_capacity(alloc, keepers.len()) else {
             return Err(keepers);
@@ -73,13 +75,15 @@ impl<K: Keeper + Drop> ContLocks<K> {
         keepers_in(self.slots, self.room)
     }
 
-    /// Takes the locks from `first` on, up to `past`, out, and gives their keepers. Until they are set down again no step can be made there.
+    /// Takes the locks from `first` on, up to `past`, out, and gives their keepers. Until they are set down again no step can be made there. Memory is
+    /// wanted only where there are any.
     pub fn lift(&mut self, alloc: Global, first: usize, past: usize) -> Result<Vec<K>, NoMemory>
         requires order { first ≤ past }
         requires within { past ≤ length self.old }
         requires are_open { (l : ℕ) → first ≤ l → l < past → IsOpen self.old l }
         ensures ok { IfOk result (λ keepers. Lifts K.tells first past self.old self.new keepers.items) }
         ensures err { OnErr result (self.new ≡ self.old) }
+        ensures starved { OnErr result (first < past) }
     {
         let mut keepers = Vec::with_capacity(alloc, past - first)?;
         lift_slots(&mut self.slots, first, past, &mut keepers);

@@ -1,7 +1,8 @@
-ghost use Rattle.std.specs.Prelude.{◌≡◌, ◌<◌, ◌^◌, true, false, None, IfOk};
+ghost use Rattle.std.specs.Prelude.{◌≡◌, ◌<◌, ◌^◌, true, false, None, IsSome, IfOk, OnErr};
 ghost use Rattle.sw_container_server.specs.Asking.{IsAsked, IsAskedBy, IsPlaced};
 ghost use Rattle.sw_container_server.specs.Places.{IsKeeper, name_fault, place_in};
-ghost use Rattle.sw_container_server.specs.Targets.{is_for_containers as is_for_containers_of, target_of as target_of_path};
+ghost use Rattle.sw_container_server.specs.Targets.{is_for_containers as is_for_containers_of, is_row as is_row_path, target_of as target_of_path};
+ghost use Rattle.sw_container_server.specs.Targets.{verb_of as verb_of_method};
 
 use crate::asked::ContAsked;
 use crate::naming::place_of;
@@ -16,7 +17,8 @@ use sw_object_server::has_number;
 use sw_outside::NoMemory;
 use sw_ring::{Ring, Which};
 
-/// What a request for containers asks the nodes of a ring for, or the status that refuses it. Its body is passed over.
+/// What a request for containers asks the nodes of a ring for, or the status that refuses it. Its body is passed over. No memory is taken of one that
+/// its method refuses.
 pub fn read_container_request(
     alloc: Global,
     ring: &Ring,
@@ -25,6 +27,7 @@ pub fn read_container_request(
     requires { is_for_containers_of request.now ≡ true }
     ensures asked { IfOk result (IsAsked ring.now request.now) }
     ensures placed { IfOk result (IsPlaced ring.now) }
+    ensures starved { OnErr result (IsSome (verb_of_method (is_row_path request.now.path) request.now.method)) }
 {
     let path = request.path.as_slice();
     match verb_of(is_row(path), &request.method) {

@@ -1,6 +1,6 @@
 -- Rows that were put in, beside those that stood.
 use Rattle.std.proofs.Common.{◌≡◌, ℕ, ◌+◌, ◌<◌, ◌≤◌, suc, Bool, true, false, cond, not, List, [], ◌∷◌, ◌++◌, length, drop, get_or, Option, None, Some, refl}
-use Rattle.std.proofs.Common.{sym, ◌∙◌, ap, subst, add-one, append_assoc, arith}
+use Rattle.std.proofs.Common.{◌≢◌, length-append, sym, ◌∙◌, ap, subst, add-one, append_assoc, arith}
 use Rattle.std.specs.Option.{option_or}
 use Rattle.std.specs.Str.{bytes_eq}
 use Rattle.std.proofs.Math.Seq.{drop-cons}
@@ -122,3 +122,30 @@ kept-passed base later place all i entries total row kept within is passed =
       few = omega (arith, few);
       made = subst (λ (es : List ContEntry). entries ++ es ≡ total) (ap (λ (rs : List Row). merging_entries kept.now place rs) steps ∙ left ∙ same) kept.made;
     }
+
+-- a list with one more behind it is no shorter
+pub one-longer : {A : Type 0} (least xs ys : List A) (x : A) → length least ≤ length xs → ys ≡ xs ++ x ∷ [] → length least ≤ length ys
+one-longer least xs ys x within is =
+    let longer : length (xs ++ x ∷ []) ≡ length xs + 1 = length-append xs (x ∷ []) in
+    omega (arith, within, longer, ap length is)
+
+-- where a row is put in, there are entries
+pub takes-some : (base later : Listed) (place : Place) (all : List Row) (i : ℕ) (entries before : List ContEntry) (row : Row)
+    → Kept base later place all i entries (before ++ merging_entries base place all) → length before ≤ length entries
+    → i < length all → row ≡ get_or all i row
+    → fits (option_or (find_named later.list row.name) (find_named base.list row.name)) row ≡ true
+    → merging_entries base place all ≢ []
+takes-some base later place all i entries before row kept grown within is taken none =
+    let fits_now : fits (find_named kept.now.list row.name) row ≡ true = subst (λ (o : Option Row). fits o row ≡ true) (sym (kept.over row.name)) taken in
+    let steps : drop i all ≡ row ∷ drop (i + 1) all = step-at all i row within is in
+    let rest : List ContEntry = merging_entries (merged kept.now row) place (drop (i + 1) all) in
+    let left : merging_entries kept.now place (row ∷ drop (i + 1) all) ≡ Merged place row ∷ rest =
+    ap (λ (b : Bool). cond b (Merged place row ∷ rest) rest) fits_now in
+    let made : entries ++ Merged place row ∷ rest ≡ before ++ merging_entries base place all =
+    subst (λ (es : List ContEntry). entries ++ es ≡ before ++ merging_entries base place all)
+    (ap (λ (rs : List Row). merging_entries kept.now place rs) steps ∙ left) kept.made in
+    let one : length (entries ++ Merged place row ∷ rest) ≡ length entries + suc (length rest) = length-append entries (Merged place row ∷ rest) in
+    let other : length (before ++ merging_entries base place all) ≡ length before + length (merging_entries base place all) =
+    length-append before (merging_entries base place all) in
+    let no_more : length (merging_entries base place all) ≡ 0 = ap length none in
+    omega (arith, grown, one, other, no_more, ap length made)

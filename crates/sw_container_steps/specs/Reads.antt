@@ -1,11 +1,12 @@
 -- What is read of a container. (The container server of OpenStack Swift tells the same; what is told of a deleted one is this project's
 -- own.)
-use Rattle.std.specs.Prelude.{ℕ, if◌then◌else◌, List, Option, None, Some, Result, Ok, Err}
+use Rattle.std.specs.Prelude.{◌≡◌, ◌≢◌, ℕ, true, if◌then◌else◌, List, [], Option, None, Some, Result, Ok, Err}
 use Rattle.std.specs.Option.{option_map, option_map_or}
 use Rattle.sw_listing.specs.Listing.{listing}
 use Rattle.sw_listing.specs.declared.entry.Entry.{Entry}
 use Rattle.sw_listing.specs.declared.query.Query.{Query}
 use Rattle.sw_rows.specs.Rows.{rows_above}
+use Rattle.sw_rows.specs.declared.row.Row.{Row}
 use Rattle.sw_rows.specs.Sums.{bytes_of, count_of, hash_of}
 use Rattle.sw_sync.specs.Points.{point_at}
 use Rattle.sw_keeper.specs.declared.tables.Tables.{Tables}
@@ -32,8 +33,15 @@ info_of t front =
 abbrev pub listing_of : Query → Option Tables → ℕ → Result (List Entry) ContAnswer
 listing_of query t front = where_present t (λ t. listing query t.rows.list)
 
--- the rows above the sync point of a device, all where none is kept, and the greatest number given out
+-- the rows above the sync point of a device, all where none is kept
+abbrev pub rows_for : ℕ → Tables → List Row
+rows_for device t = rows_above (option_map_or (λ rowid. rowid) (point_at t.syncs 0 device) 0) t.rows.list
+
+-- the same of a container that is there, and the greatest number given out
 abbrev pub parcel_of : ℕ → Option Tables → ℕ → Result Parcel ContAnswer
-parcel_of device t front =
-    where_present t
-    (λ t. record { rows = rows_above (option_map_or (λ rowid. rowid) (point_at t.syncs 0 device) 0) t.rows.list; top = t.rows.top })
+parcel_of device t front = where_present t (λ t. record { rows = rows_for device t; top = t.rows.top })
+
+-- the container is there, and there are such rows
+abbrev pub HasRowsFor : ℕ → Option Tables → Type 0
+HasRowsFor device None = ⊥
+HasRowsFor device (Some t) = (is_no_time (deletion_after t.put_time t.delete_time) ≡ true) × (rows_for device t ≢ [])

@@ -1,4 +1,4 @@
-ghost use Rattle.std.specs.Prelude.{◌≡◌, ◌+◌, ◌-◌, ◌^◌, ◌≤◌, IsSome, IfOk};
+ghost use Rattle.std.specs.Prelude.{◌≡◌, ◌≢◌, ◌+◌, ◌-◌, ◌^◌, ◌≤◌, [], IsSome, IfOk, OnErr};
 ghost use Rattle.sw_container_steps.specs.Batches.{batch_for};
 ghost use Rattle.sw_container_steps.specs.Entries.{all_entered, rows_in, rows_of, top_of};
 ghost use Rattle.sw_keeper.specs.Changes.{IsBatch, all_changed};
@@ -17,7 +17,7 @@ pub struct Entered {
     pub tables: Option<Tables>,
 }
 
-/// The batch of changes that makes these entries where these tables are held, or [`NoMemory`].
+/// The batch of changes that makes these entries where these tables are held, or [`NoMemory`], which comes only where there are entries.
 ///
 /// A keeper takes it wherever the container is held in the end. Its time grows with the logarithm of the number of rows, for
 /// each row that is put in.
@@ -31,6 +31,7 @@ pub fn batch_of(
     ensures tables { IfOk result (λ made. made.tables ≡ all_entered tables entries.now) }
     ensures makes { IfOk result (λ made. all_changed tables made.batch ≡ made.tables) }
     ensures fits { IfOk result (λ made. IsSome made.tables → IsBatch tables made.batch) }
+    ensures starved { OnErr result (entries.now ≢ []) }
 {
     see_rows(&tables);
     let mut changes = Vec::new(alloc);

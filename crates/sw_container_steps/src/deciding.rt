@@ -1,6 +1,6 @@
-ghost use Rattle.std.specs.Prelude.{◌≡◌, IfOk};
+ghost use Rattle.std.specs.Prelude.{◌≡◌, ◌≢◌, [], None, IfOk, OnErr};
 ghost use Rattle.sw_container_steps.specs.Deciding.{IsDecided};
-ghost use Rattle.sw_container_steps.specs.Steps.{cont_made_answer};
+ghost use Rattle.sw_container_steps.specs.Steps.{cont_made_answer, cont_refusal, entries_for as entries_of};
 
 use crate::cont_answer::ContAnswer;
 use crate::cont_change::ContChange;
@@ -22,14 +22,16 @@ pub enum Decision {
     Makes(ContEntryList),
 }
 
-/// What the step comes to over the tables that stand at its place, or [`NoMemory`].
+/// What the step comes to over the tables that stand at its place, or [`NoMemory`], which comes only of a step that isn't refused and has entries.
 pub fn decide(
     alloc: Global,
     tables: &Option<Tables>,
     place: &Place,
     change: &ContChange,
 ) -> Result<Decision, NoMemory>
-    ensures { IfOk result (λ decision. IsDecided tables.now place.now change.now decision) }
+    ensures ok { IfOk result (λ decision. IsDecided tables.now place.now change.now decision) }
+    ensures unrefused { OnErr result (cont_refusal tables.now place.now change.now ≡ None) }
+    ensures starved { OnErr result (entries_of tables.now place.now change.now ≢ []) }
 {
     if let Some(answer) = refusal(tables, place, change) {
         return Ok(Decision::Refused(answer));

@@ -1,4 +1,4 @@
-ghost use Rattle.std.specs.Prelude.{◌≡◌, [], ◌∷◌, IfOk};
+ghost use Rattle.std.specs.Prelude.{◌≡◌, ◌≢◌, [], ◌∷◌, IfOk, OnErr};
 ghost use Rattle.std.specs.Option.{option_copied};
 ghost use Rattle.sw_container_steps.specs.Steps.{created_by, creation_entries, creation_time, entries_for, rows_entries, sync_entries};
 
@@ -16,14 +16,15 @@ use sw_outside::NoMemory;
 use sw_rows::Row;
 use sw_timestamp::Timestamp;
 
-/// The entries that a step adds where it isn't refused.
+/// The entries that a step adds where it isn't refused. Where it adds none no memory is taken.
 pub(crate) fn entries_for(
     alloc: Global,
     tables: &Option<Tables>,
     place: &Place,
     change: &ContChange,
 ) -> Result<Vec<ContEntry>, NoMemory>
-    ensures { IfOk result (λ entries. entries.items ≡ entries_for tables.now place.now change.now) }
+    ensures ok { IfOk result (λ entries. entries.items ≡ entries_for tables.now place.now change.now) }
+    ensures starved { OnErr result (entries_for tables.now place.now change.now ≢ []) }
 {
     match change {
         ContChange::Create { time } => creation_entries(alloc, tables, place, *time),
@@ -42,7 +43,8 @@ fn creation_entries(
     place: &Place,
     time: Timestamp,
 ) -> Result<Vec<ContEntry>, NoMemory>
-    ensures { IfOk result (λ entries. entries.items ≡ creation_entries tables.now place.now time) }
+    ensures ok { IfOk result (λ entries. entries.items ≡ creation_entries tables.now place.now time) }
+    ensures starved { OnErr result (creation_entries tables.now place.now time ≢ []) }
 {
     match tables {
         Some(tables) if tables.put_time >= time => Ok(Vec::new(alloc)),
@@ -58,7 +60,8 @@ fn sync_entries(
     device: u8,
     rowid: u64,
 ) -> Result<Vec<ContEntry>, NoMemory>
-    ensures { IfOk result (λ entries. entries.items ≡ sync_entries tables.now place.now device rowid) }
+    ensures ok { IfOk result (λ entries. entries.items ≡ sync_entries tables.now place.now device rowid) }
+    ensures starved { OnErr result (sync_entries tables.now place.now device rowid ≢ []) }
 {
     match tables {
         Some(tables) if tables.syncs.rises(SYNC_RANGE, device, rowid) => {
@@ -74,7 +77,8 @@ fn rows_entries(
     place: &Place,
     rows: &[Row],
 ) -> Result<Vec<ContEntry>, NoMemory>
-    ensures { IfOk result (λ entries. entries.items ≡ rows_entries tables.now place.now rows.now) }
+    ensures ok { IfOk result (λ entries. entries.items ≡ rows_entries tables.now place.now rows.now) }
+    ensures starved { OnErr result (rows_entries tables.now place.now rows.now ≢ []) }
 {
     let entries = created_by(alloc, tables, place, creator(tables, place, rows))?;
     merging_entries(alloc, entries, tables, place, rows)
@@ -87,7 +91,8 @@ fn created_by(
     place: &Place,
     row: Option<&Row>,
 ) -> Result<Vec<ContEntry>, NoMemory>
-    ensures { IfOk result (λ entries. entries.items ≡ created_by tables.now place.now (option_copied row.entry)) }
+    ensures ok { IfOk result (λ entries. entries.items ≡ created_by tables.now place.now (option_copied row.entry)) }
+    ensures starved { OnErr result (created_by tables.now place.now (option_copied row.entry) ≢ []) }
 {
     match row {
         Some(row) => {

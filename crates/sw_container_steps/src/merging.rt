@@ -1,4 +1,4 @@
-ghost use Rattle.std.specs.Prelude.{◌≡◌, ◌++◌, ◌∷◌, [], IfOk};
+ghost use Rattle.std.specs.Prelude.{◌≡◌, ◌≢◌, ◌++◌, ◌∷◌, [], IfOk, OnErr};
 ghost use Rattle.std.specs.Option.{option_or};
 ghost use Rattle.sw_container_steps.specs.Entries.{rows_of};
 ghost use Rattle.sw_container_steps.specs.Steps.{merging_entries};
@@ -11,7 +11,7 @@ use sw_keeper::Tables;
 use sw_outside::NoMemory;
 use sw_rows::{Row, Rows};
 
-/// The entries of the rows that are put in, each over those before it, behind these entries.
+/// The entries of the rows that are put in, each over those before it, behind these entries. Where none is put in no memory is taken.
 pub(crate) fn merging_entries(
     alloc: Global,
     entries: Vec<ContEntry>,
@@ -19,7 +19,8 @@ pub(crate) fn merging_entries(
     place: &Place,
     rows: &[Row],
 ) -> Result<Vec<ContEntry>, NoMemory>
-    ensures { IfOk result (λ all. all.items ≡ entries.items ++ merging_entries (rows_of tables.now) place.now rows.now) }
+    ensures ok { IfOk result (λ all. all.items ≡ entries.items ++ merging_entries (rows_of tables.now) place.now rows.now) }
+    ensures starved { OnErr result (merging_entries (rows_of tables.now) place.now rows.now ≢ []) }
 {
     match rows {
         [row] => merging_entry(alloc, entries, tables, place, row),
@@ -35,7 +36,8 @@ fn merging_entry(
     place: &Place,
     row: &Row,
 ) -> Result<Vec<ContEntry>, NoMemory>
-    ensures { IfOk result (λ all. all.items ≡ entries.items ++ merging_entries (rows_of tables.now) place.now (row.now ∷ [])) }
+    ensures ok { IfOk result (λ all. all.items ≡ entries.items ++ merging_entries (rows_of tables.now) place.now (row.now ∷ [])) }
+    ensures starved { OnErr result (merging_entries (rows_of tables.now) place.now (row.now ∷ []) ≢ []) }
 {
     if takes(tables, row) {
         entries.push(ContEntry::Merged(place.copy(alloc)?, row.copy(alloc)?))?;
@@ -54,7 +56,8 @@ fn all_merging_entries(
     place: &Place,
     rows: &[Row],
 ) -> Result<Vec<ContEntry>, NoMemory>
-    ensures { IfOk result (λ all. all.items ≡ entries.items ++ merging_entries (rows_of tables.now) place.now rows.now) }
+    ensures ok { IfOk result (λ all. all.items ≡ entries.items ++ merging_entries (rows_of tables.now) place.now rows.now) }
+    ensures starved { OnErr result (merging_entries (rows_of tables.now) place.now rows.now ≢ []) }
 {
     let mut later = Rows::empty(alloc);
     for row in rows {

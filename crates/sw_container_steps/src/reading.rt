@@ -1,4 +1,5 @@
-ghost use Rattle.std.specs.Prelude.{◌≡◌, ℕ, Ok, IfOk};
+ghost use Rattle.std.specs.Prelude.{◌≡◌, ℕ, true, Ok, IfOk, OnErr};
+ghost use Rattle.sw_container_steps.specs.Presence.{is_present as is_there};
 ghost use Rattle.sw_container_steps.specs.Reads.{info_of, listing_of, times_of};
 
 use crate::cont_answer::ContAnswer;
@@ -39,13 +40,14 @@ pub fn info_of(tables: &Option<Tables>, front: u64) -> Result<Info, ContAnswer>
     }
 }
 
-/// The listing that answers a query, or [`NoMemory`]. It is [`ContAnswer::Absent`] exactly where there is no container.
+/// The listing that answers a query, or [`NoMemory`]. It is [`ContAnswer::Absent`] exactly where there is no container, and then takes no memory.
 pub fn list(
     alloc: Global,
     tables: &Option<Tables>,
     query: &Query,
 ) -> Result<Result<Entries, ContAnswer>, NoMemory>
-    ensures { IfOk result (λ answer. (front : ℕ) → answer ≡ listing_of query.now tables.now front) }
+    ensures ok { IfOk result (λ answer. (front : ℕ) → answer ≡ listing_of query.now tables.now front) }
+    ensures starved { OnErr result (is_there tables.now ≡ true) }
 {
     if !is_present(tables) {
         return Ok(Err(ContAnswer::Absent));

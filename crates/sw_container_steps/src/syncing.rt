@@ -1,5 +1,5 @@
-ghost use Rattle.std.specs.Prelude.{◌≡◌, ℕ, IfOk};
-ghost use Rattle.sw_container_steps.specs.Reads.{parcel_of};
+ghost use Rattle.std.specs.Prelude.{◌≡◌, ℕ, IfOk, OnErr};
+ghost use Rattle.sw_container_steps.specs.Reads.{parcel_of, HasRowsFor};
 
 use crate::cont_answer::ContAnswer;
 use crate::cont_change::RowList;
@@ -19,13 +19,14 @@ pub struct Parcel {
 }
 
 /// The rows above the sync point that is kept for a device, all where none is kept, or [`NoMemory`]. It is [`ContAnswer::Absent`] exactly where there
-/// is no container.
+/// is no container. Memory is wanted only where there are such rows.
 pub fn sync_rows(
     alloc: Global,
     tables: &Option<Tables>,
     device: u8,
 ) -> Result<Result<Parcel, ContAnswer>, NoMemory>
-    ensures { IfOk result (λ answer. (front : ℕ) → answer ≡ parcel_of device tables.now front) }
+    ensures ok { IfOk result (λ answer. (front : ℕ) → answer ≡ parcel_of device tables.now front) }
+    ensures starved { OnErr result (HasRowsFor device tables.now) }
 {
     if !is_present(tables) {
         return Ok(Err(ContAnswer::Absent));

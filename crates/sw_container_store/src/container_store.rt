@@ -1,5 +1,5 @@
 ghost use Rattle.std.specs.Prelude.{◌≡◌, ◌<◌, ◌++◌, [], if◌then◌else◌, length, is_some, true, false, None, Ok, IfNone, IfOk, IsErr, MatchOption, Option, OnErr};
-ghost use Rattle.std.specs.Prelude.{OnOk, OnSome};
+ghost use Rattle.std.specs.Prelude.{Err, OnOk, OnSome};
 ghost use Rattle.sw_container_store.specs.Loading.{IsLeft, IsLoaded};
 ghost use Rattle.sw_container_store.specs.Making.{IsMade};
 ghost use Rattle.sw_container_store.specs.Naming.{IsNamed, IsPlaceOf, listed};
@@ -11,6 +11,7 @@ ghost use Rattle.sw_keeper.specs.Changes.{IsBatch};
 ghost use Rattle.sw_keeper.specs.Keeping.{Changes, HasCause, IsSame, ListsPlaces, MayChange, OnFailed, OnNoMemory};
 ghost use Rattle.sw_keeper.specs.Places.{place_cmp};
 ghost use Rattle.sw_outside.specs.Counts.{raised};
+ghost use Rattle.sw_outside.specs.declared.store_error.StoreError.{StoreError};
 
 use crate::database::{Damage, Database, Databases};
 use crate::open_list::{OpenDatabase, OpenList};
@@ -55,6 +56,8 @@ impl<H: Databases> ContainerStore<H> {
         ensures ok { IfOk result (λ value. answer ≡ Ok value) }
         ensures cause { HasCause self.old.faults self.new.faults result }
         ensures err { OnErr result (IsErr answer) }
+        ensures failed { OnFailed result (answer ≡ Err StoreError.Failed) }
+        ensures memory { OnNoMemory result (answer ≡ Err StoreError.NoMemory) }
         ensures calls { self.new.calls ≡ self.old.calls }
         ensures opened { self.new.opened ≡ self.old.opened }
         ensures databases { self.new.databases ≡ self.old.databases }

@@ -55,7 +55,7 @@ impl<'a, N: Notes> HostDatabases<'a, N> {
         }
     }
 
-    /// Whether a file stands there. Where the folder of the lock is gone, as that of a disk that isn't mounted, nothing is known of it.
+    /// Whether anything stands there. Where the folder of the lock is gone, as that of a disk that isn't mounted, nothing is known of it.
     fn is_file(&self, path: &str) -> io::Result<bool> {
         let is_there = self.host.is_there(path)?;
         if !is_there {
@@ -64,10 +64,13 @@ impl<'a, N: Notes> HostDatabases<'a, N> {
         Ok(is_there)
     }
 
-    /// The digests whose digits are names of folders three below that of the containers.
+    /// The digests whose digits are names of folders three below that of the containers. Where the folder of the lock is gone nothing is known of them.
     fn listed(&self, alloc: Global) -> io::Result<Vec<[u8; 16]>> {
         let mut hashes = Vec::new(alloc);
         let containers = format!(in alloc; "{}/containers", self.root)?;
+        if !self.is_file(containers.as_str())? {
+            return Ok(hashes);
+        }
         for partition in folders(&self.host, containers.as_str())? {
             for suffix in folders(&self.host, partition.as_str())? {
                 for hash in folders(&self.host, suffix.as_str())? {

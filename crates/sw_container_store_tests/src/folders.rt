@@ -48,19 +48,20 @@ pub(crate) fn time(units: u64) -> Timestamp {
     Timestamp::from_units(units).unwrap_or(Timestamp::from_units(0).unwrap())
 }
 
-/// A row of this name at this many units of 10 microseconds.
+/// A row of this name and content type at this many units of 10 microseconds.
 pub(crate) fn row(
     alloc: Global,
     name: &str,
     units: u64,
     size: u64,
+    content_type: &str,
     deleted: bool,
 ) -> Result<Row, NoMemory> {
     Ok(Row {
         name: text(alloc, name)?,
         created_at: time(units),
         size,
-        content_type: text(alloc, "text/plain")?,
+        content_type: text(alloc, content_type)?,
         etag: [7; 16],
         deleted,
     })
@@ -76,7 +77,7 @@ fn text(alloc: Global, text: &str) -> Result<Bytes, NoMemory>
 
 /// A batch that creates a container with one row.
 pub(crate) fn creation(alloc: Global, name: &str, units: u64) -> Result<Batch, NoMemory> {
-    let row = row(alloc, name, units, 3, false)?;
+    let row = row(alloc, name, units, 3, "text/plain", false)?;
     let times = Change::Times {
         put_time: time(units),
         delete_time: None,

@@ -10,6 +10,8 @@ mod gone;
 #[cfg(test)]
 mod host;
 #[cfg(test)]
+mod kinds;
+#[cfg(test)]
 mod many;
 #[cfg(test)]
 mod syncs;

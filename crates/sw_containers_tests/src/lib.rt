@@ -6,6 +6,8 @@
 #[cfg(test)]
 mod all_locks;
 #[cfg(test)]
+mod doubts;
+#[cfg(test)]
 mod keeper;
 #[cfg(test)]
 mod listing;
@@ -15,6 +17,8 @@ mod loads;
 mod locks;
 #[cfg(test)]
 mod making;
+#[cfg(test)]
+mod many;
 #[cfg(test)]
 mod rows;
 #[cfg(test)]

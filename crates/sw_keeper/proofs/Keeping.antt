@@ -1,5 +1,5 @@
 -- What a keeper in memory holds after a batch.
-use Rattle.std.proofs.Common.{◌≡◌, ◌≢◌, ℕ, ◌≤◌, get_or, set, Result, Ok, Err, true, false, List, [], ◌∷◌, Option, None, Some, refl, sym, ◌∙◌, ap}
+use Rattle.std.proofs.Common.{◌≡◌, ◌≢◌, ℕ, ◌≤◌, get_or, set, Result, Ok, Err, true, false, List, [], ◌∷◌, Option, None, Some, refl, sym, ◌∙◌, ap, subst}
 use Rattle.std.specs.List.Sorted.{IsStrictlySortedBy}
 use Rattle.std.specs.Map.{keys_of}
 use Rattle.std.specs.Option.{IsSome}
@@ -108,6 +108,18 @@ found_tables es place d i index found is =
     let there : is_place_at es (index_of es place) place ≡ true = rw (← index) found in
     let is_d : d ≡ get_or es (index_of es place) d = rw (← index) is in
     ap (λ (e : Place × Tables). Some e.1) is_d ∙ sym (held es place d there).0
+
+-- what holds anyway holds where memory ran out
+pub told_anyway : {T E P : Type 0} (r : Result T E) → P → OnErr r P
+told_anyway (Ok x) p = tt
+told_anyway (Err e) p = p
+
+some_there : (o : Option Tables) (t : Tables) → Some t ≡ o → IsSome o
+some_there o t is = subst (λ (x : Option Tables). IsSome x) is refl
+
+pub found_some : (es : List (Place × Tables)) (place : Place) (d : Place × Tables) (i : ℕ)
+    → i ≡ index_of es place → is_place_at es i place ≡ true → d ≡ get_or es i d → IsSome (at es place)
+found_some es place d i index found is = some_there (at es place) d.1 (found_tables es place d i index found is)
 
 pub absent_tables : (es : List (Place × Tables)) (place : Place) (i : ℕ) → IsStrictlySortedBy place_cmp (keys_of es)
     → i ≡ index_of es place → is_place_at es i place ≡ false → at es place ≡ None

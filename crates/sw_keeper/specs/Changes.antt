@@ -1,10 +1,17 @@
 -- Changes of a container's tables, and batches of them. (This project's own.)
-use Rattle.std.specs.Prelude.{◌≡◌, ℕ, ◌<◌, ⊤, List, [], ◌∷◌, fold, find, Option, None, Some, IsSome}
+use Rattle.std.specs.Prelude.{◌≡◌, ℕ, ◌<◌, ⊤, Bool, true, false, List, [], ◌∷◌, fold, find, Option, None, Some, IsSome}
 use Rattle.sw_keeper.specs.declared.batch.Change.{Change}
 use Rattle.sw_keeper.specs.declared.batch.Change.TheVariants.{Times, PutRow, CutRow, SetSync}
 use Rattle.sw_rows.specs.Rows.{find_named, is_numbered, no_rows, with_numbered, without_numbered}
 use Rattle.sw_keeper.specs.declared.tables.Tables.{Tables}
 use Rattle.sw_sync.specs.Points.{with_point}
+
+-- whether a change puts a row: no other one has texts
+abbrev pub puts_row : Change → Bool
+puts_row (Times put_time delete_time) = false
+puts_row (PutRow row rowid) = true
+puts_row (CutRow rowid) = false
+puts_row (SetSync device rowid) = false
 
 -- a container with these times, no rows and no sync points
 abbrev pub begun : ℕ → Option ℕ → Tables

@@ -1,4 +1,5 @@
-ghost use Rattle.std.specs.Prelude.{◌≡◌, IfOk};
+ghost use Rattle.std.specs.Prelude.{◌≡◌, true, IfOk, OnErr};
+ghost use Rattle.sw_keeper.specs.Changes.{puts_row};
 
 use std::alloc::Global;
 use sw_outside::{NoMemory, Sequence, TryCopy};
@@ -25,9 +26,10 @@ pub enum Change {
 }
 
 impl Change {
-    /// A change that is equal to this one, or [`NoMemory`].
+    /// A change that is equal to this one, or [`NoMemory`], which comes only of one that puts a row.
     pub fn copy(&self, alloc: Global) -> Result<Change, NoMemory>
-        ensures { IfOk result (λ copy. copy ≡ self.now) }
+        ensures ok { IfOk result (λ copy. copy ≡ self.now) }
+        ensures starved { OnErr result (puts_row self.now ≡ true) }
     {
         Ok(match self {
             Change::Times {

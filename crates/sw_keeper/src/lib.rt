@@ -6,7 +6,8 @@
 //! A change is a [`Batch`], which is made whole or not at all. Code above is generic over the trait and proved once.
 //!
 //! [`MemKeeper`] keeps its tables in memory, for tests and for runs without a host; tests choose which of its calls fail.
-//! [`SoundKeeper`] is one no call of which fails. The next layer up is the containers of one lock, which decides what a batch is.
+//! [`SoundKeeper`] is one no call of which fails. The next layers up are `sw_container_steps`, which decides what a batch is, and
+//! `sw_container_db`, the containers of one lock.
 #![tactic(auto)]
 
 mod batch;

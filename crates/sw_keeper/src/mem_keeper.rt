@@ -1,4 +1,4 @@
-ghost use Rattle.std.specs.Prelude.{◌≡◌, ◌≤◌, ◌↔◌, [], true, Err, IsSome, IsErr, IfOk, OnOk};
+ghost use Rattle.std.specs.Prelude.{◌≡◌, ◌≢◌, ◌≤◌, ◌↔◌, [], true, false, Some, Err, IsSome, IsErr, IfOk, OnOk};
 ghost use Rattle.sw_outside.specs.Counts.{raised};
 ghost use Rattle.sw_outside.specs.Failing.{failure_at};
 ghost use Rattle.sw_outside.specs.Faults as outside;
@@ -94,6 +94,7 @@ impl Keeper for MemKeeper {
         ensures failed { OnFailed result (self.new ≡ after_fault self.old) }
         ensures else_ { self.new.shelves ≡ self.old.shelves }
         ensures failing { self.new.failing ≡ self.old.failing }
+        ensures starved { OnNoMemory result (self.old.shelves ≢ []) }
     {
         if self.begin().is_some() {
             return Err(self.fail().into());
@@ -111,6 +112,7 @@ impl Keeper for MemKeeper {
         ensures failed { OnFailed result (self.new ≡ after_fault self.old) }
         ensures else_ { self.new.shelves ≡ self.old.shelves }
         ensures failing { self.new.failing ≡ self.old.failing }
+        ensures starved { OnNoMemory result (IsSome (at self.old.shelves place.now)) }
     {
         if self.begin().is_some() {
             return Err(self.fail().into());
@@ -130,6 +132,7 @@ impl Keeper for MemKeeper {
         ensures made { OnOk result (self.new ≡ record (after_call self.old) { shelves = with_batch self.old.shelves place.now batch.now }) }
         ensures planned { OnFailed result (GoesAs (failure_at self.old.failing self.old.calls) self.old self.new place.now batch.now) }
         ensures starved { OnNoMemory result (self.new ≡ after_call self.old) }
+        ensures unplanned { OnNoMemory result (failure_at self.old.failing self.old.calls ≢ Some false) }
     {
         match self.begin() {
             None => {

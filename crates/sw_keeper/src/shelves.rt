@@ -1,4 +1,4 @@
-ghost use Rattle.std.specs.Prelude.{◌≡◌, ◌<◌, ◌≤◌, length, IsTrue, IfOk, OnOk, OnErr};
+ghost use Rattle.std.specs.Prelude.{◌≡◌, ◌≢◌, ◌<◌, ◌≤◌, [], length, IsSome, IsTrue, IfOk, OnOk, OnErr};
 ghost use Rattle.std.specs.List.{prefix_len};
 ghost use Rattle.std.specs.List.Sorted.{IsStrictlySortedBy};
 ghost use Rattle.std.specs.Map.{keys_of};
@@ -15,9 +15,10 @@ use std::alloc::Global;
 use sw_hashpath::Place;
 use sw_outside::NoMemory;
 
-/// The places of the shelves, in their order.
+/// The places of the shelves, in their order. Where there is none no memory is taken.
 pub(crate) fn places(alloc: Global, shelves: &[Shelf]) -> Result<Vec<Place>, NoMemory>
-    ensures { IfOk result (λ places. places.items ≡ keys_of shelves.now) }
+    ensures ok { IfOk result (λ places. places.items ≡ keys_of shelves.now) }
+    ensures starved { OnErr result (shelves.now ≢ []) }
 {
     let mut places = Vec::with_capacity(alloc, shelves.len())?;
     for shelf in shelves {
@@ -26,14 +27,15 @@ pub(crate) fn places(alloc: Global, shelves: &[Shelf]) -> Result<Vec<Place>, NoM
     Ok(places)
 }
 
-/// The tables at a place.
+/// The tables at a place. Where nothing is held there no memory is taken.
 pub(crate) fn load(
     alloc: Global,
     shelves: &[Shelf],
     place: &Place,
 ) -> Result<Option<Tables>, NoMemory>
     requires { IsStrictlySortedBy place_cmp (keys_of shelves.now) }
-    ensures { IfOk result (λ tables. tables ≡ at shelves.now place.now) }
+    ensures ok { IfOk result (λ tables. tables ≡ at shelves.now place.now) }
+    ensures starved { OnErr result (IsSome (at shelves.now place.now)) }
 {
     let index = place_of(shelves, place);
     if is_place_at(shelves, index, place) {

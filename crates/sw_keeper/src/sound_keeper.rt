@@ -1,7 +1,6 @@
-ghost use Rattle.std.specs.Prelude.{◌≡◌, [], true, IsSome, IfOk, OnOk};
+ghost use Rattle.std.specs.Prelude.{◌≡◌, ◌≢◌, [], true, IsSome, IfOk};
 ghost use Rattle.sw_outside.specs.Counts.{raised};
-ghost use Rattle.sw_keeper.specs.Changes.{IsBatch};
-ghost use Rattle.sw_keeper.specs.Keeping.{HasCause, IsSame, ListsPlaces, MayChange, Changes, OnFailed, OnNoMemory};
+ghost use Rattle.sw_keeper.specs.Keeping.{HasCause, IsSame, ListsPlaces, OnNoMemory};
 ghost use Rattle.sw_keeper.specs.Places.{at};
 
 use crate::batch::Batch;
@@ -50,11 +49,25 @@ impl Keeper for SoundKeeper {
 
     ghost calls = { λ k. k.calls };
 
-    fn names(&mut self, alloc: Global) -> Result<Vec<Place>, KeeperError> {
+    fn names(&mut self, alloc: Global) -> Result<Vec<Place>, KeeperError>
+        ensures places { IfOk result (λ places. true ≡ true → ListsPlaces places.items (λ place. IsSome (at self.old.shelves place))) }
+        ensures same { true ≡ true → IsSame (at self.old.shelves) (at self.new.shelves) }
+        ensures told { true ≡ true }
+        ensures cause { HasCause 0 0 result }
+        ensures calls { self.new.calls ≡ raised self.old.calls }
+        ensures starved { OnNoMemory result (self.old.shelves ≢ []) }
+    {
         self.keeper.names(alloc)
     }
 
-    fn load(&mut self, alloc: Global, place: &Place) -> Result<Option<Tables>, KeeperError> {
+    fn load(&mut self, alloc: Global, place: &Place) -> Result<Option<Tables>, KeeperError>
+        ensures tables { IfOk result (λ tables. true ≡ true → tables ≡ at self.old.shelves place.now) }
+        ensures same { true ≡ true → IsSame (at self.old.shelves) (at self.new.shelves) }
+        ensures told { true ≡ true }
+        ensures cause { HasCause 0 0 result }
+        ensures calls { self.new.calls ≡ raised self.old.calls }
+        ensures starved { OnNoMemory result (IsSome (at self.old.shelves place.now)) }
+    {
         self.keeper.load(alloc, place)
     }
 

@@ -5,7 +5,8 @@
 //! entries a line each.
 //!
 //! What is promised: `list` is exactly the definition's listing of the rows, whatever the query, and `to_text` gives
-//! exactly the format's bytes. The next layer up answers requests for listings.
+//! exactly the format's bytes. The next layers up are `sw_listing_json`, and `sw_container_steps`, by whose reads a container
+//! is listed.
 #![tactic(auto)]
 
 mod asked;

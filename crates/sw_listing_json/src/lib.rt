@@ -4,7 +4,7 @@
 //! decimals, or an object with what names are rolled up to. [`listed_time`] gives the date alone.
 //!
 //! What is promised: the bytes are exactly the format's, compact as `serde_json` writes them, and entries have one text
-//! ([`laws`]). The next layer up answers requests for listings.
+//! ([`laws`]). The next layer up is `sw_container_server`, which replies with them.
 #![tactic(auto)]
 
 mod dates;

@@ -2,6 +2,7 @@ pub mod Above
 pub mod Copying
 pub mod Entries
 pub mod Exchanging
+pub mod Greater
 pub mod Latest
 pub mod Merging
 pub mod Named

@@ -64,11 +64,12 @@ impl Rows {
     /// does. It answers false, and changes nothing, where the number is 0, is above the greatest given out or isn't above
     /// that of every row, or where a row has the name.
     ///
-    /// After [`NoMemory`] the rows are what they were.
+    /// After [`NoMemory`], which comes only of a row that can be put behind them, the rows are what they were.
     pub fn restore(&mut self, alloc: Global, rowid: u64, row: Row) -> Result<bool, NoMemory>
         ensures ok { IfOk result (λ restored. restored ≡ can_restore self.old rowid row) }
         ensures rows { IfOk result (λ _. self.new ≡ restored self.old rowid row) }
         ensures err { OnErr result (self.new ≡ self.old) }
+        ensures starved { OnErr result (can_restore self.old rowid row ≡ true) }
     {
         if !self.can_restore(rowid, &row) {
             return Ok(false);
@@ -89,12 +90,13 @@ impl Rows {
     /// Puts the row in, under the next number, where the present row of its name doesn't count as much; that one is gone.
     /// It answers whether it did so.
     ///
-    /// After [`NoMemory`] the rows are what they were.
+    /// After [`NoMemory`], which comes only of a row that is to be put in, the rows are what they were.
     pub fn merge(&mut self, alloc: Global, row: Row) -> Result<bool, NoMemory>
         requires { IsTrue (fits (find_named self.old.list row.name) row) → self.old.top < 2 ^ 64 - 1 }
         ensures ok { IfOk result (λ changed. changed ≡ fits (find_named self.old.list row.name) row) }
         ensures rows { IfOk result (λ _. self.new ≡ merged self.old row) }
         ensures err { OnErr result (self.new ≡ self.old) }
+        ensures starved { OnErr result (fits (find_named self.old.list row.name) row ≡ true) }
     {
         if !self.takes(&row) {
             return Ok(false);

@@ -1,4 +1,4 @@
-ghost use Rattle.std.specs.Prelude.{◌≡◌, [], IfOk, OnErr, OnOk};
+ghost use Rattle.std.specs.Prelude.{◌≡◌, [], None, IfOk, OnErr, OnOk};
 ghost use Rattle.sw_sync.specs.Points.{is_above, point_at, raised, with_point};
 
 use std::alloc::Global;
@@ -39,10 +39,12 @@ impl Points {
         self.points.get(&(range, device)).copied()
     }
 
-    /// Keeps this number for a range and a device, in place of the one that was kept. After [`NoMemory`] the points are what they were.
+    /// Keeps this number for a range and a device, in place of the one that was kept. After [`NoMemory`], which comes only where none was kept, the
+    /// points are what they were.
     pub fn set(&mut self, range: u32, device: u8, rowid: u64) -> Result<(), NoMemory>
         ensures ok { OnOk result (self.new ≡ with_point self.old range device rowid) }
         ensures err { OnErr result (self.new ≡ self.old) }
+        ensures starved { OnErr result (point_at self.old range device ≡ None) }
     {
         self.points.insert((range, device), rowid)?;
         Ok(())
@@ -58,12 +60,13 @@ impl Points {
         }
     }
 
-    /// Keeps the greater of this number and the one that is kept for a range and a device, and answers whether it rose. After [`NoMemory`] the
-    /// points are what they were. Where nothing rises no memory is taken.
+    /// Keeps the greater of this number and the one that is kept for a range and a device, and answers whether it rose. After [`NoMemory`], which
+    /// comes only where none was kept, the points are what they were.
     pub fn raise(&mut self, range: u32, device: u8, rowid: u64) -> Result<bool, NoMemory>
         ensures rose { IfOk result (λ rose. rose ≡ is_above rowid (point_at self.old range device)) }
         ensures points { OnOk result (self.new ≡ raised self.old range device rowid) }
         ensures err { OnErr result (self.new ≡ self.old) }
+        ensures starved { OnErr result (point_at self.old range device ≡ None) }
     {
         if !self.rises(range, device, rowid) {
             return Ok(false);

@@ -20,6 +20,7 @@ returns g c =
       left = left;
       step = step;
       called = c.change-answer.ensures.called;
+      wanted = c.change-answer.ensures.wanted;
       after = c.line_of-line.ensures.after;
       line_is = c.line_of-line.ensures.line ∙ rw (c.changed-event.ensures, entered) refl;
     }

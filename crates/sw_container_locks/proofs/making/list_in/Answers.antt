@@ -13,6 +13,7 @@ returns g c =
       left = left;
       step = step;
       called = c.list-got.ensures.called;
+      wanted = c.list-got.ensures.wanted;
       after = c.line_of-line.ensures.after;
       line_is = c.line_of-line.ensures.line ∙ rw (c.of.ensures, c.of-2.ensures, c.of-3.ensures, entered) refl;
     }

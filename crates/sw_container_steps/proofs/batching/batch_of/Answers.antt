@@ -32,4 +32,5 @@ returns c =
           none.0;
       fits = λ some. subst (λ (changes : List Change). IsBatch c.args.tables changes) (sym batch)
           (batch-fits c.args.tables c.args.entries.now c.see_rows.ensures (subst (λ (x : Option Tables). IsSome x) none.0 some));
+      starved = tt;
     }

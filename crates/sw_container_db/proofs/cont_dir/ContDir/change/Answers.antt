@@ -3,8 +3,9 @@ use Rattle.sw_keeper.specs.declared.tables.Tables.{Tables}
 use Rattle.sw_step.proofs.Settled.{added-is}
 use Rattle.sw_step.specs.Rules.{CanStand}
 use Rattle.sw_container_steps.specs.Rules.{cont_rules}
+use Rattle.sw_container_db.specs.Calling.{beside, settled_in}
 use Rattle.sw_container_db.specs.ContDirs.{cont_history_of}
-use Rattle.sw_container_db.proofs.Calls.{called-after, called-fault}
+use Rattle.sw_container_db.proofs.Calls.{called-after, called-fault, read-step-wants, unready-step}
 use Rattle.sw_container_db.proofs.Fresh.{fresh-both}
 use Rattle.sw_container_db.proofs.Ends.{after-settling, unready}
 use Rattle.sw_container_db.proofs.cont_dir.ContDir.change.Goals as goal
@@ -52,3 +53,14 @@ returns-in-Err-clause-called g c =
     let v = g.K.Keeper in
     called-fault v.tells v.holds v.faults v.calls c.args.self.now c.ready.new.self c.args.place.now c.args.change.now c.in-Err.answer c.in-Err.ensures.fault
     c.in-Err.ensures.called
+
+pub returns-in-Ok-clause-wanted : goal.returns-in-Ok-clause-wanted
+returns-in-Ok-clause-wanted g c =
+    let v = g.K.Keeper in let place = c.args.place.now in let seen = c.in-Ok.ensures.called in
+    read-step-wants v.tells v.holds v.faults v.calls c.args.self.now c.make.new.self place c.args.change.now seen.read c.make.result seen.is_read
+    (c.make.ensures.wanted (beside place seen.read (settled_in c.args.self.now)) seen.read seen.looked.loaded)
+
+pub returns-in-Err-clause-wanted : goal.returns-in-Err-clause-wanted
+returns-in-Err-clause-wanted g c =
+    let v = g.K.Keeper in
+    unready-step v.tells v.holds v.faults v.calls c.args.self.now c.ready.new.self c.args.place.now c.args.change.now c.in-Err.answer c.in-Err.ensures.wanted

@@ -3,7 +3,7 @@ use Rattle.std.proofs.Common.{◌≡◌, length, ◌∙◌, ap}
 use Rattle.sw_container_steps.specs.Reads.{info_of}
 use Rattle.sw_container_steps.specs.Rules.{cont_look}
 use Rattle.sw_container_db.specs.Calling.{beside, settled_in}
-use Rattle.sw_container_db.proofs.Calls.{informed}
+use Rattle.sw_container_db.proofs.Calls.{informed, informed-wants}
 use Rattle.sw_container_db.proofs.Ends.{info-tells}
 use Rattle.sw_container_db.proofs.ReadSteps.{read-none, read-step, seen-known}
 use Rattle.sw_container_db.proofs.cont_dir.ContDir.info.Goals as goal
@@ -40,3 +40,9 @@ returns-in_err-ready-clause-read g c =
     c.ready.ensures.fresh c.ready.ensures.same c.ready.ensures.grows c.ready.ensures.settles c.ready.ensures.fits
     info_of c.in_err-ready.field-0.0 c.in_err-ready.ensures.fault
     c.in_err-ready.ensures.cause)
+
+pub returns-clause-wanted : goal.returns-clause-wanted
+returns-clause-wanted g c =
+    let v = g.K.Keeper in
+    informed-wants v.tells v.holds v.faults v.calls c.args.self.now c.ready.new.self c.args.place.now c.tables.result.now c.front.result
+    c.info_of.result c.info_of.ensures

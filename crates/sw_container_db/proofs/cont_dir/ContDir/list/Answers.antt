@@ -1,10 +1,13 @@
 use Rattle.sw_container_steps.specs.declared.cont_answer.ContAnswer.TheVariants as conts
 use Rattle.std.proofs.lemmas.Result.{err_from_is_err_and}
-use Rattle.std.proofs.Common.{length, ◌∙◌, ap}
+use Rattle.std.proofs.Common.{◌≡◌, true, Option, inr, length, sym, ◌∙◌, ap, subst}
+use Rattle.sw_keeper.specs.declared.tables.Tables.{Tables}
+use Rattle.sw_container_steps.specs.Presence.{is_present}
 use Rattle.sw_container_steps.specs.Reads.{listing_of}
 use Rattle.sw_container_steps.specs.Rules.{cont_look}
 use Rattle.sw_container_db.specs.Calling.{beside, settled_in}
-use Rattle.sw_container_db.proofs.Calls.{listed}
+use Rattle.sw_container_db.specs.LoadedList.{tables_at}
+use Rattle.sw_container_db.proofs.Calls.{listed, listed-wants, unready-read}
 use Rattle.sw_container_db.proofs.Ends.{listing-tells}
 use Rattle.sw_container_db.proofs.ReadSteps.{read-none, read-step, seen-known}
 use Rattle.sw_container_db.proofs.cont_dir.ContDir.list.Goals as goal
@@ -24,13 +27,13 @@ returns-in-Ok-clause-read g c =
     (seen-known v.tells v.holds v.faults c.args.self.now c.ready.new.self place c.ready.ensures.began c.ready.ensures.told c.ready.ensures.fresh
     c.ready.ensures.same c.ready.ensures.grows c.ready.ensures.settles c.ready.ensures.fits
     v.calls c.in_ok-ready.ensures.called c.tables.result.now c.tables.ensures)
-    (c.in-Ok.ensures front) (ap cont_look (c.in-Ok.ensures front) ∙ listing-tells query c.tables.result.now front)
+    (c.in-Ok.ensures.ok front) (ap cont_look (c.in-Ok.ensures.ok front) ∙ listing-tells query c.tables.result.now front)
 
 pub returns-in-Ok-clause-called : goal.returns-in-Ok-clause-called
 returns-in-Ok-clause-called g c =
     let v = g.K.Keeper in let place = c.args.place.now in let front = length c.ready.new.self.journal.entries in
     listed v.tells v.holds v.faults v.calls c.args.self.now c.ready.new.self place c.args.query.now c.tables.result.now
-    front c.in-Ok.answer (c.in-Ok.ensures front) c.in_ok-ready.ensures.called
+    front c.in-Ok.answer (c.in-Ok.ensures.ok front) c.in_ok-ready.ensures.called
 
 pub returns-in_err-ready-clause-read : goal.returns-in_err-ready-clause-read
 returns-in_err-ready-clause-read g c =
@@ -47,3 +50,23 @@ returns-in-Err-clause-read g c =
     read-none v.tells v.holds v.faults c.args.self.now c.ready.new.self c.args.place.now c.ready.ensures.began c.ready.ensures.told
     c.ready.ensures.fresh c.ready.ensures.same c.ready.ensures.grows c.ready.ensures.settles c.ready.ensures.fits
     (listing_of c.args.query.now) conts.NoMemory (λ tells. cc) (λ fails. cc)
+
+pub returns-in-Ok-clause-wanted : goal.returns-in-Ok-clause-wanted
+returns-in-Ok-clause-wanted g c =
+    let v = g.K.Keeper in let front = length c.ready.new.self.journal.entries in
+    listed-wants v.tells v.holds v.faults v.calls c.args.self.now c.ready.new.self c.args.place.now (λ (read : Option Tables). is_present read ≡ true)
+    c.args.query.now c.tables.result.now front c.in-Ok.answer (c.in-Ok.ensures.ok front)
+
+pub returns-in-Err-clause-wanted : goal.returns-in-Err-clause-wanted
+returns-in-Err-clause-wanted g c =
+    let place = c.args.place.now in let seen = c.in_ok-ready.ensures.called in
+    let was : c.tables.result.now ≡ seen.read =
+    c.tables.ensures (beside place seen.read (settled_in c.args.self.now)) (tables_at place seen.read) seen.looked.loaded in
+    inr (inr (seen.read, seen.is_read, subst (λ (read : Option Tables). is_present read ≡ true) was c.in-Err.ensures.starved))
+
+pub returns-in_err-ready-clause-wanted : goal.returns-in_err-ready-clause-wanted
+returns-in_err-ready-clause-wanted g c =
+    let v = g.K.Keeper in
+    let exit = err_from_is_err_and c.from_residual.result c.from_residual.ensures.1 in
+    rw (exit.1, exit.2) (unready-read v.tells v.holds v.faults v.calls c.args.self.now c.ready.new.self c.args.place.now
+    (λ (read : Option Tables). is_present read ≡ true) c.in_err-ready.field-0.0 c.in_err-ready.ensures.wanted)

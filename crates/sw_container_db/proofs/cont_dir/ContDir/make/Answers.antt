@@ -4,16 +4,19 @@ use Rattle.sw_outside.specs.Counts.{raised}
 use Rattle.sw_outside.specs.Faults.{HasRisen}
 use Rattle.sw_keeper.specs.Keeping.{MayChange}
 use Rattle.sw_keeper.specs.declared.tables.Tables.{Tables}
+use Rattle.sw_step.specs.Rules.{Makes as Succeeds, Refuses, Wants}
+use Rattle.sw_container_steps.proofs.Ruling.{made-ends, refusal-ends}
 use Rattle.sw_container_steps.specs.Deciding.{IsDecided}
+use Rattle.sw_container_steps.specs.Rules.{cont_ending}
 use Rattle.sw_container_steps.specs.declared.cont_entry.ContEntry.{ContEntry}
-use Rattle.sw_container_steps.specs.declared.deciding.Decision.TheVariants.{Makes}
+use Rattle.sw_container_steps.specs.declared.deciding.Decision.TheVariants.{Makes, Refused}
 use Rattle.sw_container_steps.specs.Entries.{all_entered}
 use Rattle.sw_container_steps.specs.Laws.{sign_of}
 use Rattle.sw_container_steps.specs.Steps.{entries_for}
-use Rattle.sw_container_db.specs.Calling.{left_by}
+use Rattle.sw_container_db.specs.Calling.{Enters, left_by}
 use Rattle.sw_container_db.specs.ContDirs.{ContKept, doubts_in}
 use Rattle.sw_container_db.specs.LoadedList.{Lacks, tables_at}
-use Rattle.sw_container_db.proofs.Calls.{called-made, commit-fails, wanted, wrote}
+use Rattle.sw_container_db.proofs.Calls.{called-made, commit-fails, fine-wants, makes-enters, wanted, wrote}
 use Rattle.sw_container_db.proofs.Fresh.{IsKept, fresh-entered, fresh-same}
 use Rattle.sw_container_db.proofs.Kept.{held-parts, kept-same, nonempty, still-held}
 use Rattle.sw_container_db.proofs.Making.{done-kept, doubted-kept, make-done, make-doubted, make-full, make-none}
@@ -43,7 +46,7 @@ returns-in-Ok-Refused-clause-made g c =
     let at : i.loaded ≡ others ++ tables_at place read ∷ [] =
     ap (λ (x : ContKept _). x.loaded) c.self.view_is ∙ (c.requires.loaded.2 ∙ ap (λ (t : Option Tables). others ++ tables_at place t ∷ []) (sym was)) in
     rw (sym c.self.view_is) (make-refused v.tells v.holds v.faults _ i.doubt c.self.invariant place change none others read at
-    c.in-Ok-Refused.answer (subst (IsDecided read place change) c.in-Ok-Refused.field-0-is c.in-Ok-Refused.ensures))
+    c.in-Ok-Refused.answer (subst (IsDecided read place change) c.in-Ok-Refused.field-0-is c.in-Ok-Refused.ensures.ok))
 
 pub returns-then-not-has_room-clause-made : goal.returns-then-not-has_room-clause-made
 returns-then-not-has_room-clause-made g c =
@@ -55,7 +58,7 @@ returns-then-not-has_room-clause-made g c =
     let at : i.loaded ≡ others ++ tables_at place read ∷ [] =
     ap (λ (x : ContKept _). x.loaded) c.self.view_is ∙ (c.requires.loaded.2 ∙ ap (λ (t : Option Tables). others ++ tables_at place t ∷ []) (sym was)) in
     let decided : IsDecided read place change (Makes c.in-Ok-Makes.entries) =
-    subst (IsDecided read place change) c.in-Ok-Makes.field-0-is c.in-Ok-Makes.ensures in
+    subst (IsDecided read place change) c.in-Ok-Makes.field-0-is c.in-Ok-Makes.ensures.ok in
     rw (sym c.self.view_is) (make-full v.tells v.holds v.faults _ i.doubt c.self.invariant place change none others read at
     c.into-batch.result.items c.in-Ok-Makes.entries decided c.into-batch.ensures c.count_of-count.result c.count_of-more.result
     c.count_of-count.ensures.length c.count_of-more.ensures.length
@@ -96,7 +99,7 @@ returns-then-more-eq0-clause-made g c =
     let at : i.loaded ≡ others ++ tables_at place read ∷ [] =
     ap (λ (x : ContKept _). x.loaded) c.self.view_is ∙ (c.requires.loaded.2 ∙ ap (λ (t : Option Tables). others ++ tables_at place t ∷ []) (sym was)) in
     let decided : IsDecided read place change (Makes c.in-Ok-Makes.entries) =
-    subst (IsDecided read place change) c.in-Ok-Makes.field-0-is c.in-Ok-Makes.ensures in
+    subst (IsDecided read place change) c.in-Ok-Makes.field-0-is c.in-Ok-Makes.ensures.ok in
     rw (sym c.self.view_is) (make-none v.tells v.holds v.faults _ i.doubt c.self.invariant place change none others read at
     c.into-batch.result.items c.in-Ok-Makes.entries decided c.into-batch.ensures c.count_of-count.result c.count_of-more.result
     c.count_of-count.ensures.length c.count_of-more.ensures.length
@@ -112,7 +115,7 @@ commit-requires g c =
     let at : i.loaded ≡ others ++ tables_at place read ∷ [] =
     ap (λ (x : ContKept _). x.loaded) c.self.view_is ∙ (c.requires.loaded.2 ∙ ap (λ (t : Option Tables). others ++ tables_at place t ∷ []) (sym was)) in
     let decided : IsDecided read place change (Makes c.in-Ok-Makes.entries) =
-    subst (IsDecided read place change) c.in-Ok-Makes.field-0-is c.in-Ok-Makes.ensures in
+    subst (IsDecided read place change) c.in-Ok-Makes.field-0-is c.in-Ok-Makes.ensures.ok in
     record {
       fits = make-takes v.tells v.holds v.faults _ i.doubt c.self.invariant place change none others read at
           c.into-batch.result.items c.in-Ok-Makes.entries decided c.into-batch.ensures c.count_of-count.result c.count_of-more.result
@@ -134,7 +137,7 @@ invariant_of-self-in-Ok-commit g c =
     let at : i.loaded ≡ others ++ tables_at place read ∷ [] =
     ap (λ (x : ContKept _). x.loaded) c.self.view_is ∙ (c.requires.loaded.2 ∙ ap (λ (t : Option Tables). others ++ tables_at place t ∷ []) (sym was)) in
     let decided : IsDecided read place change (Makes c.in-Ok-Makes.entries) =
-    subst (IsDecided read place change) c.in-Ok-Makes.field-0-is c.in-Ok-Makes.ensures in
+    subst (IsDecided read place change) c.in-Ok-Makes.field-0-is c.in-Ok-Makes.ensures.ok in
     let joined : c.enter.new.entries.items ≡ i.entries.items ++ c.into-batch.result.items =
     c.enter.ensures.entries ∙ ap (λ (e : List ContEntry). e ++ c.into-batch.result.items) c.make_room.ensures.entries in
     let emptied : c.take_last-tables.new.self ≡ others ++ tables_at place None ∷ [] = c.take_last-tables.ensures.rest others (tables_at place read) at in
@@ -160,7 +163,7 @@ returns-in-Ok-commit-clause-made g c =
     let at : i.loaded ≡ others ++ tables_at place read ∷ [] =
     ap (λ (x : ContKept _). x.loaded) c.self.view_is ∙ (c.requires.loaded.2 ∙ ap (λ (t : Option Tables). others ++ tables_at place t ∷ []) (sym was)) in
     let decided : IsDecided read place change (Makes c.in-Ok-Makes.entries) =
-    subst (IsDecided read place change) c.in-Ok-Makes.field-0-is c.in-Ok-Makes.ensures in
+    subst (IsDecided read place change) c.in-Ok-Makes.field-0-is c.in-Ok-Makes.ensures.ok in
     let joined : c.enter.new.entries.items ≡ i.entries.items ++ c.into-batch.result.items =
     c.enter.ensures.entries ∙ ap (λ (e : List ContEntry). e ++ c.into-batch.result.items) c.make_room.ensures.entries in
     rw (sym c.self.view_is) (make-done v.tells v.holds v.faults _ i.doubt c.self.invariant place change none others read at
@@ -198,7 +201,7 @@ returns-in-Err-Failed-clause-made g c =
     let at : i.loaded ≡ others ++ tables_at place read ∷ [] =
     ap (λ (x : ContKept _). x.loaded) c.self.view_is ∙ (c.requires.loaded.2 ∙ ap (λ (t : Option Tables). others ++ tables_at place t ∷ []) (sym was)) in
     let decided : IsDecided read place change (Makes c.in-Ok-Makes.entries) =
-    subst (IsDecided read place change) c.in-Ok-Makes.field-0-is c.in-Ok-Makes.ensures in
+    subst (IsDecided read place change) c.in-Ok-Makes.field-0-is c.in-Ok-Makes.ensures.ok in
     let may : v.tells i.keeper ≡ true → MayChange (v.holds i.keeper) (v.holds c.commit.new.self) place c.in-Ok.made.batch =
     λ told. (rw c.in-Err-Failed.field-0-is at c.in-Err-Failed.ensures.failed) told in
     let risen : HasRisen (v.faults i.keeper) (v.faults c.commit.new.self) = rw c.in-Err-Failed.field-0-is at c.in-Err-Failed.ensures.cause.risen in
@@ -225,7 +228,7 @@ invariant_of-self-in-Err-Failed g c =
     let at : i.loaded ≡ others ++ tables_at place read ∷ [] =
     ap (λ (x : ContKept _). x.loaded) c.self.view_is ∙ (c.requires.loaded.2 ∙ ap (λ (t : Option Tables). others ++ tables_at place t ∷ []) (sym was)) in
     let decided : IsDecided read place change (Makes c.in-Ok-Makes.entries) =
-    subst (IsDecided read place change) c.in-Ok-Makes.field-0-is c.in-Ok-Makes.ensures in
+    subst (IsDecided read place change) c.in-Ok-Makes.field-0-is c.in-Ok-Makes.ensures.ok in
     let may : v.tells i.keeper ≡ true → MayChange (v.holds i.keeper) (v.holds c.commit.new.self) place c.in-Ok.made.batch =
     λ told. (rw c.in-Err-Failed.field-0-is at c.in-Err-Failed.ensures.failed) told in
     let risen : HasRisen (v.faults i.keeper) (v.faults c.commit.new.self) = rw c.in-Err-Failed.field-0-is at c.in-Err-Failed.ensures.cause.risen in
@@ -254,7 +257,7 @@ invariant_of-self-in-Err-Failed-2 g c =
     let at : i.loaded ≡ others ++ tables_at place read ∷ [] =
     ap (λ (x : ContKept _). x.loaded) c.self.view_is ∙ (c.requires.loaded.2 ∙ ap (λ (t : Option Tables). others ++ tables_at place t ∷ []) (sym was)) in
     let decided : IsDecided read place change (Makes c.in-Ok-Makes.entries) =
-    subst (IsDecided read place change) c.in-Ok-Makes.field-0-is c.in-Ok-Makes.ensures in
+    subst (IsDecided read place change) c.in-Ok-Makes.field-0-is c.in-Ok-Makes.ensures.ok in
     let may : v.tells i.keeper ≡ true → MayChange (v.holds i.keeper) (v.holds c.commit.new.self) place c.in-Ok.made.batch =
     λ told. (rw c.in-Err-Failed.field-0-is at c.in-Err-Failed.ensures.failed) told in
     let risen : HasRisen (v.faults i.keeper) (v.faults c.commit.new.self) = rw c.in-Err-Failed.field-0-is at c.in-Err-Failed.ensures.cause.risen in
@@ -332,7 +335,7 @@ returns-in-Ok-commit-clause-called g c others given at =
     let was : c.last-tables.result.now ≡ given = c.last-tables.ensures others (tables_at place given) inside in
     let decided : IsDecided given place change (Makes c.in-Ok-Makes.entries) =
     subst (λ (t : Option Tables). IsDecided t place change (Makes c.in-Ok-Makes.entries)) was
-    (subst (IsDecided c.last-tables.result.now place change) c.in-Ok-Makes.field-0-is c.in-Ok-Makes.ensures) in
+    (subst (IsDecided c.last-tables.result.now place change) c.in-Ok-Makes.field-0-is c.in-Ok-Makes.ensures.ok) in
     let are : c.into-batch.result.items ≡ entries_for given place change = c.into-batch.ensures ∙ decided.1 in
     let full : c.into-batch.result.items ≢ [] = nonempty c.into-batch.result.items c.count_of-more.result c.count_of-more.ensures.length c.if-more-eq0.false in
     let leaves : c.in-Ok.made.tables ≡ left_by given place change = c.in-Ok.ensures.tables
@@ -355,7 +358,7 @@ returns-in-Err-Failed-clause-called g c others given at =
     let was : c.last-tables.result.now ≡ given = c.last-tables.ensures others (tables_at place given) inside in
     let decided : IsDecided given place change (Makes c.in-Ok-Makes.entries) =
     subst (λ (t : Option Tables). IsDecided t place change (Makes c.in-Ok-Makes.entries)) was
-    (subst (IsDecided c.last-tables.result.now place change) c.in-Ok-Makes.field-0-is c.in-Ok-Makes.ensures) in
+    (subst (IsDecided c.last-tables.result.now place change) c.in-Ok-Makes.field-0-is c.in-Ok-Makes.ensures.ok) in
     let n : ContKept _ = record {
       keeper = c.commit.new.self;
       began = i.opening.value;
@@ -396,3 +399,68 @@ returns-in-Err-Failed-clause-fresh g c =
     let kept : IsKept i.entries.items i.fresh.items c.make_room.new.entries.items c.make_room.new.fresh.items =
     fresh-same i.entries.items i.fresh.items c.make_room.new.entries.items c.make_room.new.fresh.items c.make_room.ensures.entries c.make_room.ensures.fresh in
     elim c.match-made-2.branch [ in-Some-3 w ↦ rw (w.self-is, sym c.self.view_is) kept | in-None-3 w ↦ rw (w.self-is, sym c.self.view_is) kept ]
+
+-- ---- where memory ran out
+
+refuses-apart : Refuses ≡ Wants → ⊥
+refuses-apart is = cc
+
+makes-apart : Succeeds ≡ Wants → ⊥
+makes-apart is = cc
+
+pub returns-in-Ok-Refused-clause-wanted : goal.returns-in-Ok-Refused-clause-wanted
+returns-in-Ok-Refused-clause-wanted g c others given at =
+    let place = c.args.place.now in let change = c.args.change.now in
+    let decided : IsDecided c.last-tables.result.now place change (Refused c.in-Ok-Refused.answer) =
+    subst (IsDecided c.last-tables.result.now place change) c.in-Ok-Refused.field-0-is c.in-Ok-Refused.ensures.ok in
+    fine-wants place change given c.in-Ok-Refused.answer
+    (λ wants. refuses-apart (sym (refusal-ends c.last-tables.result.now place change c.in-Ok-Refused.answer decided) ∙ wants))
+
+pub returns-in-Err-clause-wanted : goal.returns-in-Err-clause-wanted
+returns-in-Err-clause-wanted g c others given at =
+    let place = c.args.place.now in let change = c.args.change.now in
+    let inside : c.self.inside.loaded ≡ others ++ tables_at place given ∷ [] = ap (λ (x : ContKept _). x.loaded) c.self.view_is ∙ at in
+    let was : c.last-tables.result.now ≡ given = c.last-tables.ensures others (tables_at place given) inside in
+    let enters : Enters place change c.last-tables.result.now = (c.in-Err.ensures.unrefused, c.in-Err.ensures.starved) in
+    subst (Enters place change) was enters
+
+pub returns-then-is_err-clause-wanted : goal.returns-then-is_err-clause-wanted
+returns-then-is_err-clause-wanted g c others given at =
+    let place = c.args.place.now in let change = c.args.change.now in
+    let inside : c.self.inside.loaded ≡ others ++ tables_at place given ∷ [] = ap (λ (x : ContKept _). x.loaded) c.self.view_is ∙ at in
+    let was : c.last-tables.result.now ≡ given = c.last-tables.ensures others (tables_at place given) inside in
+    makes-enters c.last-tables.result.now given place change c.in-Ok-Makes.entries c.into-batch.result.items
+    (subst (IsDecided c.last-tables.result.now place change) c.in-Ok-Makes.field-0-is c.in-Ok-Makes.ensures.ok) c.into-batch.ensures
+    (nonempty c.into-batch.result.items c.count_of-more.result c.count_of-more.ensures.length c.if-more-eq0.false) was
+
+pub returns-in_default-clause-wanted : goal.returns-in_default-clause-wanted
+returns-in_default-clause-wanted g c others given at =
+    let place = c.args.place.now in let change = c.args.change.now in
+    let inside : c.self.inside.loaded ≡ others ++ tables_at place given ∷ [] = ap (λ (x : ContKept _). x.loaded) c.self.view_is ∙ at in
+    let was : c.last-tables.result.now ≡ given = c.last-tables.ensures others (tables_at place given) inside in
+    makes-enters c.last-tables.result.now given place change c.in-Ok-Makes.entries c.into-batch.result.items
+    (subst (IsDecided c.last-tables.result.now place change) c.in-Ok-Makes.field-0-is c.in-Ok-Makes.ensures.ok) c.into-batch.ensures
+    (nonempty c.into-batch.result.items c.count_of-more.result c.count_of-more.ensures.length c.if-more-eq0.false) was
+
+pub returns-in-Err-NoMemory-clause-wanted : goal.returns-in-Err-NoMemory-clause-wanted
+returns-in-Err-NoMemory-clause-wanted g c others given at =
+    let place = c.args.place.now in let change = c.args.change.now in
+    let inside : c.self.inside.loaded ≡ others ++ tables_at place given ∷ [] = ap (λ (x : ContKept _). x.loaded) c.self.view_is ∙ at in
+    let was : c.last-tables.result.now ≡ given = c.last-tables.ensures others (tables_at place given) inside in
+    makes-enters c.last-tables.result.now given place change c.in-Ok-Makes.entries c.into-batch.result.items
+    (subst (IsDecided c.last-tables.result.now place change) c.in-Ok-Makes.field-0-is c.in-Ok-Makes.ensures.ok) c.into-batch.ensures
+    (nonempty c.into-batch.result.items c.count_of-more.result c.count_of-more.ensures.length c.if-more-eq0.false) was
+
+pub returns-then-more-eq0-clause-wanted : goal.returns-then-more-eq0-clause-wanted
+returns-then-more-eq0-clause-wanted g c others given at =
+    let change = c.args.change.now in let front = c.count_of-count.result + c.count_of-more.result in
+    let ends : cont_ending c.made_answer-answer.result ≡ Succeeds =
+    ap cont_ending c.made_answer-answer.ensures ∙ made-ends c.last-tables.result.now change front in
+    fine-wants c.args.place.now change given c.made_answer-answer.result (λ wants. makes-apart (sym ends ∙ wants))
+
+pub returns-in-Ok-commit-clause-wanted : goal.returns-in-Ok-commit-clause-wanted
+returns-in-Ok-commit-clause-wanted g c others given at =
+    let change = c.args.change.now in let front = c.count_of-count.result + c.count_of-more.result in
+    let ends : cont_ending c.made_answer-answer.result ≡ Succeeds =
+    ap cont_ending c.made_answer-answer.ensures ∙ made-ends c.last-tables.result.now change front in
+    fine-wants c.args.place.now change given c.made_answer-answer.result (λ wants. makes-apart (sym ends ∙ wants))

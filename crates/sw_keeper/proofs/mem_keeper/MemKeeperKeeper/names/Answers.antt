@@ -14,5 +14,5 @@ returns-then-is_some-clause-cause c =
 pub returns-clause-places : goal.returns-clause-places
 returns-clause-places c =
     let shelves : c.self.inside.shelves.items ≡ c.args.self.now.shelves = ap (λ (s : MemState). s.shelves) (c.self.view_is ∙ c.begin.ensures.after) in
-    λ _. lists-places c.args.self.now.shelves c.in_ok-places.field-0.items (c.in_ok-places.ensures ∙ ap keys_of (c.deref.ensures.value ∙ shelves))
+    λ _. lists-places c.args.self.now.shelves c.in_ok-places.field-0.items (c.in_ok-places.ensures.ok ∙ ap keys_of (c.deref.ensures.value ∙ shelves))
     (rw shelves at c.self.invariant)
