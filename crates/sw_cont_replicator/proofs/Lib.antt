@@ -1,3 +1,9 @@
 mod Ending
+mod Entering
+mod Exchanging
 mod Keeping
+mod Making
+mod Meeting
+mod Passing
+mod Pointing
 mod Sending
