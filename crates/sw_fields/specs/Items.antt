@@ -2,7 +2,7 @@
 -- are counted over the items that are kept.)
 use Rattle.std.specs.Prelude.{ℕ, ◌+◌, ◌-◌, Bool, ◌&&◌, ◌||◌, List, [], length, take, fold, codes, count_by, sum_by, nat_eq, nat_le, not, Option, None, Some}
 use Rattle.std.specs.Prelude.{if◌then◌else◌}
-use Rattle.std.specs.List.{list_all, starts_with}
+use Rattle.std.specs.List.{list_all, list_any, starts_with}
 use Rattle.std.specs.Option.{option_and_then}
 use Rattle.std.specs.Str.{str_eq_ignore_ascii_case, str_to_ascii_lowercase}
 use Rattle.sw_message.specs.Fields.{is_named}
@@ -30,6 +30,10 @@ is_kept_field f =
 
 abbrev pub is_item_field : Field → Bool
 is_item_field f = is_user_field f || is_kept_field f
+
+-- whether one of these fields is an item: memory is taken for items alone
+abbrev pub has_items : List Field → Bool
+has_items fields = list_any is_item_field fields
 
 -- the item that a field is: its name in lower case, and its value
 abbrev pub item_of : Field → Head

@@ -1,8 +1,9 @@
-ghost use Rattle.std.specs.Prelude.{◌≡◌, ◌-◌, ◌^◌, true, Ok, min, count_by, sum_by, IfOk};
+ghost use Rattle.std.specs.Prelude.{◌≡◌, ◌-◌, ◌^◌, true, Ok, min, count_by, sum_by, IfOk, OnErr};
 ghost use Rattle.std.specs.List.{list_all};
 ghost use Rattle.std.specs.Str.{str_to_ascii_lowercase};
 ghost use Rattle.sw_message.specs.Fields.{is_named as is_named_field};
-ghost use Rattle.sw_fields.specs.Items.{are_few as are_few_items, has_good_name as has_good_name_of, is_in_limits as is_in_limits_of};
+ghost use Rattle.sw_state.specs.HeadNames.{is_name, with_head};
+ghost use Rattle.sw_fields.specs.Items.{are_few as are_few_items, has_good_name as has_good_name_of, has_items, is_in_limits as is_in_limits_of};
 ghost use Rattle.sw_fields.specs.Items.{is_item_field as is_item_field_of, is_kept_field as is_kept_field_of, is_user_field as is_user_field_of};
 ghost use Rattle.sw_fields.specs.Items.{is_user_item as is_user_item_of, item_of as item_of_field, items_of as items_of_fields, name_size as name_size_of};
 ghost use Rattle.sw_fields.specs.Items.{named_items as named_items_of, user_size as user_size_of, with_field};
@@ -20,9 +21,10 @@ const USER_PREFIX: &[u8] = b"x-object-meta-";
 const PREFIX_SIZE: usize = 14;
 
 /// The header items that the fields give an object. It answers `None` where one has no name that a field can have, or where user metadata
-/// breaks a limit.
+/// breaks a limit. Without an item no memory is taken.
 pub fn items_of(alloc: Global, fields: &FieldList) -> Result<Option<HeadList>, NoMemory>
-    ensures { IfOk result (λ items. items ≡ items_of_fields fields.now) }
+    ensures items { IfOk result (λ items. items ≡ items_of_fields fields.now) }
+    ensures for_items { OnErr result (has_items fields.now ≡ true) }
 {
     let Some(items) = named_items(alloc, fields.as_slice())? else {
         return Ok(None);
@@ -36,7 +38,8 @@ pub fn items_of(alloc: Global, fields: &FieldList) -> Result<Option<HeadList>, N
 
 /// The items of these fields, where each has a good name.
 fn named_items(alloc: Global, fields: &[Field]) -> Result<Option<HeadList>, NoMemory>
-    ensures { IfOk result (λ items. items ≡ named_items_of fields.now) }
+    ensures items { IfOk result (λ items. items ≡ named_items_of fields.now) }
+    ensures for_items { OnErr result (has_items fields.now ≡ true) }
 {
     let mut items = HeadList::new(alloc);
     for field in fields {
@@ -51,11 +54,20 @@ fn named_items(alloc: Global, fields: &[Field]) -> Result<Option<HeadList>, NoMe
 fn add_field(alloc: Global, items: &mut HeadList, field: &Field) -> Result<bool, NoMemory>
     ensures named { IfOk result (λ named. named ≡ has_good_name_of field.now) }
     ensures put { result ≡ Ok true → items.new ≡ with_field items.old field.now }
+    ensures for_items { OnErr result (is_item_field_of field.now ≡ true) }
 {
     if !is_item_field(field) {
         return Ok(true);
     }
-    let item = item_of(alloc, field)?;
+    put_named(items, item_of(alloc, field)?)
+}
+
+/// Puts an item in its place. It answers `false` where it has no name that a field can have, and takes no memory then.
+fn put_named(items: &mut HeadList, item: Head) -> Result<bool, NoMemory>
+    ensures named { IfOk result (λ named. named ≡ is_name item.name) }
+    ensures put { result ≡ Ok true → items.new ≡ with_head items.old item }
+    ensures for_named { OnErr result (is_name item.name ≡ true) }
+{
     if !HeadList::is_name(item.name.as_slice()) {
         return Ok(false);
     }

@@ -1,5 +1,5 @@
 //! The bytes of a body. They are kept up to the greatest size of an object; beyond it they are only read.
-ghost use Rattle.std.specs.Prelude.{[], ◌≡◌, ℕ, ◌<◌, ◌≤◌, true, false, length, Ok, Err, IfOk, OnErr, OnOk, IfSome};
+ghost use Rattle.std.specs.Prelude.{[], ◌≡◌, ◌↔◌, ℕ, ◌<◌, ◌≤◌, true, false, length, Ok, Err, IfOk, OnErr, OnOk, IfSome};
 ghost use Rattle.std.specs.Io.KnownBytes.{Keeps, IsAtEnd, prepend_known};
 ghost use Rattle.sw_http.specs.Body.{IsKeptWith, IsWithinLimit, extended};
 ghost use Rattle.sw_http.specs.ChunkSteps.{TakesBytes};
@@ -51,7 +51,7 @@ fn hold_some<R: Source>(held: &mut Held, source: &mut R) -> Result<bool, ReadErr
 
 /// Whether a body that has so many bytes more is still kept.
 fn has_room(body: &Body, more: usize) -> bool
-    ensures { result ≡ true → IsKeptWith body.now more }
+    ensures { result ≡ true ↔ IsKeptWith body.now more }
 {
     match body {
         Body::Whole(bytes) => bytes.as_slice().len().saturating_add(more) <= MAX_BODY,

@@ -6,8 +6,8 @@
 //! each refusal are the same for every way in which the source cuts its bytes. The laws in [`laws`] say that bytes have one reading
 //! only. When a client that waits is told to go on stands in `specs/Continue.antt`.
 //!
-//! Each byte is gone over a bounded number of times, and beside the body no more is held than a head or a trailer and one piece: runs of
-//! blanks, chunk extensions and the bytes of a body that is too large are dropped as they come.
+//! Runs of blanks, chunk extensions and the bytes of a body that is too large are dropped as they come, so little is held beside the body: no
+//! clause says how much.
 //!
 //! The next layer up is `sw_session`, which has the requests answered one after the other.
 #![tactic(auto)]

@@ -42,10 +42,11 @@ fn split_target(target: &[u8]) -> (&[u8], &[u8])
     }
 }
 
-/// The method that a token names.
+/// The method that a token names. One of at most 15 bytes takes no memory.
 fn method_of(alloc: Global, token: &[u8]) -> Result<Method, NoMemory>
     requires { IsToken token.now }
-    ensures { IfOk result (λ method. method ≡ token.now) }
+    ensures method { IfOk result (λ method. method ≡ token.now) }
+    ensures for_long { OnErr result (15 < length token.now) }
 {
     match Method::from_bytes(alloc, token) {
         Ok(method) => Ok(method),

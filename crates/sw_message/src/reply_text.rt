@@ -1,4 +1,4 @@
-ghost use Rattle.std.specs.Prelude.{◌≡◌, ◌-◌, ◌^◌, ◌<◌, ◌++◌, ℕ, [], false, length, min, decimal, unwrap_or, IfOk, OnOk, OnErr};
+ghost use Rattle.std.specs.Prelude.{◌≡◌, ◌-◌, ◌^◌, ◌<◌, ◌++◌, ℕ, [], false, length, min, decimal, unwrap_or, vec_capacity, IfOk, OnOk, OnErr};
 ghost use Rattle.std.specs.List.{flat_map};
 ghost use Rattle.http.specs.StatusCode.{reason_phrase};
 ghost use Rattle.sw_message.specs.Reply.{status_line, field_line, length_line, body_bytes, body_length, carried, has_no_body, reply_text, room_for};
@@ -130,12 +130,20 @@ fn text_room(response: &Response) -> usize
     room
 }
 
+/// Nothing, with room for all bytes of a reply.
+fn empty_text(alloc: Global, response: &Response) -> Result<Vec<u8>, AllocError>
+    ensures empty { IfOk result (λ text. text.items ≡ []) }
+    ensures room { IfOk result (λ text. vec_capacity text ≡ min (room_for response.now) (2 ^ 64 - 1)) }
+{
+    Vec::with_capacity(alloc, text_room(response))
+}
+
 /// All bytes of a reply.
 #[tactic(auto, unfolding(crate::specs::Reply::reply_text))]
 pub(crate) fn text_of(alloc: Global, response: &Response) -> Result<Vec<u8>, NoMemory>
     ensures { IfOk result (λ text. text.items ≡ reply_text response.now) }
 {
-    let mut text = Vec::with_capacity(alloc, text_room(response))?;
+    let mut text = empty_text(alloc, response)?;
     push_status_line(&mut text, response.status)?;
     push_fields(&mut text, response.fields.as_slice())?;
     push_length(&mut text, response)?;

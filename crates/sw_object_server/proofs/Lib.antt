@@ -2,3 +2,4 @@ mod Asking
 mod Decided
 mod Left
 mod OneOutcome
+mod Reached

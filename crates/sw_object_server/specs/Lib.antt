@@ -1,5 +1,6 @@
 pub mod Asking
 pub mod Laws
+pub mod Memory
 pub mod Places
 pub mod Reading
 pub mod Replies

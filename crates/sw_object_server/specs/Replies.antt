@@ -53,10 +53,11 @@ shows_etag (kinds.Put content) = true
 shows_etag (kinds.Meta heads) = false
 shows_etag kinds.Del = false
 
--- the reply to a write whose step had this answer; the first argument is the reply where it was made
+-- the reply to a write whose step had this answer; the first argument is the reply where it was made. A step at a record is no request's
 abbrev pub reply_to : Response → Answer → Response
 reply_to made (answers.Done front) = made
 reply_to made (answers.Buried front) = bare 404
+reply_to made (answers.Took is) = made
 reply_to made (answers.Conflict time) = at_time 409 time
 reply_to made (answers.NotFound time) = not_found time
 reply_to made (answers.Mismatch second) = bare 412
@@ -74,6 +75,7 @@ shows_field (answers.NotFound time) = is_some time
 shows_field (answers.Damaged bad) = true
 shows_field (answers.Done front) = false
 shows_field (answers.Buried front) = false
+shows_field (answers.Took is) = false
 shows_field (answers.Mismatch second) = false
 shows_field answers.Exists = false
 shows_field answers.JournalFull = false

@@ -2,11 +2,11 @@
 -- own.)
 --
 -- The states of the door are of any type D: they are looked at through its sight alone.
-use Rattle.std.specs.Prelude.{◌≡◌, ℕ, Bool, true, ◌⊎◌, Ok}
+use Rattle.std.specs.Prelude.{◌≡◌, ⊤, ℕ, ◌<◌, Bool, true, ◌⊎◌, Ok}
 use Rattle.sw_hashpath.specs.declared.name.Name.{Name}
 use Rattle.sw_message.specs.declared.request.Request.{Request}
 use Rattle.sw_message.specs.declared.response.Response.{Response}
-use Rattle.sw_peer.specs.Sights.{Calls, IsMade, IsRead, Sight}
+use Rattle.sw_peer.specs.Sights.{Calls, IsMade, IsRead, Nodes, Sight}
 use Rattle.sw_object_steps.specs.Steps.{write_of}
 use Rattle.sw_object_steps.specs.declared.answer.Answer.{Answer}
 use Rattle.sw_object_steps.specs.declared.change.Change.{Change}
@@ -14,7 +14,7 @@ use Rattle.sw_object_steps.specs.declared.got.Got.{Got}
 use Rattle.sw_peer.specs.declared.link.Link.TheVariants.{Local}
 use Rattle.sw_ring.specs.declared.ring.Ring.{Ring}
 use Rattle.sw_object_server.specs.Asking.{IsAsked}
-use Rattle.sw_object_server.specs.Replies.{bare, made_reply, reply_to, shows_field}
+use Rattle.sw_object_server.specs.Replies.{bare, made_reply, reply_to, shows_etag, shows_field}
 use Rattle.sw_object_server.specs.Showing.{IsShown, shows_fields}
 use Rattle.sw_object_server.specs.declared.asked.Asked.{Asked}
 use Rattle.sw_object_server.specs.declared.asked.Asked.TheVariants as asks
@@ -67,3 +67,19 @@ IsLeft old new moment (asks.Read device name head_only) = IsReadLeft old new dev
 -- was its reply that found no memory
 abbrev pub IsGivenUp : {D : Type 0} → (D → Sight) → D → D → Ring → Request → ℕ → Type 0
 IsGivenUp sight old new ring r moment = (new ≡ old) ⊎ ((asked : Asked) × IsAsked ring r asked × IsLeft (sight old) (sight new) moment asked)
+
+-- memory is taken before the step that is asked for comes: for the reply to what is put, and for no other
+abbrev pub TakesFirst : Asked → Type 0
+TakesFirst (asks.Refused status) = ⊥
+TakesFirst (asks.Change device name change) = shows_etag (write_of change).kind ≡ true
+TakesFirst (asks.Read device name head_only) = ⊥
+
+-- the same of what is asked for: no step came, and the reply to what is put found no memory; or the step came, and changed nothing
+abbrev pub IsHalted : {D : Type 0} → (D → Sight) → D → D → ℕ → Asked → Type 0
+IsHalted sight old new moment asked = ((new ≡ old) × TakesFirst asked) ⊎ IsLeft (sight old) (sight new) moment asked
+
+-- the door reaches what is asked for: its device, and its name
+abbrev pub IsReached : Nodes → Asked → Type 0
+IsReached nodes (asks.Refused status) = ⊤
+IsReached nodes (asks.Change device name change) = (device < nodes.devices) × (nodes.fits name ≡ true)
+IsReached nodes (asks.Read device name head_only) = (device < nodes.devices) × (nodes.fits name ≡ true)

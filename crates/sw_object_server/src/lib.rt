@@ -10,7 +10,7 @@
 //! functions as those of objects: [`parts_of`], [`at_slash`], [`decoded`], [`partition_named`], [`has_number`]. Their replies are made by [`bare`],
 //! [`at_time`] and [`field`].
 //!
-//! The next layers up are `sw_cluster`, which routes requests to this server, and the jobs that serve connections.
+//! The next layers up are `sw_nodes` and `sw_cluster`, which route requests of a session and of a connection to this server.
 #![tactic(auto)]
 
 mod asked;

@@ -1,4 +1,6 @@
 ghost use Rattle.std.specs.Prelude.{◌≡◌, ◌<◌, true, IfOk, OnErr, ◌⊎◌};
+ghost use Rattle.sw_object_steps.specs.Steps.{write_of};
+ghost use Rattle.sw_object_server.specs.Replies.{shows_etag};
 ghost use Rattle.sw_object_server.specs.Serving.{IsChangeLeft, IsChangeServed, IsReadLeft, IsReadServed};
 
 use crate::replies::{made_reply, reply_to};
@@ -22,6 +24,8 @@ pub(crate) fn make<D: ObjectDoor>(
     requires fits { (D.sight door.old).nodes.fits name.now ≡ true }
     ensures ok { IfOk result (IsChangeServed (D.sight door.old) (D.sight door.new) device name.now change) }
     ensures err { OnErr result ((door.new ≡ door.old) ⊎ IsChangeLeft (D.sight door.old) (D.sight door.new) device name.now change) }
+    ensures wanted { OnErr result (((door.new ≡ door.old) × (shows_etag (write_of change).kind ≡ true))
+        ⊎ IsChangeLeft (D.sight door.old) (D.sight door.new) device name.now change) }
 {
     let made = made_reply(alloc, &change)?;
     match door.change(alloc, Link::Local, device, name, change) {

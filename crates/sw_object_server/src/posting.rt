@@ -1,4 +1,5 @@
-ghost use Rattle.std.specs.Prelude.{◌≡◌, IfOk};
+ghost use Rattle.std.specs.Prelude.{◌≡◌, IfOk, OnErr};
+ghost use Rattle.sw_fields.specs.Metadata.{TakesItems};
 ghost use Rattle.sw_object_server.specs.Reading.{Deletes, Posts};
 ghost use Rattle.sw_object_server.specs.Steps.{post_change as post_change_of};
 
@@ -19,7 +20,8 @@ pub(crate) fn read_post(
     name: &Name,
     request: &Request,
 ) -> Result<Verdict, NoMemory>
-    ensures { IfOk result (Posts name.now request.now time) }
+    ensures posts { IfOk result (Posts name.now request.now time) }
+    ensures for_items { OnErr result (TakesItems time name.now request.now.fields) }
 {
     match heads_of(alloc, time, name, &request.fields)? {
         Some(heads) => Ok(Verdict::Change(post_change(time, heads, &request.fields))),

@@ -1,5 +1,8 @@
-ghost use Rattle.std.specs.Prelude.{◌≡◌, true, IfOk};
+ghost use Rattle.std.specs.Prelude.{◌≡◌, ℕ, List, true, IfOk, IsSome, OnErr};
 ghost use Rattle.std.specs.Str.{is_utf8 as is_utf8_text};
+ghost use Rattle.sw_fields.specs.Fields.{type_of as type_of_fields};
+ghost use Rattle.sw_message.specs.declared.request.Body.TheVariants.{Whole};
+ghost use Rattle.sw_object_server.specs.Memory.{TakesContent, TakesHeads};
 ghost use Rattle.sw_object_server.specs.Reading.{IsContent, Puts, PutsBody, PutsType, put_content as put_content_of};
 ghost use Rattle.sw_object_server.specs.Steps.{put_change as put_change_of};
 
@@ -21,7 +24,8 @@ pub(crate) fn read_put(
     name: &Name,
     request: Request,
 ) -> Result<Verdict, NoMemory>
-    ensures { IfOk result (Puts name.now request time) }
+    ensures puts { IfOk result (Puts name.now request time) }
+    ensures for_content { OnErr result (TakesContent name.now request time) }
 {
     let Request {
         method: _,
@@ -46,7 +50,10 @@ fn read_body(
     body: Body,
     fields: &FieldList,
 ) -> Result<Verdict, NoMemory>
-    ensures { IfOk result (PutsBody time name.now fields.now body) }
+    ensures puts { IfOk result (PutsBody time name.now fields.now body) }
+    ensures for_small { OnErr result ((kept : List ℕ) × (body ≡ Whole kept)) }
+    ensures for_typed { OnErr result (IsSome (type_of_fields fields.now)) }
+    ensures for_heads { OnErr result (TakesHeads time name.now fields.now) }
 {
     match body {
         Body::TooLarge => Ok(Verdict::Refused(413)),
@@ -67,7 +74,8 @@ fn read_typed(
     fields: &FieldList,
 ) -> Result<Verdict, NoMemory>
     requires { is_utf8_text content_type.now ≡ true }
-    ensures { IfOk result (PutsType time name.now body fields.now content_type.now) }
+    ensures puts { IfOk result (PutsType time name.now body fields.now content_type.now) }
+    ensures for_heads { OnErr result (TakesHeads time name.now fields.now) }
 {
     match heads_of(alloc, time, name, fields)? {
         Some(heads) => {

@@ -1,9 +1,11 @@
-ghost use Rattle.std.specs.Prelude.{IfOk, OnErr};
+ghost use Rattle.std.specs.Prelude.{◌≡◌, None, IfOk, OnErr};
 ghost use Rattle.sw_object_server.specs.Targets.{parts_of as parts_of_path};
 ghost use Rattle.sw_object_server.specs.Asking.{IsAsked};
 ghost use Rattle.sw_object_server.specs.Requirements.{HasVerb, IsForObjects};
 ghost use Rattle.sw_object_server.specs.Reading.{AsksDevice, AsksName, Deletes, IsTimed, IsVerdict, Posts, Puts};
-ghost use Rattle.sw_object_server.specs.Places.{IsHashed, IsPlaced};
+ghost use Rattle.sw_object_server.specs.Memory.{TakesAtName, TakesMemory};
+ghost use Rattle.sw_object_server.specs.Places.{IsHashed, IsPlaced, name_fault};
+ghost use Rattle.sw_object_server.specs.declared.verb.Verb.TheVariants as verbs;
 
 use crate::asked::Asked;
 use crate::partitions::has_number;
@@ -43,6 +45,21 @@ fn read_target(alloc: Global, ring: &Ring, verb: Verb, request: Request) -> Resu
     ensures placed { IfOk result (IsPlaced ring.now) }
 {
     let parts = parts_of(alloc, request.path.as_slice())?;
+    read_parts(alloc, ring, &parts, verb, request)
+}
+
+/// A request of these segments. Memory is taken only over good names.
+fn read_parts(
+    alloc: Global,
+    ring: &Ring,
+    parts: &Parts,
+    verb: Verb,
+    request: Request,
+) -> Result<Asked, NoMemory>
+    ensures asked { IfOk result (AsksName ring.now parts.now request verb) }
+    ensures placed { IfOk result (IsPlaced ring.now) }
+    ensures for_named { OnErr result (name_fault parts.now ≡ None) }
+{
     let (account, container) = (parts.account.as_slice(), parts.container.as_slice());
     match Name::new(
         alloc,
@@ -51,7 +68,7 @@ fn read_target(alloc: Global, ring: &Ring, verb: Verb, request: Request) -> Resu
         container,
         parts.object.as_slice(),
     ) {
-        Ok(name) => read_name(alloc, ring, &parts, verb, name, request),
+        Ok(name) => read_name(alloc, ring, parts, verb, name, request),
         Err(NameError::Bad(_)) => Ok(Asked::Refused(400)),
         Err(NameError::NoMemory) => Err(NoMemory),
     }
@@ -69,6 +86,7 @@ fn read_name(
     requires { IsHashed ring.now name }
     ensures asked { IfOk result (AsksDevice ring.now parts.now verb name request) }
     ensures placed { IfOk result (IsPlaced ring.now) }
+    ensures for_some { OnErr result (TakesAtName ring.now parts.now verb name request) }
 {
     let Some(device) = ring.device(parts.device.as_slice()) else {
         return Ok(Asked::Refused(404));
@@ -96,7 +114,8 @@ fn read_name(
 
 /// What the verb asks for at this name.
 fn read_verb(alloc: Global, verb: Verb, name: &Name, request: Request) -> Result<Verdict, NoMemory>
-    ensures { IfOk result (IsVerdict verb name.now request) }
+    ensures verdict { IfOk result (IsVerdict verb name.now request) }
+    ensures for_some { OnErr result (TakesMemory verb name.now request) }
 {
     match verb {
         Verb::Get => Ok(Verdict::Read { head_only: false }),
@@ -108,7 +127,8 @@ fn read_verb(alloc: Global, verb: Verb, name: &Name, request: Request) -> Result
 }
 
 fn timed_put(alloc: Global, name: &Name, request: Request) -> Result<Verdict, NoMemory>
-    ensures { IfOk result (IsTimed request.fields (Puts name.now request)) }
+    ensures timed { IfOk result (IsTimed request.fields (Puts name.now request)) }
+    ensures for_content { OnErr result (TakesMemory verbs.Put name.now request) }
 {
     match time_of(&request.fields) {
         Some(time) => read_put(alloc, time, name, request),
@@ -117,7 +137,8 @@ fn timed_put(alloc: Global, name: &Name, request: Request) -> Result<Verdict, No
 }
 
 fn timed_post(alloc: Global, name: &Name, request: &Request) -> Result<Verdict, NoMemory>
-    ensures { IfOk result (IsTimed request.now.fields (Posts name.now request.now)) }
+    ensures timed { IfOk result (IsTimed request.now.fields (Posts name.now request.now)) }
+    ensures for_items { OnErr result (TakesMemory verbs.Post name.now request.now) }
 {
     match time_of(&request.fields) {
         Some(time) => read_post(alloc, time, name, request),

@@ -35,7 +35,9 @@ pub fn made_reply(alloc: Global, change: &Change) -> Result<Response, NoMemory>
     match change {
         Change::Put { content, .. } => created(alloc, &content.etag),
         Change::Post { .. } => Ok(bare(alloc, 202)),
-        Change::Delete { .. } => Ok(bare(alloc, 204)),
+        Change::Delete { .. } | Change::MarkRecord { .. } | Change::DropRecord { .. } => {
+            Ok(bare(alloc, 204))
+        }
         Change::Receive { write } => received(alloc, &write.kind),
     }
 }
@@ -65,7 +67,7 @@ pub fn reply_to(alloc: Global, made: Response, answer: Answer) -> Result<Respons
     ensures err { OnErr result (shows_field answer ≡ true) }
 {
     match answer {
-        Answer::Done(_) => Ok(made),
+        Answer::Done(_) | Answer::Took(_) => Ok(made),
         Answer::Buried(_) => Ok(bare(alloc, 404)),
         Answer::Conflict(time) => at_time(alloc, 409, time),
         Answer::NotFound(time) => not_found(alloc, time),

@@ -1,7 +1,7 @@
 ghost use Rattle.std.specs.Prelude.{◌≡◌, ◌≤◌, true, length, IfOk, OnErr};
 ghost use Rattle.sw_hashpath.specs.declared.name.Name.{Name as NameValue};
 ghost use Rattle.sw_object_server.specs.Places.{IsHashed};
-ghost use Rattle.sw_object_server.specs.Serving.{IsAnswered, IsGivenUp};
+ghost use Rattle.sw_object_server.specs.Serving.{IsAnswered, IsGivenUp, IsHalted, IsReached, IsServed};
 
 use crate::asked::Asked;
 use crate::making::{make, show};
@@ -30,7 +30,22 @@ pub fn answer<D: ObjectDoor>(
     ensures ok { IfOk result (IsAnswered D.sight door.old door.new ring.now request now) }
     ensures err { OnErr result (IsGivenUp D.sight door.old door.new ring.now request now) }
 {
-    match read_request(alloc, ring, request)? {
+    let asked = read_request(alloc, ring, request)?;
+    serve(alloc, door, asked, now)
+}
+
+/// Does what is asked for, and replies. A refusal takes no memory, and neither does the reply to a POST or to a deletion that was made.
+fn serve<D: ObjectDoor>(
+    alloc: Global,
+    door: &mut D,
+    asked: Asked,
+    now: u64,
+) -> Result<Response, NoMemory>
+    requires { IsReached (D.sight door.old).nodes asked }
+    ensures ok { IfOk result (IsServed D.sight door.old door.new now asked) }
+    ensures err { OnErr result (IsHalted D.sight door.old door.new now asked) }
+{
+    match asked {
         Asked::Refused(status) => Ok(bare(alloc, status)),
         Asked::Change {
             device,

@@ -5,5 +5,6 @@ mod Members
 mod Named
 mod OneAsking
 mod Order
+mod Reached
 mod Several
 mod Telling

@@ -1,6 +1,6 @@
 -- What a request for replicas asks the nodes of a ring for, or the status that refuses it. (OpenStack Swift's object server; the order of the
 -- refusals, and that the files of suffixes can be asked for, are this project's own.)
-use Rattle.std.specs.Prelude.{◌≡◌, ⊤, ℕ, ◌<◌, ◌^◌, List, [], ◌∷◌, length, Option, None, Some, IfSome, Contains}
+use Rattle.std.specs.Prelude.{◌≡◌, ⊤, ℕ, ◌<◌, ◌^◌, List, [], ◌∷◌, length, Option, None, Some, IfSome, IsSome, Contains}
 use Rattle.sw_message.specs.declared.request.Request.{Request}
 use Rattle.sw_object_server.specs.Places.{IsDevice, IsPartition}
 use Rattle.sw_object_server.specs.Tests.{IsDecided}
@@ -59,3 +59,10 @@ abbrev pub IsPlaced : Ring → ReplicaAsked → Type 0
 IsPlaced ring (Refused status) = ⊤
 IsPlaced ring (Hashes device part) = IsPlace ring device part
 IsPlaced ring (Files device part suffixes) = IsPlace ring device part
+
+-- memory is taken to read the suffixes that a target names: at a device of the ring, and in a partition of it
+pub record TakesSuffixes (ring : Ring) (target : Target) : Type 0 where
+  pub device : ℕ
+  pub is_device : IsDevice ring target.device (Some device)
+  pub partition : HasPartition ring target
+  pub named : IsSome target.suffixes

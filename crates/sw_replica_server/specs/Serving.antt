@@ -2,14 +2,14 @@
 -- project's own.)
 --
 -- The states of the door are of any type D: they are looked at through its sight alone.
-use Rattle.std.specs.Prelude.{◌≡◌, ℕ, true, List, [], ◌∷◌, ◌++◌, ◌⊎◌, Result, Ok, Err}
+use Rattle.std.specs.Prelude.{◌≡◌, ⊤, ℕ, ◌^◌, ◌<◌, true, List, [], ◌∷◌, ◌++◌, ◌⊎◌, Result, Ok, Err}
 use Rattle.std.specs.declared.alloc.Global.{Global}
 use Rattle.std.specs.declared.vec.Vec.{Vec}
 use Rattle.sw_message.specs.declared.request.Request.{Request}
 use Rattle.sw_message.specs.declared.response.Response.{Response}
 use Rattle.sw_object_server.specs.Replies.{bare}
 use Rattle.sw_object_server.specs.Serving.{IsStepped}
-use Rattle.sw_peer.specs.Sights.{IsFilesRead, IsHashesRead, Sight}
+use Rattle.sw_peer.specs.Sights.{IsFilesRead, IsHashesRead, Nodes, Sight}
 use Rattle.sw_object_steps.specs.declared.dir_fault.DirFault.{DirFault}
 use Rattle.sw_peer.specs.declared.link.Link.TheVariants.{Local}
 use Rattle.sw_ring.specs.declared.ring.Ring.{Ring}
@@ -98,3 +98,9 @@ IsLeft old new (asks.Files device part suffixes) = IsFilesLeft old new device pa
 -- no memory
 abbrev pub IsGivenUp : {D : Type 0} → (D → Sight) → D → D → Ring → Request → Type 0
 IsGivenUp sight old new ring r = (new ≡ old) ⊎ ((asked : ReplicaAsked) × IsAsked ring r asked × IsLeft (sight old) (sight new) asked)
+
+-- the door reaches what is asked for: its device, and its partition
+abbrev pub IsReached : Nodes → ReplicaAsked → Type 0
+IsReached nodes (asks.Refused status) = ⊤
+IsReached nodes (asks.Hashes device part) = (device < nodes.devices) × (part < 2 ^ nodes.power)
+IsReached nodes (asks.Files device part suffixes) = (device < nodes.devices) × (part < 2 ^ nodes.power)

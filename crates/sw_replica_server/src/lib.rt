@@ -5,7 +5,8 @@
 //! which status the request is refused (`specs/Asking.antt` has the tests in their order); the other half reads at the device itself
 //! (`specs/Serving.antt`), and replies with a JSON object of what was told (`specs/ReplicaText.antt`, `specs/Replies.antt`).
 //!
-//! No request of this server changes an object. The next layer up is `sw_cluster`, which routes requests to it.
+//! No request of this server changes an object. The next layers up are `sw_nodes` and `sw_cluster`, which route requests of a
+//! session and of a connection to it.
 #![tactic(auto)]
 
 mod asked;

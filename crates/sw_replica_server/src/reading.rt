@@ -1,5 +1,5 @@
-ghost use Rattle.std.specs.Prelude.{◌≡◌, true, IfOk};
-ghost use Rattle.sw_replica_server.specs.Asking.{IsAsked, IsAskedBy, IsPlaced};
+ghost use Rattle.std.specs.Prelude.{◌≡◌, true, IfOk, OnErr};
+ghost use Rattle.sw_replica_server.specs.Asking.{IsAsked, IsAskedBy, IsPlaced, TakesSuffixes};
 ghost use Rattle.sw_replica_server.specs.Targets.{is_replication_of};
 
 use crate::asked::ReplicaAsked;
@@ -29,6 +29,7 @@ pub fn read_replication(
 fn read_target(alloc: Global, ring: &Ring, target: &Target) -> Result<ReplicaAsked, NoMemory>
     ensures exact { IfOk result (IsAskedBy ring.now target.now) }
     ensures placed { IfOk result (IsPlaced ring.now) }
+    ensures for_suffixes { OnErr result (TakesSuffixes ring.now target.now) }
 {
     let Some(device) = ring.device(target.device.as_slice()) else {
         return Ok(ReplicaAsked::Refused(404));

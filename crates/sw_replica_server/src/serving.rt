@@ -3,6 +3,7 @@ ghost use Rattle.sw_object_server.specs.Serving.{IsStepped};
 ghost use Rattle.sw_peer.specs.Sights.{IsFilesRead};
 ghost use Rattle.sw_peer.specs.declared.link.Link.TheVariants.{Local};
 ghost use Rattle.sw_replica_server.specs.Serving.{AreRead, AreSomeRead, IsAnswered, IsFilesLeft, IsFilesServed, IsGivenUp, IsHashesLeft, IsHashesServed};
+ghost use Rattle.sw_replica_server.specs.Serving.{IsLeft, IsReached, IsServed};
 ghost use Rattle.sw_replica_server.specs.Targets.{is_replication_of};
 
 use crate::asked::ReplicaAsked;
@@ -35,7 +36,21 @@ pub fn answer<D: ReplicaDoor>(
     ensures ok { IfOk result (IsAnswered D.sight door.old door.new ring.now request.now) }
     ensures err { OnErr result (IsGivenUp D.sight door.old door.new ring.now request.now) }
 {
-    match read_replication(alloc, ring, request)? {
+    let asked = read_replication(alloc, ring, request)?;
+    serve(alloc, door, asked)
+}
+
+/// Reads what is asked for, and replies with what was told. A refusal takes no memory.
+fn serve<D: ReplicaDoor>(
+    alloc: Global,
+    door: &mut D,
+    asked: ReplicaAsked,
+) -> Result<Response, NoMemory>
+    requires { IsReached (D.sight door.old).nodes asked }
+    ensures ok { IfOk result (IsServed D.sight door.old door.new asked) }
+    ensures err { OnErr result (IsLeft (D.sight door.old) (D.sight door.new) asked) }
+{
+    match asked {
         ReplicaAsked::Refused(status) => Ok(bare(alloc, status)),
         ReplicaAsked::Hashes { device, part } => show_hashes(alloc, door, device, part),
         ReplicaAsked::Files {

@@ -1,4 +1,4 @@
-ghost use Rattle.std.specs.Prelude.{◌≡◌, ◌<◌, IfOk};
+ghost use Rattle.std.specs.Prelude.{◌≡◌, ◌<◌, length, IfOk, OnErr};
 ghost use Rattle.std.specs.List.{All};
 ghost use Rattle.std.specs.List.Sorted.{IsStrictlySortedBy};
 ghost use Rattle.std.specs.Ordering.{nat_cmp};
@@ -39,6 +39,7 @@ impl SuffixList {
         requires { All (λ suffix. suffix < 4096) set.keys }
         ensures same { IfOk result (λ list. list ≡ set.keys) }
         ensures ascending { IfOk result (IsStrictlySortedBy nat_cmp) }
+        ensures for_some { OnErr result (0 < length set.keys) }
     {
         let mut vec = Vec::with_capacity(alloc, set.len())?;
         for suffix in set {

@@ -1,4 +1,4 @@
-ghost use Rattle.std.specs.Prelude.{◌≡◌, ◌++◌, IfOk, OnOk};
+ghost use Rattle.std.specs.Prelude.{◌≡◌, ◌++◌, ◌<◌, IfOk, OnOk, OnErr};
 ghost use Rattle.sw_diskfile.specs.FileNames.{name_text};
 ghost use Rattle.sw_replica_server.specs.ReplicaText.{by_hash, comma, files_member, files_text as files_text_of, hash_member, hashes_text as hashes_text_of};
 ghost use Rattle.sw_replica_server.specs.ReplicaText.{names_list, quoted};
@@ -51,7 +51,8 @@ fn in_order(alloc: Global, lines: &[DirLine]) -> Result<Vec<DirLine>, NoMemory>
 
 /// A comma stands before each member but the first.
 fn push_comma(text: &mut Vec<u8>, place: usize) -> Result<(), NoMemory>
-    ensures { OnOk result (text.new.items ≡ text.old.items ++ comma place) }
+    ensures pushed { OnOk result (text.new.items ≡ text.old.items ++ comma place) }
+    ensures for_later { OnErr result (0 < place) }
 {
     if place > 0 {
         text.push(b',')?;

@@ -7,7 +7,7 @@
 //! nothing is written for the request at which it halted but what its client asked to be told. The server also says which requests are the
 //! last of their session: behind one nothing is read or answered. [`asks_to_close`] is such a test, for sessions that are connections.
 //!
-//! The next layer up is `sw_cluster`, whose server is the nodes of a ring.
+//! The next layers up are `sw_nodes`, the nodes of a ring as a server, and `sw_cluster`, which serves a session or connections by it.
 #![tactic(auto)]
 
 mod closing;

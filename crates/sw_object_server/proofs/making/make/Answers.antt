@@ -19,3 +19,8 @@ pub returns-clause-err : goal.returns-clause-err
 returns-clause-err g c = on_err_weaker c.reply_to.result
     (λ shows. inr (c.in-Ok.answer, record { called = c.in-Ok.ensures.made; asks = c.in-Ok.ensures.asks }, shows))
     c.reply_to.ensures.err
+
+pub returns-clause-wanted : goal.returns-clause-wanted
+returns-clause-wanted g c = on_err_weaker c.reply_to.result
+    (λ shows. inr (c.in-Ok.answer, record { called = c.in-Ok.ensures.made; asks = c.in-Ok.ensures.asks }, shows))
+    c.reply_to.ensures.err

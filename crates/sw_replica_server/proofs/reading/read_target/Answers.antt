@@ -1,4 +1,4 @@
-use Rattle.std.proofs.Common.{refl}
+use Rattle.std.proofs.Common.{OnErr, Result, Ok, Err, refl}
 use Rattle.std.proofs.lemmas.Option.{slice_get_within}
 use Rattle.sw_replica_server.proofs.Decided.{for-files, for-hashes, for-no-partition, for-no-suffixes, for-unknown}
 use Rattle.sw_replica_server.proofs.reading.read_target.Goals as goal
@@ -44,3 +44,16 @@ returns-in-None-clause-exact c =
     for-no-suffixes c.args.ring.now c.args.target.now c.in-Some.device (rw c.as_slice.ensures at ((c.in-Some.ensures.known c.in-Some.device).0 refl))
     c.in-Some-partition_named.part (rw c.as_slice-2.ensures at c.in-Some-partition_named.ensures.named) c.in-Some-suffixes.text c.in-Some-suffixes.is
     (rw (c.in-None.is, c.as_slice-3.ensures) at c.in_ok-suffixes.ensures)
+
+told : {T E P : Type 0} (r : Result T E) → P → OnErr r P
+told (Ok x) p = tt
+told (Err e) p = p
+
+-- memory was wanted at a device of the ring and in one of its partitions, for the suffixes that are named
+pub returns-in_err-suffixes-clause-for_suffixes : goal.returns-in_err-suffixes-clause-for_suffixes
+returns-in_err-suffixes-clause-for_suffixes c = told c.from_residual.result (record {
+  device = c.in-Some.device;
+  is_device = rw c.as_slice.ensures at ((c.in-Some.ensures.known c.in-Some.device).0 refl);
+  partition = (c.in-Some-partition_named.part, rw c.as_slice-2.ensures at c.in-Some-partition_named.ensures.named);
+  named = rw c.in-Some-suffixes.is refl;
+})
