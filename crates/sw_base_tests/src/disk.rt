@@ -6,7 +6,7 @@ use crate::fixtures::{are_these, is_some_of};
 use std::alloc::Global;
 use std::test::Fail;
 use sw_disk::laws::a_start_may_follow;
-use sw_disk::{Disk, DiskVolume, MemDisk};
+use sw_disk::{Change, Disk, DiskVolume, MemDisk};
 use sw_outside::{Bytes, FailingCall};
 use sw_volume::Volume;
 
@@ -206,11 +206,30 @@ fn what_was_acknowledged_is_there_after_a_crash_and_a_start(rt: HostRuntime) -> 
     Ok(())
 }
 
+/// Whether these are the names under which files were written before they were moved to their places.
+fn are_written_as(changes: &[Change], names: &[&[u8]]) -> bool {
+    let mut left = names;
+    let mut same = true;
+    for change in changes {
+        if let Change::Created { dir, file, .. } = change {
+            match left {
+                [name, rest @ ..] => {
+                    same = same && dir.as_slice() == b"tmp".as_slice() && file.as_slice() == *name;
+                    left = rest;
+                }
+                _ => return false,
+            }
+        }
+    }
+    same && left.is_empty()
+}
+
 #[test]
 fn each_put_and_unlink_is_answered_where_no_call_fails(rt: HostRuntime) -> Result<(), Fail> {
     let alloc = rt.alloc();
     let (answers, disk) = tried(alloc, Vec::new(alloc))?;
     assert_eq!(rt; answers.as_slice(), [true; 5].as_slice());
+    assert!(rt; are_written_as(disk.changes(), &[b"put-1-0", b"put-1-1", b"put-1-2"]));
     assert!(rt; is_listed_after(alloc, disk, &answers)?);
     Ok(())
 }

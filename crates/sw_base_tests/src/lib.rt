@@ -1,5 +1,5 @@
 //! Tests of the base and of the crates of files over their public calls: the outside, times, states, names and rings; where files are kept, also between
-//! starts, how they and records of updates are named and written, which of them are taken away, where all of them are, and what nodes compare of them. What
+//! starts, how they and records of updates are named, written and kept, which of them are taken away, where they all are, and what nodes compare of them. What
 //! the contracts say is proved for every input, so these show what no contract can: that the worked values are the ones that were meant, that a call succeeds
 //! while there is memory, that the unlinks of a clean-up come in byte order, that what was acknowledged is read back from what a crash leaves of a disk, and
 //! that generic code works at the readers, writers and clocks of std, at both volumes in memory and at a disk in memory.
@@ -18,11 +18,15 @@ mod fixtures;
 #[cfg(test)]
 mod hashpath;
 #[cfg(test)]
+mod mem_disk;
+#[cfg(test)]
 mod metafile;
 #[cfg(test)]
 mod outside;
 #[cfg(test)]
 mod pending;
+#[cfg(test)]
+mod pending_dir;
 #[cfg(test)]
 mod ring;
 #[cfg(test)]

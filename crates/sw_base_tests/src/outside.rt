@@ -1,10 +1,12 @@
 use std::alloc::{AllocError, Global};
 use std::io;
-use std::io::{Read, Write};
+use std::io::{ErrorKind, Read, Write};
+use std::rt::Clock as HostTime;
 use std::test::Fail;
+use std::time::{Duration, SystemTime, UNIX_EPOCH};
 use sw_outside::{
     Bytes, BytesList, Clock, Failed, FailingPut, HostClock, MemClock, MemSink, MemSource,
-    ReaderSource, Sink, SoundSink, SoundSource, Source, WriterSink, is_utf8,
+    ReaderSource, Sequence, Sink, SoundSink, SoundSource, Source, WriterSink, is_utf8,
 };
 
 /// A writer that takes at most two bytes a call, and fails once it is full.
@@ -16,7 +18,7 @@ struct Narrow {
 impl Write for Narrow {
     fn write(&mut self, buf: &[u8]) -> io::Result<usize> {
         if self.room == 0 {
-            return Err(io::Error::from(io::ErrorKind::WriteZero));
+            return Err(io::Error::from(ErrorKind::WriteZero));
         }
         let taken = buf.len().min(2).min(self.room);
         self.room -= taken;
@@ -25,6 +27,46 @@ impl Write for Narrow {
 
     fn flush(&mut self) -> io::Result<()> {
         Ok(())
+    }
+}
+
+/// A writer that takes all, and whose second and third calls fail.
+#[derive(Drop)]
+struct Halting {
+    writes: u8,
+}
+
+impl Write for Halting {
+    fn write(&mut self, buf: &[u8]) -> io::Result<usize> {
+        self.writes = self.writes.saturating_add(1);
+        match self.writes {
+            2 => Err(io::Error::from(ErrorKind::Interrupted)),
+            3 => Err(io::Error::from(ErrorKind::TimedOut)),
+            _ => Ok(buf.len()),
+        }
+    }
+
+    fn flush(&mut self) -> io::Result<()> {
+        Ok(())
+    }
+}
+
+/// A host's time that is set by hand, or isn't known.
+#[derive(Clone, Copy)]
+struct SetTime {
+    millis: Option<u64>,
+}
+
+impl HostTime for SetTime {
+    fn monotonic(&self) -> io::Result<Duration> {
+        Err(io::Error::from(ErrorKind::Unsupported))
+    }
+
+    fn since_1970(&self) -> io::Result<Duration> {
+        match self.millis {
+            Some(millis) => Ok(Duration::from_millis(millis)),
+            None => Err(io::Error::from(ErrorKind::Unsupported)),
+        }
     }
 }
 
@@ -37,8 +79,11 @@ struct Broken {
 impl Read for Broken {
     fn read(&mut self, buf: &mut [u8]) -> io::Result<usize> {
         self.reads = self.reads.saturating_add(1);
-        if self.reads == 2 || self.reads == 3 || buf.is_empty() {
-            return Err(io::Error::from(io::ErrorKind::TimedOut));
+        if self.reads == 2 {
+            return Err(io::Error::from(ErrorKind::Interrupted));
+        }
+        if self.reads == 3 || buf.is_empty() {
+            return Err(io::Error::from(ErrorKind::TimedOut));
         }
         buf[0] = self.reads;
         Ok(1)
@@ -123,21 +168,36 @@ fn sinks_take_all_or_fail_where_they_are_told(rt: HostRuntime) -> Result<(), Fai
     let failing = vec![in alloc;
         FailingPut { call: 1, taken: 2 },
         FailingPut { call: 3, taken: 9 },
+        FailingPut { call: 5, taken: 3 },
+        FailingPut { call: 6, taken: 0 },
     ]?;
     let mut kept = MemSink::new(alloc, failing);
-    let puts: [(&[u8], bool); 4] = [
+    let puts: [(&[u8], bool); 8] = [
         (b"abc", true),
         (b"def", false),
         (b"g", true),
         (b"hij", false),
+        (b"", true),
+        (b"", false),
+        (b"no", false),
+        (b"k", true),
     ];
     assert!(rt; takes_each(&mut kept, &puts));
-    assert_eq!(rt; kept.bytes(), b"abcdeghij".as_slice());
+    assert_eq!(rt; kept.bytes(), b"abcdeghijk".as_slice());
     assert_eq!(rt; kept.starved(), 0);
     let mut written = WriterSink::new(Narrow { room: 5 });
     let puts: [(&[u8], bool); 3] = [(b"abc", true), (b"defg", false), (b"", true)];
     assert!(rt; takes_each(&mut written, &puts));
-    assert!(rt; takes_each(&mut SoundSink::new(), &[(b"anything", true)]));
+    let puts: [(&[u8], bool); 5] = [
+        (b"a", true),
+        (b"b", false),
+        (b"", true),
+        (b"c", false),
+        (b"d", true),
+    ];
+    assert!(rt; takes_each(&mut WriterSink::new(Halting { writes: 0 }), &puts));
+    let puts: [(&[u8], bool); 2] = [(b"anything", true), (b"", true)];
+    assert!(rt; takes_each(&mut SoundSink::new(), &puts));
     Ok(())
 }
 
@@ -147,8 +207,29 @@ fn clocks_show_their_readings_in_order_and_then_the_last(rt: HostRuntime) -> Res
     let mut clock = MemClock::new(vec![in alloc; 5, 7]?);
     assert!(rt; shows_each(&mut clock, &[5, 7, 7]));
     assert!(rt; shows_each(&mut MemClock::new(Vec::new(alloc)), &[0, 0]));
-    let now = HostClock::new(&rt).now();
-    assert!(rt; 1_700_000_000 < now && now < 100_000_000_000);
+    Ok(())
+}
+
+/// The whole seconds that the host's clock shows.
+fn shown(time: &impl HostTime) -> u64 {
+    HostClock::new(time).now()
+}
+
+/// How many whole seconds have gone since 1970.
+fn seconds(rt: &HostRuntime) -> Result<u64, Fail> {
+    let since = SystemTime::now(rt)?.duration_since(UNIX_EPOCH);
+    Ok(since.map_or(0, |since| since.as_secs()))
+}
+
+#[test]
+fn the_hosts_clock_shows_whole_seconds(rt: HostRuntime) -> Result<(), Fail> {
+    let before = seconds(&rt)?;
+    let now = shown(&rt);
+    assert!(rt; 1_700_000_000 < before && before <= now && now <= seconds(&rt)?);
+    let cases = [(Some(7_999), 7), (Some(8_000), 8), (Some(0), 0), (None, 0)];
+    for (millis, wanted) in cases {
+        assert_eq!(rt; shown(&SetTime { millis }), wanted);
+    }
     Ok(())
 }
 
@@ -162,6 +243,11 @@ fn byte_strings_and_lists_of_them_are_copied_and_given_back(rt: HostRuntime) -> 
     assert!(rt; are(&given, &texts));
     let bytes: Vec<u8> = Bytes::copy(alloc, b"abc")?.into();
     assert_eq!(rt; bytes.as_slice(), b"abc".as_slice());
+    assert!(rt; BytesList::new(alloc).copy(alloc)?.as_slice().is_empty());
+    let numbers = Sequence::from(vec![in alloc; 0u64, 3]?).copy(alloc)?;
+    assert_eq!(rt; numbers.as_slice(), [0, 3].as_slice());
+    let small = Sequence::from(vec![in alloc; 0u8, 3]?).copy(alloc)?;
+    assert_eq!(rt; small.as_slice(), [0, 3].as_slice());
     assert!(rt; is_utf8(b"\xc3\xa4") && !is_utf8(b"\xc3"));
     Ok(())
 }

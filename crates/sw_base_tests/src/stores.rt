@@ -19,7 +19,7 @@ enum Call<'a> {
 use Call::{Ring, Visit};
 
 /// Calls in their order, and whether each of them fails.
-const CALLS: [(Call, bool); 8] = [
+const CALLS: [(Call, bool); 11] = [
     (Ring("another.ring", b"text"), true),
     (Visit(3, None, b"one"), true),
     (Visit(3, None, b"one"), false),
@@ -28,10 +28,13 @@ const CALLS: [(Call, bool); 8] = [
     (Visit(3, Some(b"one"), b"two"), true),
     (Visit(3, Some(b"one"), b"two"), false),
     (Visit(3, Some(b"two"), b"three"), false),
+    (Ring("", b""), false),
+    (Ring("a.ring", b"text"), true),
+    (Ring("a.ring", b"text"), false),
 ];
 
-/// The numbers of the starts among them that fail.
-const FAILING: [u64; 2] = [1, 5];
+/// The numbers of those among them that are to fail.
+const FAILING: [u64; 3] = [1, 5, 9];
 
 /// Whether the file holds this; then it holds that.
 fn replaces<V: Volume>(
@@ -65,10 +68,13 @@ fn is_as_told<S: Stores>(alloc: Global, stores: &mut S, call: Call) -> Result<bo
 fn volumes_start_as_they_were_given_back(rt: HostRuntime) -> Result<(), Fail> {
     let alloc = rt.alloc();
     let mut rings = Vec::new(alloc);
-    rings.push(RingText {
-        name: Bytes::copy(alloc, b"a.ring")?,
-        text: Bytes::copy(alloc, b"text")?,
-    })?;
+    let texts: [(&[u8], &[u8]); 2] = [(b"a.ring", b"text"), (b"", b"")];
+    for (name, text) in texts {
+        rings.push(RingText {
+            name: Bytes::copy(alloc, name)?,
+            text: Bytes::copy(alloc, text)?,
+        })?;
+    }
     let failing = Vec::from_slice(alloc, &FAILING)?;
     let mut stores = MemStores::new(rings, failing, PartShelf::new(alloc));
     for (call, fails) in CALLS {

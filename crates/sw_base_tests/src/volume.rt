@@ -22,8 +22,8 @@ const DATA: &[u8] = b"0000000005.00000.data";
 const TOMBSTONE: &[u8] = b"0000000005.00000.ts";
 
 /// Calls in their order, none of which fails: files in a hash directory, in its suffix, in folders beside that and in one
-/// whose name goes on behind it.
-const CALLS: [Call; 18] = [
+/// whose name goes on behind it; and files whose folder, name or bytes are empty.
+const CALLS: [Call; 27] = [
     List(b"objects", &[], &[]),
     Put(HASH, DATA, b"data"),
     Put(HASH, TOMBSTONE, b""),
@@ -42,6 +42,15 @@ const CALLS: [Call; 18] = [
     Unlink(HASH, TOMBSTONE),
     Read(HASH, TOMBSTONE, None),
     List(HASH, &[DATA], &[]),
+    Put(b"", b"f", b"x"),
+    Put(b"d", b"", b""),
+    Read(b"", b"f", Some(b"x")),
+    Read(b"d", b"", Some(b"")),
+    List(b"", &[b"f"], &[]),
+    List(b"d", &[b""], &[]),
+    Unlink(b"", b"f"),
+    Unlink(b"d", b""),
+    Read(b"d", b"", None),
 ];
 
 /// Whether the call tells what it is to tell, where it doesn't fail.
@@ -86,7 +95,7 @@ fn files_and_folders_are_listed_read_and_taken_away(rt: HostRuntime) {
 }
 
 /// Calls in their order, and whether each of them fails, and if so with its change made.
-const FAILURES: [(Call, Option<bool>); 12] = [
+const FAILURES: [(Call, Option<bool>); 16] = [
     (Put(b"d", b"f", b"1"), Some(false)),
     (Read(b"d", b"f", None), None),
     (Put(b"d", b"f", b"2"), Some(true)),
@@ -99,6 +108,10 @@ const FAILURES: [(Call, Option<bool>); 12] = [
     (Read(b"d", b"f", None), None),
     (List(b"d", &[], &[]), Some(false)),
     (Read(b"d", b"f", None), Some(true)),
+    (Put(b"", b"", b""), Some(false)),
+    (Read(b"", b"", None), None),
+    (Put(b"", b"", b""), Some(true)),
+    (Read(b"", b"", Some(b"")), None),
 ];
 
 /// The calls of these that fail, by their numbers.
@@ -136,5 +149,7 @@ fn a_listing_and_its_copy_have_the_same_names(rt: HostRuntime) -> Result<(), Fai
     assert_eq!(rt; first_other(alloc, &mut volume, &CALLS), None);
     let copy = volume.list(alloc, b"objects/0")?.copy(alloc)?;
     assert!(rt; has_names(&copy, &[b"power"], &[b"59e", b"a83", b"a83-old"]));
+    let none = volume.list(alloc, b"nothing")?.copy(alloc)?;
+    assert!(rt; has_names(&none, &[], &[]));
     Ok(())
 }

@@ -1,4 +1,4 @@
-ghost use Rattle.std.specs.Prelude.{◌≡◌, ◌≤◌, ◌⊎◌, ⊤, ℕ, List, [], true, false, Some, None, Err, IsSome, IfOk, IfErr, OnOk, OnErr};
+ghost use Rattle.std.specs.Prelude.{◌≡◌, ◌≤◌, ◌⊎◌, ⊤, ℕ, List, [], true, false, Some, None, Err, IsSome, IsErr, IfOk, IfErr, OnOk, OnErr};
 ghost use Rattle.sw_outside.specs.Faults as outside;
 ghost use Rattle.sw_outside.specs.Counts.{raised};
 ghost use Rattle.sw_disk.specs.Keeping.{kept, IsDurable, IsInOrder, IsOrdered, Rests, Turns, writing};
@@ -46,6 +46,7 @@ impl<D: Disk + Drop> DiskVolume<D> {
         ensures failed { IfErr result (λ e. HasCause {T = ⊤} (D.faults disk) (D.faults e.1) (Err e.0)) }
         ensures told { IfOk result (λ v. D.tells v.disk ≡ D.tells disk) }
         ensures time_err { IfErr result (λ e. D.tells disk ≡ true → Passes (Rests IsOrdered) (D.now disk) (D.past disk) (D.now e.1) (D.past e.1)) }
+        ensures owner { IfOk result (λ v. v.owner ≡ owner) }
     {
         let mut disk = disk;
         match prepare(alloc, &mut disk) {
@@ -116,6 +117,8 @@ impl<D: Disk + Drop> Volume for DiskVolume<D> {
         ensures disk_told { D.tells self.new.disk ≡ D.tells self.old.disk }
         ensures place { OnOk result (IsDirectory dir.now) }
         ensures refused { OnFailed result ((¬ (IsDirectory dir.now)) ⊎ outside.HasRisen (D.faults self.old.disk) (D.faults self.new.disk)) }
+        ensures asked { IsDirectory dir.now → HasCause (D.faults self.old.disk) (D.faults self.new.disk) result }
+        ensures unasked { (¬ (IsDirectory dir.now)) → (result ≡ Err VolumeError.Failed) × (self.new.disk ≡ self.old.disk) }
     {
         self.calls = self.calls.saturating_add(1);
         self.lists = self.lists.saturating_add(1);
@@ -141,6 +144,8 @@ impl<D: Disk + Drop> Volume for DiskVolume<D> {
         ensures disk_told { D.tells self.new.disk ≡ D.tells self.old.disk }
         ensures place { OnOk result (IsPlace dir.now file.now) }
         ensures refused { OnFailed result ((¬ (IsPlace dir.now file.now)) ⊎ outside.HasRisen (D.faults self.old.disk) (D.faults self.new.disk)) }
+        ensures asked { IsPlace dir.now file.now → HasCause (D.faults self.old.disk) (D.faults self.new.disk) result }
+        ensures unasked { (¬ (IsPlace dir.now file.now)) → (result ≡ Err VolumeError.Failed) × (self.new.disk ≡ self.old.disk) }
     {
         self.calls = self.calls.saturating_add(1);
         if !is_place(dir, file) {
@@ -175,6 +180,10 @@ impl<D: Disk + Drop> Volume for DiskVolume<D> {
         ensures place { OnOk result (IsPlace dir.now file.now) }
         ensures refused { OnFailed result ((¬ (IsPlace dir.now file.now)) ⊎ outside.HasRisen (D.faults self.old.disk) (D.faults self.new.disk)) }
         ensures never_starved { OnNoMemory result ⊥ }
+        ensures asked { OnOk result (D.faults self.new.disk ≡ D.faults self.old.disk) }
+        ensures unasked { (¬ (IsPlace dir.now file.now)) → (result ≡ Err VolumeError.Failed) × (self.new.disk ≡ self.old.disk) }
+        ensures cleaned { OnFailed result (IsPlace dir.now file.now → (D.faults self.new.disk ≡ raised (D.faults self.old.disk))
+            ⊎ (D.faults self.new.disk ≡ raised (raised (D.faults self.old.disk)))) }
     {
         let number = self.calls;
         self.calls = number.saturating_add(1);
@@ -209,6 +218,8 @@ impl<D: Disk + Drop> Volume for DiskVolume<D> {
         ensures disk_told { D.tells self.new.disk ≡ D.tells self.old.disk }
         ensures place { OnOk result (IsPlace dir.now file.now) }
         ensures refused { OnErr result ((¬ (IsPlace dir.now file.now)) ⊎ outside.HasRisen (D.faults self.old.disk) (D.faults self.new.disk)) }
+        ensures asked { IsPlace dir.now file.now → outside.HasCause (D.faults self.old.disk) (D.faults self.new.disk) result }
+        ensures unasked { (¬ (IsPlace dir.now file.now)) → IsErr result × (self.new.disk ≡ self.old.disk) }
     {
         self.calls = self.calls.saturating_add(1);
         if !is_place(dir, file) {

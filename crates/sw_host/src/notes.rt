@@ -116,6 +116,13 @@ impl<W: Write + Drop, C: Clock + Drop> LineNotes<W, C> {
         }
     }
 
+    /// Tells what is kept, however young the last line is: why the command ends is never left out.
+    pub fn tell_now(&self) {
+        if let Some(reason) = self.take() {
+            self.put_reason(reason);
+        }
+    }
+
     /// Tells how many were left out since the last line, where there were any.
     pub fn tell_left_out(&self) {
         let count = self.left_out.replace(0);
@@ -124,6 +131,22 @@ impl<W: Write + Drop, C: Clock + Drop> LineNotes<W, C> {
             if write!(line, "sw: faults of the host left out: {count}\n").is_ok() {
                 self.put(&line);
             }
+        }
+    }
+
+    /// What is kept, where anything is: it is told once.
+    fn take(&self) -> Option<Line> {
+        match self.kept.try_replace(Line::new()) {
+            Ok(kept) if !kept.as_str().is_empty() => Some(kept),
+            _ => None,
+        }
+    }
+
+    /// Puts a reason as a line, and how many were left out before it.
+    fn put_reason(&self, reason: Line) {
+        let mut line = reason;
+        if write_end(&mut line, self.left_out.replace(0)).is_ok() {
+            self.put(&line);
         }
     }
 
@@ -158,20 +181,14 @@ impl<W: Write + Drop, C: Clock + Drop> Notes for LineNotes<W, C> {
     }
 
     fn tell(&self) {
-        let Ok(kept) = self.kept.try_replace(Line::new()) else {
+        let Some(reason) = self.take() else {
             return;
         };
-        if kept.as_str().is_empty() {
-            return;
-        }
         if self.is_too_soon() {
             self.left_out.set(self.left_out.get().saturating_add(1));
             return;
         }
-        let mut line = kept;
-        if write_end(&mut line, self.left_out.replace(0)).is_ok() {
-            self.put(&line);
-        }
+        self.put_reason(reason);
     }
 }
 

@@ -84,6 +84,8 @@ fn clients_are_answered_over_sockets(rt: HostRuntime) -> Result<(), Fail> {
     assert!(rt; serves(&mut doors, b"", b"", 0) == Err(StoreError::Failed));
     doors.listen(0)?;
     let port = own_port(&doors)?;
+    assert!(rt; TcpDoors::new(&rt, &NoNotes).listen(port) == Err(Failed));
+    assert!(rt; doors.listen(port) == Err(Failed));
     let mut first = client(&rt, port, b"first question")?;
     let mut second = client(&rt, port, b"")?;
     assert!(rt; serves(&mut doors, b"first question", b"first answer", 0) == Ok(true));
@@ -180,6 +182,34 @@ fn a_silent_client_is_not_waited_for(rt: HostRuntime) -> Result<(), Fail> {
     other.read_to_end(&mut answer)?;
     assert_eq!(rt; answer.as_slice(), b"answer".as_slice());
     drop(silent);
+    Ok(())
+}
+
+/// Accepts a connection, and puts pieces until one isn't taken: whether that comes before 64 MiB were, which is more than a host keeps for a client.
+fn is_stopped<D: Doors>(doors: &mut D) -> Result<bool, StoreError>
+    requires { length (D.finished doors.old) ≤ length (D.accepts doors.old) }
+{
+    let (input, mut output) = doors.accept()?;
+    let piece = [0; 65536];
+    let mut stopped = false;
+    for _ in 0..1024 {
+        if output.put(&piece).is_err() {
+            stopped = true;
+            break;
+        }
+    }
+    doors.finish(input, output, 4);
+    Ok(stopped)
+}
+
+#[test]
+fn a_client_that_takes_nothing_is_not_waited_for(rt: HostRuntime) -> Result<(), Fail> {
+    let mut doors = TcpDoors::patient(&rt, &NoNotes, quick());
+    doors.listen(0)?;
+    let port = own_port(&doors)?;
+    let idle = TcpStream::connect(&rt, (Ipv4Addr::LOCALHOST, port))?;
+    assert!(rt; is_stopped(&mut doors) == Ok(true));
+    drop(idle);
     Ok(())
 }
 

@@ -14,6 +14,8 @@ mod keepers;
 #[cfg(test)]
 mod notes;
 #[cfg(test)]
+mod rings;
+#[cfg(test)]
 mod steps;
 #[cfg(test)]
 mod stores;
@@ -21,5 +23,7 @@ mod stores;
 mod volume;
 #[cfg(test)]
 mod watched;
+#[cfg(test)]
+mod way;
 #[cfg(test)]
 mod words;

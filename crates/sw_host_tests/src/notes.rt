@@ -86,3 +86,29 @@ fn faults_are_told_by_a_line_in_each_second(rt: HostRuntime) -> Result<(), Fail>
     );
     Ok(())
 }
+
+#[test]
+fn why_the_command_ends_is_told_at_once(rt: HostRuntime) -> Result<(), Fail> {
+    let clock = SetClock {
+        millis: Cell::new(0),
+    };
+    let page = Page::new(rt.alloc());
+    let notes = LineNotes::new(&page, &clock);
+    let full = io::Error::from_raw_os_error(28);
+    for _ in 0..3 {
+        notes.keep(HostCall::SyncFile, "swc-data/0/03/tmp/put-1-2", &full);
+        notes.tell();
+    }
+    let many = io::Error::from_raw_os_error(24);
+    notes.keep(HostCall::Accept, "127.0.0.1", &many);
+    notes.tell_now();
+    notes.tell_now();
+    notes.tell_left_out();
+    assert!(rt;
+        page.is(
+            "sw: sync file swc-data/0/03/tmp/put-1-2: No space left on device (os error 28)\n\
+         sw: accept at 127.0.0.1: Too many open files (os error 24); 2 more before it\n"
+        )
+    );
+    Ok(())
+}

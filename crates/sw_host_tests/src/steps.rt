@@ -8,6 +8,7 @@ use std::io::ErrorKind;
 use std::rc::Rc;
 use std::rt::Files;
 use std::test::Fail;
+use sw_outside::StoreError;
 use sw_store::{HostVolume, NoNotes};
 use sw_volume::{Volume, VolumeError};
 
@@ -23,16 +24,22 @@ const TIME: &[u8] = b"0000000006.00000.data";
 /// Calls, and the steps of the host that they take: a file is synced before it is moved to its place, and its folder after that; each folder is synced
 /// into the one above it before anything is made in it. The first object of a lock takes six syncs, one in a new partition five, in a new suffix four,
 /// beside others of its suffix three, and one over another two. An unlink syncs its folder, also where nothing stands, as long as the folder is there.
-const STEPS: [(Call, &[u8]); 9] = [
-    (Put(HASH, DATA, b"old"), b"cwsmsmsmsmsrs"),
-    (Put(ELSEWHERE, DATA, b"new partition"), b"cwsmsmsmsrs"),
-    (Put(IN_PARTITION, DATA, b"new suffix"), b"cwsmsmsrs"),
-    (Put(BESIDE, DATA, b""), b"csmsrs"),
-    (Put(HASH, TIME, b"new"), b"cwsrs"),
-    (Put(HASH, TIME, b"newer"), b"cwsrs"),
-    (Unlink(HASH, DATA), b"us"),
-    (Unlink(HASH, DATA), b"s"),
-    (Unlink(b"objects/5/59e", DATA), b""),
+///
+/// Behind them stands how many steps are asked for, those that only look too: a sync opens what it syncs; on the way to a file each folder is looked at, from
+/// the last one up to one in which something stands; and an unlink that finds no file looks for the volume's own folder, and then at the file's.
+const STEPS: [(Call, &[u8], u64); 12] = [
+    (Put(HASH, DATA, b"old"), b"cwsmsmsmsmsrs", 23),
+    (Put(ELSEWHERE, DATA, b"new partition"), b"cwsmsmsmsrs", 20),
+    (Put(IN_PARTITION, DATA, b"new suffix"), b"cwsmsmsrs", 16),
+    (Put(BESIDE, DATA, b""), b"csmsrs", 11),
+    (Put(HASH, TIME, b"new"), b"cwsrs", 8),
+    (Put(HASH, TIME, b"newer"), b"cwsrs", 8),
+    (Read(HASH, TIME, Some(b"newer")), b"", 1),
+    (Read(BESIDE, TIME, None), b"", 2),
+    (List(HASH, &[DATA, TIME], &[]), b"", 1),
+    (Unlink(HASH, DATA), b"us", 3),
+    (Unlink(HASH, DATA), b"s", 5),
+    (Unlink(b"objects/5/59e", DATA), b"", 3),
 ];
 
 #[test]
@@ -47,10 +54,11 @@ fn each_call_takes_so_many_syncs(rt: HostRuntime) -> Result<(), Fail> {
     };
     let host = (watched, alloc);
     let mut volume = HostVolume::open(&host, &NoNotes, root.clone()?, OWNER)?;
-    for (call, wanted) in STEPS {
+    for (call, wanted, asked) in STEPS {
         steps.begin(Failing::None);
         assert!(rt; is_as_told(alloc, &mut volume, call) == Ok(true));
         assert!(rt; steps.are(wanted));
+        assert_eq!(rt; steps.asked(), asked);
     }
     end_folder(&rt, &root)
 }
@@ -111,6 +119,62 @@ fn no_error_of_the_host_is_passed_over(rt: HostRuntime) -> Result<(), Fail> {
     for kind in [ErrorKind::StorageFull, ErrorKind::OutOfMemory] {
         assert!(rt; each_fails_with_its_steps(&host, root.clone()?, &steps, kind)?);
     }
+    end_folder(&rt, &root)
+}
+
+/// How an open answers whose step of this number finds no memory: it looks for the folder and syncs it into the one above it; makes the folder for writing and
+/// syncs it; lists that one, and takes the one file away that is left in it. Where a disk changes or syncs something, want of memory of the host is a failure.
+const OPENING: [StoreError; 8] = [
+    StoreError::NoMemory,
+    StoreError::NoMemory,
+    StoreError::NoMemory,
+    StoreError::Failed,
+    StoreError::Failed,
+    StoreError::Failed,
+    StoreError::NoMemory,
+    StoreError::Failed,
+];
+
+/// Why the volume isn't opened where this step fails, if it isn't.
+fn opening<R: Files + AllocGlobal>(
+    host: &R,
+    root: &str,
+    steps: &Steps,
+    failing: Failing,
+) -> Result<Option<StoreError>, Fail> {
+    let root = String::from_str(host.alloc(), root)?;
+    steps.begin(failing);
+    Ok(HostVolume::open(host, &NoNotes, root, OWNER).err())
+}
+
+#[test]
+fn a_volume_is_opened_only_where_no_step_of_that_fails(rt: HostRuntime) -> Result<(), Fail> {
+    let alloc = rt.alloc();
+    let root = fresh_folder(&rt, "opening")?;
+    let left = format!(in alloc; "{root}/tmp")?;
+    fs::create_dir_all(&rt, left.as_str())?;
+    fs::write(&rt, format!(in alloc; "{left}/put-7")?, "half a fi")?;
+    let steps = Rc::new(alloc, Steps::new(alloc))?;
+    let watched = Watched {
+        rt,
+        steps: steps.clone()?,
+    };
+    let host = (watched, alloc);
+    for (number, without_memory) in OPENING.iter().enumerate() {
+        let other = Failing::One(number as u64, ErrorKind::PermissionDenied);
+        assert_eq!(rt;
+            opening(&host, &root, &steps, other)?,
+            Some(StoreError::Failed)
+        );
+        let memory = Failing::One(number as u64, ErrorKind::OutOfMemory);
+        assert_eq!(rt;
+            opening(&host, &root, &steps, memory)?,
+            Some(*without_memory)
+        );
+    }
+    assert_eq!(rt; opening(&host, &root, &steps, Failing::None)?, None);
+    assert_eq!(rt; steps.asked(), 8);
+    assert_eq!(rt; entries(&rt, &left)?, 0);
     end_folder(&rt, &root)
 }
 

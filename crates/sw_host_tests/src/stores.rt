@@ -9,12 +9,13 @@ use sw_outside::StoreError;
 use sw_store::{HostStores, NoNotes};
 use sw_stores::Stores;
 
-/// A ring, and others that put files elsewhere: another order of the devices, other locks, another part power, another secret at either end.
+/// A ring, and others that put files elsewhere: another order of the devices, other locks, another part power, another secret at either end, a device less, one
+/// more.
 const RING: &str =
     r#"{"devices":["sda","sdb"],"part_power":2,"lock_bits":2,"replicas":1,"hash_prefix":"","hash_suffix":"endcap",
     "object":[[0],[0],[1],[1]],"container":[[0],[0],[1],[1]]}"#;
 
-const OTHER_RINGS: [&str; 5] = [
+const OTHER_RINGS: [&str; 7] = [
     r#"{"devices":["sdb","sda"],"part_power":2,"lock_bits":2,"replicas":1,"hash_prefix":"","hash_suffix":"endcap",
         "object":[[0],[0],[1],[1]],"container":[[0],[0],[1],[1]]}"#,
     r#"{"devices":["sda","sdb"],"part_power":2,"lock_bits":1,"replicas":1,"hash_prefix":"","hash_suffix":"endcap",
@@ -25,6 +26,10 @@ const OTHER_RINGS: [&str; 5] = [
         "object":[[0],[0],[1],[1]],"container":[[0],[0],[1],[1]]}"#,
     r#"{"devices":["sda","sdb"],"part_power":2,"lock_bits":2,"replicas":1,"hash_prefix":"endcap","hash_suffix":"",
         "object":[[0],[0],[1],[1]],"container":[[0],[0],[1],[1]]}"#,
+    r#"{"devices":["sda"],"part_power":2,"lock_bits":2,"replicas":1,"hash_prefix":"","hash_suffix":"endcap",
+        "object":[[0],[0],[0],[0]],"container":[[0],[0],[0],[0]]}"#,
+    r#"{"devices":["sda","sdb","sdc"],"part_power":2,"lock_bits":2,"replicas":1,"hash_prefix":"","hash_suffix":"endcap",
+        "object":[[0],[0],[1],[1]],"container":[[0],[0],[1],[1]]}"#,
 ];
 
 /// The same places, for other partitions.
@@ -33,7 +38,7 @@ const REBALANCED: &str =
     "object":[[1,0],[0,1],[1,0],[1,0]],"container":[[0,1],[0,1],[1,0],[1,0]]}"#;
 
 /// Starts the volume and the keeper of a lock, makes these calls at the volume, and gives both back: the number of the first call that answers otherwise.
-fn visit<S: Stores>(
+pub(crate) fn visit<S: Stores>(
     alloc: Global,
     stores: &mut S,
     device: u8,
@@ -117,6 +122,40 @@ impl<'a> Place<'a> {
     }
 }
 
+/// Whether stores answer so where they are asked for the ring of this name.
+pub(crate) fn tells<S: Stores>(
+    alloc: Global,
+    stores: &mut S,
+    name: &str,
+    wanted: Result<&str, StoreError>,
+) -> bool
+    requires { (d s : ℕ) → S.out stores.old d s ≡ false }
+    ensures { (d s : ℕ) → S.out stores.new d s ≡ false }
+{
+    match (stores.ring(alloc, name), wanted) {
+        (Ok(text), Ok(wanted)) => text.as_slice() == wanted.as_bytes(),
+        (Err(error), Err(wanted)) => error == wanted,
+        _ => false,
+    }
+}
+
+#[test]
+fn a_ring_is_the_bytes_of_its_file(rt: HostRuntime) -> Result<(), Fail> {
+    let alloc = rt.alloc();
+    let place = Place::new(&rt, "ring")?;
+    let base = place.path("data")?;
+    let ring = place.path("ring")?;
+    let missing = place.path("another")?;
+    let mut stores = HostStores::below(&rt, &NoNotes, OWNER, &base);
+    assert!(rt; tells(alloc, &mut stores, &missing, Err(StoreError::Failed)));
+    assert!(rt; tells(alloc, &mut stores, &ring, Ok(RING)));
+    assert_eq!(rt; visit(alloc, &mut stores, 1, 3, &CALLS)?, None);
+    assert!(rt; tells(alloc, &mut stores, &ring, Ok(RING)));
+    assert!(rt; tells(alloc, &mut stores, &missing, Err(StoreError::Failed)));
+    assert_eq!(rt; visit(alloc, &mut stores, 1, 3, &CALLS_LATER)?, None);
+    place.end()
+}
+
 fn visit_below(
     rt: &HostRuntime,
     base: &str,
@@ -168,6 +207,9 @@ fn a_folder_has_one_owner(rt: HostRuntime) -> Result<(), Fail> {
     assert!(rt; place.holds("data/lock", "1\n")?);
     assert!(rt; place.goes(3, &CALLS)?);
     assert!(rt; !place.has("data/1/03/tmp/put-1-1")?);
+    assert!(rt; place.holds("data/lock", "4711\n")?);
+    assert!(rt; keeps_others_out(&place, &base, &ring)?);
+    assert!(rt; place.holds("data/lock", "1\n")?);
     place.end()
 }
 

@@ -65,6 +65,11 @@ impl Steps {
         }
     }
 
+    /// How many steps were asked for since.
+    pub(crate) fn asked(&self) -> u64 {
+        self.asked.get()
+    }
+
     /// Takes away what a loss of power would.
     pub(crate) fn lose_power(&self, rt: &HostRuntime) {
         if let Ok(mut unsynced) = self.unsynced.try_borrow_mut() {

@@ -3,7 +3,7 @@
 //! [`read`] reads a ring from its JSON text, exactly or not at all, and reports the first thing that is wrong with it.
 //! What it accepts is a rule of the type [`Ring`], so that [`Ring::row`] and [`Ring::device`] need no test.
 //!
-//! The next layers up are the servers and daemons, which find by a ring where a name belongs and whom to send it to.
+//! The next layers up are the servers, which find by a ring where a name belongs, and `sw_core`, whose nodes are those of a ring.
 #![tactic(auto)]
 
 mod bad_ring;

@@ -85,8 +85,10 @@ impl<'a, N: Notes> HostStores<'a, N> {
         ensures root { IfOk result (λ part. string_bytes part.0.volume.disk.root ≡ lock_folder self.old.base.now device stripe) }
         ensures beside { IfOk result (λ part. string_bytes part.1.databases.root ≡ lock_folder self.old.base.now device stripe) }
         ensures power { IfOk result (λ part. Some part.1.databases.power ≡ option_map (λ layout. layout.power) self.old.layout) }
+        ensures owned { OnOk result (is_some self.new.lock ≡ true) }
         ensures faults { self.new.faults ≡ faults_after self.old.faults result }
         ensures same { self.new ≡ record self.old { lock = self.new.lock; faults = self.new.faults } }
+        ensures held { is_some self.old.lock ≡ true → self.new.lock ≡ self.old.lock }
     {
         let opened = self.open_owned(alloc, device, stripe);
         if let Err(StoreError::Failed) = &opened {
@@ -106,7 +108,9 @@ impl<'a, N: Notes> HostStores<'a, N> {
         ensures root { IfOk result (λ part. string_bytes part.0.volume.disk.root ≡ lock_folder self.old.base.now device stripe) }
         ensures beside { IfOk result (λ part. string_bytes part.1.databases.root ≡ lock_folder self.old.base.now device stripe) }
         ensures power { IfOk result (λ part. Some part.1.databases.power ≡ option_map (λ layout. layout.power) self.old.layout) }
+        ensures owned { OnOk result (is_some self.new.lock ≡ true) }
         ensures same { self.new ≡ record self.old { lock = self.new.lock } }
+        ensures held { is_some self.old.lock ≡ true → self.new.lock ≡ self.old.lock }
     {
         let power = match self.claimed() {
             Ok(power) => power,
@@ -123,7 +127,9 @@ impl<'a, N: Notes> HostStores<'a, N> {
     fn claimed(&mut self) -> io::Result<u8>
         ensures power { IfOk result (λ power. Some power ≡ option_map (λ layout. layout.power) self.old.layout) }
         ensures range { IfOk result (λ power. (1 ≤ power) × (power ≤ 16)) }
+        ensures owned { OnOk result (is_some self.new.lock ≡ true) }
         ensures same { self.new ≡ record self.old { lock = self.new.lock } }
+        ensures held { is_some self.old.lock ≡ true → self.new.lock ≡ self.old.lock }
     {
         let Some(layout) = &self.layout else {
             let none = io::Error::new(ErrorKind::InvalidInput, "no ring was read");
@@ -226,7 +232,9 @@ impl<'a, N: Notes> Stores for HostStores<'a, N> {
             IfOk result (λ part. string_bytes part.1.databases.root ≡ lock_folder self.old.base.now device stripe) }
         ensures power { rests_in self.old.parts device stripe ≡ None →
             IfOk result (λ part. Some part.1.databases.power ≡ option_map (λ layout. layout.power) self.old.layout) }
+        ensures owned { rests_in self.old.parts device stripe ≡ None → OnOk result (is_some self.new.lock ≡ true) }
         ensures same { self.new ≡ record self.old { lock = self.new.lock; faults = self.new.faults; calls = self.new.calls; parts = self.new.parts } }
+        ensures held { is_some self.old.lock ≡ true → self.new.lock ≡ self.old.lock }
     {
         self.calls = self.calls.saturating_add(1);
         if self.parts.rests(device, stripe) {

@@ -9,6 +9,9 @@ use std::rc::Rc;
 use std::time::Clock;
 use sw_outside::{Failed, Sink};
 
+/// How many bytes are handed to the host at a time. A write of more would wait for all that the host can't keep, though the client takes nothing.
+const PIECE: usize = 65536;
+
 /// The end of a connection to which it is written, which counts the puts and those that failed. It tells nothing of the bytes.
 ///
 /// A put has to be taken in time, or to move at the pace that is asked for; then it has failed.
@@ -67,7 +70,7 @@ impl<'a, R: Clock> TcpSink<'a, R> {
         self.faults
     }
 
-    /// Writes some of the bytes in time, and answers how many.
+    /// Writes some of the bytes in time, a piece at most, and answers how many.
     fn write(&mut self, bytes: &[u8]) -> io::Result<usize>
         ensures count { IfOk result (λ n. n ≤ length bytes.now) }
         ensures number { self.new.number ≡ self.old.number }
@@ -76,7 +79,7 @@ impl<'a, R: Clock> TcpSink<'a, R> {
         if let Some(wait) = self.pace.wait(self.clock)? {
             self.stream.set_write_timeout(Some(wait))?;
         }
-        let taken = self.stream.write(bytes)?;
+        let taken = self.stream.write(&bytes[..bytes.len().min(PIECE)])?;
         if taken < bytes.len() {
             self.pace.moved(self.clock, taken)?;
         }

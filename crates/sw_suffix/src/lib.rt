@@ -4,8 +4,8 @@
 //! MD5 send nothing of it. [`suffix_hash`] gives that MD5 from the lines in order, and takes no memory. A text leaves no choice of the files: two
 //! lists of lines that have one text are one list, where each is in order and has no line without files.
 //!
-//! A [`DirLine`] says what counts in the directory of a hash, and a [`SuffixHash`] what a node tells of a suffix. The next layer up is the nodes'
-//! steps that tell them; no server asks for these yet.
+//! A [`DirLine`] says what counts in the directory of a hash, and a [`SuffixHash`] what a node tells of a suffix. The next layers up are
+//! `sw_object_steps`, by whose reads nodes tell them, and `sw_hashdir`, which makes them of files.
 #![tactic(auto)]
 
 mod dir_line;
