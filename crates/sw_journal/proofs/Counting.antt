@@ -1,19 +1,18 @@
 -- The count of bodies and the places for entries, through each change of the lists.
-use Rattle.std.proofs.Common.{◌≡◌, ℕ, ◌+◌, ◌-◌, ◌≤◌, List, [], ◌∷◌, ◌++◌, length, length-append, refl, sym, ◌∙◌, ap, subst, arith}
+use Rattle.std.proofs.Common.{◌≡◌, ℕ, ◌+◌, ◌-◌, ◌≤◌, List, [], ◌∷◌, ◌++◌, length, length-append, ap, arith}
 use Rattle.std.specs.declared.alloc.Global.{Global}
 use Rattle.std.specs.declared.vec.Vec.{Vec}
 use Rattle.sw_object_steps.proofs.Hashes.{bodies-append}
-use Rattle.sw_object_steps.specs.Journals.{bodies}
+use Rattle.sw_object_steps.specs.Journals.{bodies, entry_size}
 use Rattle.sw_object_steps.specs.declared.entry.ObjEntry.{ObjEntry}
-use Rattle.sw_object_steps.specs.declared.entry.ObjEntry.TheVariants.{Wrote}
-use Rattle.sw_journal.specs.Entries.{IsCounted, entry_size}
+use Rattle.sw_journal.specs.Entries.{IsCounted}
 
 bodies-one : (e : ObjEntry) → bodies (e ∷ []) ≡ entry_size e
-bodies-one (Wrote name w) = omega arith
+bodies-one e = omega arith
 
 -- one list has an entry more than the other
 pub bodies-mid : (xs ys : List ObjEntry) (e : ObjEntry) → bodies (xs ++ e ∷ ys) ≡ bodies (xs ++ ys) + entry_size e
-bodies-mid xs ys (Wrote name w) = let a = bodies-append xs (Wrote name w ∷ ys) in let b = bodies-append xs ys in omega (arith, a, b)
+bodies-mid xs ys e = let a = bodies-append xs (e ∷ ys) in let b = bodies-append xs ys in omega (arith, a, b)
 
 pub length-mid : (xs ys : List ObjEntry) (e : ObjEntry) → length (xs ++ e ∷ ys) ≡ length (xs ++ ys) + 1
 length-mid xs ys e = let a = length-append xs (e ∷ ys) in let b = length-append xs ys in omega (arith, a, b)
@@ -31,10 +30,6 @@ module _ (entries doubts fewer : Vec ObjEntry Global) (used max_bytes : ℕ) (co
     within = let w = counted.within in omega (arith, w);
     places = let p = counted.places in let b = ap length among in let r = ap length rest in let m = length-mid xs ys e in omega (arith, p, b, r, m);
   }
-
-  -- there is a place for its entry
-  pub has-place : length entries.items + 1 ≤ entries.cap
-  has-place = let p = counted.places in let b = ap length among in let m = length-mid xs ys e in omega (arith, p, b, m)
 
   -- a doubt became an entry
   pub counted-entered : (more : Vec ObjEntry Global) → more.items ≡ entries.items ++ e ∷ [] → more.cap ≡ entries.cap → IsCounted more fewer used max_bytes

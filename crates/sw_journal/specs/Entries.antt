@@ -1,36 +1,67 @@
 -- The entries and doubts of a journal, and what each call makes of them. (This project's own.)
-use Rattle.std.specs.Prelude.{◌≡◌, ℕ, ◌+◌, ◌<◌, ◌≤◌, Bool, List, [], ◌∷◌, ◌++◌, length, slice_index_or, take, Option, find}
+use Rattle.std.specs.Prelude.{◌≡◌, ℕ, ◌+◌, ◌<◌, ◌≤◌, Bool, true, false, List, [], ◌∷◌, ◌++◌, length, slice_index_or, take, Option, None, Some, find}
+use Rattle.std.specs.List.{filter}
 use Rattle.std.specs.Str.{bytes_eq}
 use Rattle.std.specs.declared.alloc.Global.{Global}
 use Rattle.std.specs.declared.vec.Vec.{Vec}
-use Rattle.sw_object_steps.specs.Journals.{Hash, Journal, bodies, body_size, written}
+use Rattle.sw_object_steps.specs.Journals.{Hash, Journal, bodies}
 use Rattle.sw_object_steps.specs.Outlines.{is_new_to}
+use Rattle.sw_object_steps.specs.Values.{is_same_key}
 use Rattle.sw_object_steps.specs.declared.entry.ObjEntry.{ObjEntry}
-use Rattle.sw_object_steps.specs.declared.entry.ObjEntry.TheVariants.{Wrote}
+use Rattle.sw_object_steps.specs.declared.entry.ObjEntry.TheVariants.{Dropped, Files, Marked, Wrote}
 use Rattle.sw_object_steps.specs.declared.outline.Outline.{Outline}
+use Rattle.sw_pending.specs.Records.{key_of}
+use Rattle.sw_pending.specs.declared.filed.Filed.{Filed}
+use Rattle.sw_pending.specs.declared.key.RecordKey.{RecordKey}
 use Rattle.sw_state.specs.Writes.{tag_of}
 
 -- ---- an entry
 
-abbrev pub entry_hash : ObjEntry → Hash
-entry_hash (Wrote name w) = name.hash
+-- whether it is a write of this hash
+abbrev pub is_write_of : Hash → ObjEntry → Bool
+is_write_of hash (Wrote name w records) = bytes_eq name.hash hash
+is_write_of hash (Files by filed) = false
+is_write_of hash (Marked by filed device) = false
+is_write_of hash (Dropped by filed) = false
 
-abbrev pub entry_size : ObjEntry → ℕ
-entry_size (Wrote name w) = body_size w.kind
+-- whether it is about the record of this key alone
+abbrev pub is_record_of : RecordKey → ObjEntry → Bool
+is_record_of key (Wrote name w records) = false
+is_record_of key (Files by filed) = is_same_key key (key_of filed)
+is_record_of key (Marked by filed device) = is_same_key key (key_of filed)
+is_record_of key (Dropped by filed) = is_same_key key (key_of filed)
+
+-- the entries that are about the record of this key alone, in order
+abbrev pub about_record : RecordKey → List ObjEntry → List ObjEntry
+about_record key entries = filter (is_record_of key) entries
 
 -- whether its write would change what has this outline
 abbrev pub is_new_entry : Outline → ObjEntry → Bool
-is_new_entry o (Wrote name w) = is_new_to o w.time (tag_of w.kind)
+is_new_entry o (Wrote name w records) = is_new_to o w.time (tag_of w.kind)
+is_new_entry o (Files by filed) = false
+is_new_entry o (Marked by filed device) = false
+is_new_entry o (Dropped by filed) = false
 
--- the first entry of a hash
+-- the record that it leaves of its key
+abbrev pub record_left : ObjEntry → Option Filed
+record_left (Wrote name w records) = None
+record_left (Files by filed) = Some filed
+record_left (Marked by filed device) = Some filed
+record_left (Dropped by filed) = None
+
+-- the first write of a hash
 abbrev pub first_in : Hash → List ObjEntry → Option ObjEntry
-first_in hash entries = find (λ entry. bytes_eq (entry_hash entry) hash) entries
+first_in hash entries = find (is_write_of hash) entries
 
--- the first entry of a hash stands there
-pub record IsFirstOf (entries : List ObjEntry) (hash : Hash) (at : ℕ) : Type 0 where
+-- the first entry that is about a record alone
+abbrev pub first_about : RecordKey → List ObjEntry → Option ObjEntry
+first_about key entries = find (is_record_of key) entries
+
+-- the first entry of those that meet a test stands there
+pub record IsFirstOf (test : ObjEntry → Bool) (entries : List ObjEntry) (at : ℕ) : Type 0 where
   pub within : at < length entries
-  pub of_hash : (other : ObjEntry) → entry_hash (slice_index_or entries at other) ≡ hash
-  pub first : written hash (take at entries) ≡ []
+  pub meets : (other : ObjEntry) → test (slice_index_or entries at other) ≡ true
+  pub first : filter test (take at entries) ≡ []
 
 -- ---- a journal
 

@@ -1,27 +1,32 @@
-ghost use Rattle.std.specs.Prelude.{◌≡◌, ◌<◌, ◌≤◌, ◌+◌, ◌^◌, ℕ, List, [], ◌∷◌, ◌++◌, length, true, nat_le, ◌&&◌, OnOk, OnErr};
+ghost use Rattle.std.specs.Prelude.{◌≡◌, ◌<◌, ◌≤◌, ◌+◌, ◌^◌, ℕ, List, [], ◌∷◌, ◌++◌, length, true, Some, nat_le, ◌&&◌, OnOk, OnErr};
 ghost use Rattle.std.specs.Option.{option_copied};
-ghost use Rattle.sw_journal.specs.Entries.{begun, entry_size, first_in, with_last_entered, with_new_doubt, without_last_doubt};
-ghost use Rattle.sw_journal.specs.Settling.{SettlesFirst};
-ghost use Rattle.sw_object_steps.specs.Journals.{bodies};
+ghost use Rattle.sw_journal.specs.Entries.{begun, first_about, first_in, record_left, with_last_entered, with_new_doubt, without_last_doubt};
+ghost use Rattle.sw_journal.specs.Settling.{SettlesFirst, SettlesFirstRecord};
+ghost use Rattle.sw_object_steps.specs.Journals.{bodies, entry_size};
 ghost use Rattle.sw_hashpath.specs.declared.name.Name.{Name};
 ghost use Rattle.sw_object_steps.specs.declared.entry.ObjEntry.{ObjEntry};
 ghost use Rattle.sw_object_steps.specs.declared.entry.ObjEntry.TheVariants.{Wrote};
+ghost use Rattle.sw_pending.specs.declared.filed.Filed.{Filed};
 ghost use Rattle.sw_state.specs.declared.write.Write.{Write};
 
-use crate::entries::{first_of, is_new, is_of, seen_in, size_in, size_of};
+use crate::entries::{
+    first_about, first_of, is_about, is_new, is_of, leaves, seen_in, size_in, size_of,
+};
 use std::alloc::Global;
 use std::marker::Model;
 use sw_history::Seen;
 use sw_object_steps::{Added, ObjEntry, Outline};
 use sw_outside::NoMemory;
+use sw_pending::{Filed, RecordKey};
 use sw_state::Write;
 
-/// What was done since a lock began: an entry for each write that was made, and a doubt for each that may have been.
+/// What was done since a lock began: an entry for each change that was made, and a doubt for each that may have been.
 ///
-/// Of the entries only contracts see the writes: they take no memory, but their bodies count. A doubt keeps its write, until it is settled.
+/// Of the entries only contracts see what they carry: they take no memory, but their bodies count. A doubt keeps its write or record, until it is
+/// settled.
 ///
-/// A write is doubted before its file is put; when its call of the volume is answered, it becomes an entry, or goes, or stays a doubt. So a
-/// write that fails needs no memory to be remembered, and settling needs none either.
+/// A change is doubted before its file is put or unlinked; when its call of the volume is answered, it becomes an entry, or goes, or stays a doubt. So a
+/// change that fails needs no memory to be remembered, and settling needs none either.
 #[derive(Drop)]
 pub struct Journal {
     entries: Vec<Seen<ObjEntry>>,
@@ -80,7 +85,7 @@ impl Journal {
             && body <= self.max_bytes - self.used
     }
 
-    /// Doubts a write, behind all other doubts. After [`NoMemory`] nothing has changed.
+    /// Doubts a change, behind all other doubts. After [`NoMemory`] nothing has changed.
     pub fn doubt(&mut self, entry: ObjEntry) -> Result<(), NoMemory>
         requires { bodies self.old.entries + bodies self.old.doubts + entry_size entry ≤ self.old.max_bytes }
         ensures ok { OnOk result (self.new ≡ with_new_doubt self.old entry) }
@@ -95,18 +100,42 @@ impl Journal {
 
     /// The write of the last doubt.
     pub fn last_doubted(&self) -> &Write
-        requires { (doubts : List ObjEntry) × (entry : ObjEntry) × (self.now.doubts ≡ doubts ++ entry ∷ []) }
-        ensures { (doubts : List ObjEntry) (name : Name) (write : Write) → self.now.doubts ≡ doubts ++ Wrote name write ∷ [] → result.now ≡ write }
+        requires { (doubts : List ObjEntry) × (name : Name) × (write : Write) × (records : List Filed)
+            × (self.now.doubts ≡ doubts ++ Wrote name write records ∷ []) }
+        ensures { (doubts : List ObjEntry) (name : Name) (write : Write) (records : List Filed)
+            → self.now.doubts ≡ doubts ++ Wrote name write records ∷ [] → result.now ≡ write }
     {
-        let ObjEntry::Wrote(_, write) = &self.doubts[self.doubts.len() - 1];
-        write
+        match &self.doubts[self.doubts.len() - 1] {
+            ObjEntry::Wrote(_, write, _) => write,
+            _ => unreachable!(),
+        }
     }
 
-    /// The first doubt of a hash, which is the one that [`Journal::settle`] settles.
+    /// The record that the last doubt leaves.
+    pub fn last_left(&self) -> &Filed
+        requires { (doubts : List ObjEntry) × (entry : ObjEntry) × (filed : Filed) × (self.now.doubts ≡ doubts ++ entry ∷ [])
+            × (record_left entry ≡ Some filed) }
+        ensures { (doubts : List ObjEntry) (entry : ObjEntry) → self.now.doubts ≡ doubts ++ entry ∷ [] → record_left entry ≡ Some result.now }
+    {
+        match &self.doubts[self.doubts.len() - 1] {
+            ObjEntry::Files(_, filed) => filed,
+            ObjEntry::Marked(_, filed, _) => filed,
+            _ => unreachable!(),
+        }
+    }
+
+    /// The first doubt of a write of a hash, which is the one that [`Journal::settle`] settles.
     pub fn doubted(&self, hash: &[u8; 16]) -> Option<&ObjEntry>
         ensures { option_copied result ≡ first_in hash.now self.now.doubts }
     {
         self.doubts.iter().find(|entry| is_of(entry, hash))
+    }
+
+    /// The first doubt that is about the record of a key alone, which is the one that [`Journal::settle_record`] settles.
+    pub fn doubted_record(&self, key: &RecordKey) -> Option<&ObjEntry>
+        ensures { option_copied result ≡ first_about key.now self.now.doubts }
+    {
+        self.doubts.iter().find(|entry| is_about(entry, key))
     }
 
     /// All doubts, in the order in which they came.
@@ -116,7 +145,7 @@ impl Journal {
         &self.doubts
     }
 
-    /// The last doubt's write was made: it becomes the last entry. It takes no memory.
+    /// The last doubt's change was made: it becomes the last entry. It takes no memory.
     pub fn confirm(&mut self)
         requires { (doubts : List ObjEntry) × (entry : ObjEntry) × (self.old.doubts ≡ doubts ++ entry ∷ []) }
         ensures { (doubts : List ObjEntry) (entry : ObjEntry) → self.old.doubts ≡ doubts ++ entry ∷ [] → self.new ≡ with_last_entered self.old doubts entry }
@@ -126,7 +155,7 @@ impl Journal {
         }
     }
 
-    /// The last doubt's write wasn't made: the doubt goes. It takes no memory.
+    /// The last doubt's change wasn't made: the doubt goes. It takes no memory.
     pub fn withdraw(&mut self)
         requires { (doubts : List ObjEntry) × (entry : ObjEntry) × (self.old.doubts ≡ doubts ++ entry ∷ []) }
         ensures { (doubts : List ObjEntry) (entry : ObjEntry) → self.old.doubts ≡ doubts ++ entry ∷ [] → self.new ≡ without_last_doubt self.old doubts }
@@ -137,7 +166,7 @@ impl Journal {
         }
     }
 
-    /// Settles the first doubt of a hash, where there is one, by the outline of what now stands in its directory: a write that would change it
+    /// Settles the first doubt of a write of a hash, where there is one, by the outline of what now stands in its directory: a write that would change it
     /// wasn't made, and any other was. It takes no memory.
     pub fn settle(&mut self, hash: &[u8; 16], outline: &Outline)
         ensures { SettlesFirst hash.now outline.now self.old self.new }
@@ -150,6 +179,22 @@ impl Journal {
             self.used -= size_in(entry);
         } else {
             self.entries.push_reserved(seen_in(entry));
+        }
+    }
+
+    /// Settles the first doubt of the record of a key, where there is one, by the record that now stands for the key: where the change leaves just that,
+    /// it was made, and else it wasn't. It takes no memory.
+    pub fn settle_record(&mut self, key: &RecordKey, stood: Option<&Filed>)
+        ensures { SettlesFirstRecord key.now (option_copied stood.entry) self.old self.new }
+    {
+        let Some(at) = first_about(&self.doubts, key) else {
+            return;
+        };
+        let entry = self.doubts.remove(at);
+        if leaves(&entry, stood) {
+            self.entries.push_reserved(seen_in(entry));
+        } else {
+            self.used -= size_in(entry);
         }
     }
 }

@@ -18,14 +18,16 @@ use Rattle.sw_object_steps.specs.Outlines.{picked_outline}
 use Rattle.sw_hashpath.specs.declared.name.Name.{Name}
 use Rattle.sw_metafile.specs.Texts.{file_text}
 use Rattle.sw_journal.specs.Settling.{SettlesFirst}
-use Rattle.sw_object_steps.proofs.Singles.{room-single}
 use Rattle.sw_object_steps.specs.Singles.{single_journal}
+use Rattle.sw_object_steps.specs.Recorded.{is_write}
 use Rattle.sw_object_steps.specs.Rules.{Writes as Changes, obj_ending, obj_rules}
-use Rattle.sw_object_steps.specs.Values.{bare}
-use Rattle.sw_objdir.proofs.Journaling.{seen-step}
-use Rattle.sw_objdir.proofs.Looking.{held-same, looks-trans, order-same, tells-now, told-same}
-use Rattle.sw_objdir.specs.Calling.{Called, Looked, NoListing, WritesFile, Written, Wrote, read_calls, reads_of}
-use Rattle.sw_objdir.specs.Directories.{IsDir, Kept, held, history_of, is_told, steps_of}
+use Rattle.sw_object_steps.specs.Values.{ObjValue}
+use Rattle.sw_objdir.proofs.Journaling.{read_with, write-step}
+use Rattle.sw_objdir.proofs.Looking.{held-same, looks-trans, order-same, tells-now, told-same, values-same}
+use Rattle.sw_objdir.proofs.Singled.{AreSingle, kept-single}
+use Rattle.sw_objdir.proofs.WriteSteps.{room-is}
+use Rattle.sw_objdir.specs.Calling.{Called, Looked, MadeWrite, NoListing, WritesFile, Written, entry_of, read_calls, reads_of}
+use Rattle.sw_objdir.specs.Directories.{IsDir, Kept, held, history_of, is_told, steps_of, values_of}
 use Rattle.sw_objdir.specs.Stepping.{IsSeenAs, IsStep, LooksAt}
 use Rattle.sw_outside.specs.Counts.{raised}
 use Rattle.sw_outside.specs.Faults.{HasRisen}
@@ -36,9 +38,12 @@ use Rattle.sw_object_steps.specs.Steps.{asks_expiry, deletion_answer, is_entered
 use Rattle.sw_object_steps.specs.declared.answer.Answer.{Answer}
 use Rattle.sw_object_steps.specs.declared.answer.Answer.TheVariants as answers
 use Rattle.sw_object_steps.specs.declared.change.Change.{Change}
-use Rattle.sw_object_steps.specs.declared.change.Change.TheVariants.{Put, Post, Delete, Receive}
+use Rattle.sw_object_steps.specs.declared.change.Change.TheVariants.{Put, Post, Delete, Receive, MarkRecord, DropRecord}
+use Rattle.sw_object_steps.specs.declared.entry.ObjEntry.TheVariants.{Wrote}
 use Rattle.sw_object_steps.specs.declared.outline.Outline.{Outline}
-use Rattle.sw_state.specs.declared.state.State.{State}
+use Rattle.sw_hashpath.specs.declared.secrets.Secrets.{Secrets}
+use Rattle.sw_pending_dir.proofs.Stepping.{keeps-same}
+use Rattle.sw_pending_dir.specs.Places.{AllRecordsInOrder}
 use Rattle.sw_state.specs.declared.write.Write.{Write}
 use Rattle.sw_step.specs.Rules.{CanStand, Ending, Fails, Overflows, Refuses}
 use Rattle.sw_step.specs.Steps.{EndsSeen}
@@ -50,6 +55,7 @@ use Rattle.sw_volume.specs.Volume.{Contents, IsSame, MaySet, Sets, raised_by}
 pub refusal-ends : (answer : Answer) → is_refusal answer ≡ true → obj_ending answer ≡ Refuses
 refusal-ends (answers.Done front) is = cc
 refusal-ends (answers.Buried front) is = cc
+refusal-ends (answers.Took is_there) is = cc
 refusal-ends (answers.Conflict time) is = refl
 refusal-ends (answers.NotFound time) is = refl
 refusal-ends (answers.Mismatch second) is = refl
@@ -78,9 +84,10 @@ risen-after a b c same once up = elim (cases_Bool (nat_le (b + 1) (2 ^ 64 - 1)))
       ∙ min-eq_right (omega (arith, gt)) in inr (omega (arith, is))
 ]
 
-pub room-as : (j : Journal) (w : Write) (size : ℕ) (b : Bool) → size ≡ body_size w.kind
-    → b ≡ (nat_le (length j.entries + length j.doubts + 1) j.max_entries && nat_le (bodies j.entries + bodies j.doubts + size) j.max_bytes) → has_room j w ≡ b
-room-as j w size b sizes is = rw (sym sizes) (sym is)
+pub room-as : (j : Journal) (name : Name) (change : Change) (size : ℕ) (b : Bool) → size ≡ body_size (write_of change).kind
+    → b ≡ (nat_le (length j.entries + length j.doubts + 1) j.max_entries && nat_le (bodies j.entries + bodies j.doubts + size) j.max_bytes)
+    → has_room j (entry_of name change) ≡ b
+room-as j name change size b sizes is = rw (sym sizes) (sym is)
 
 -- ---- files that stay, and then change
 
@@ -109,16 +116,24 @@ module _ {V : Type 0} (tells : V → Bool) (files : V → Folders) (faults calls
     order = λ told. rw (looks.same.secrets, looks.same.power)
         (order-same m.secrets m.power (files m.volume) (files n.volume) (looks.still (tells-now tells files faults m dir (told-of told)))
         (dir.order (told-of told)));
+    records_order = λ told. subst (λ (s : Secrets). AllRecordsInOrder s (files n.volume)) (sym looks.same.secrets)
+        ((keeps-same m.secrets (files m.volume) (files n.volume) (looks.still (tells-now tells files faults m dir (told-of told)))).order
+        (dir.records_order (told-of told)));
     kept = record {
-      can = λ told hash. subst (λ (s : State). CanStand obj_rules (steps_of tells files faults n) hash (bare s))
-          (sym (held-same tells files faults m n dir looks.same looks.still hash))
+      can = λ told hash. subst (λ (s : ObjValue). CanStand obj_rules (steps_of tells files faults n) hash s)
+          (sym (values-same tells files faults m n dir looks.same looks.still hash))
           (rw (same, looks.same.began, looks.same.secrets, looks.same.power) (dir.kept.can (told-of told) hash));
-      single = λ hash. subst (λ (j : Journal). length (written hash j.doubts) ≤ 1) (sym same) (dir.kept.single hash);
+      single = are.single;
+      single_record = are.single_record;
+      plain = are.plain;
     };
     least = subst (λ (p : ℕ). 1 ≤ p) (sym looks.same.power) dir.least;
     greatest = subst (λ (p : ℕ). p ≤ 32) (sym looks.same.power) dir.greatest;
   }
     where
+      are : AreSingle n.journal.doubts
+      are = subst (λ (j : Journal). AreSingle j.doubts) (sym same) (kept-single (history_of tells files faults m) (values_of tells files faults m) dir.kept)
+
       told-of : is_told tells files faults n ≡ true → is_told tells files faults m ≡ true
       told-of told = rw (sym looks.same.began, sym looks.same.secrets, sym looks.same.power) told
 
@@ -160,17 +175,18 @@ module _ {V : Type 0} (tells : V → Bool) (files : V → Folders) (faults calls
 
   -- a step that what stands refuses, or the journal, where the doubts of its name are settled
   module _ (n : Kept V) (dir : IsDir tells files faults n) (name : Name) (settled : written name.hash n.journal.doubts ≡ []) (o : Outline)
-      (change : Change) where
+      (change : Change) (writes : is_write change ≡ true) where
     unmade : (answer : Answer) (e : Ending) → obj_ending answer ≡ e → (e ≡ Fails → ⊥) → (refused : Option Answer)
         → (seen : IsSeenAs tells files faults n name.hash o change refused)
-        → EndsSeen obj_rules e (bare seen.state) (single_journal n.journal) name.hash (Changes name change) answer [] (single_journal n.journal)
+        → EndsSeen obj_rules e (read_with seen.state (values_of tells files faults n name.hash)) (single_journal n.journal) name.hash (Changes name change)
+        answer [] (single_journal n.journal)
         → IsStep tells files faults n name change answer n
     unmade answer e ends never refused seen so = record {
       same = record { began = refl; secrets = refl; power = refl; told = refl };
       others = λ hash apart. refl;
-      changes = seen-step (history_of tells files faults n) (held tells files faults n) dir.kept name change answer n.journal (faults n.volume)
+      changes = write-step (history_of tells files faults n) (values_of tells files faults n) dir.kept name change answer n.journal (faults n.volume)
           (record { entries = ([], sym (append-nil n.journal.entries)); max_entries = refl; max_bytes = refl }) (omega arith) e ends
-          (λ is. absurd (never is)) settled seen.state seen.held_is [] so (held tells files faults n name.hash) (λ told. refl);
+          (λ is. absurd (never is)) writes settled seen.state seen.held_is [] so (values_of tells files faults n name.hash) (λ told. refl);
     }
 
     pub step-refused : (answer : Answer) → is_refusal answer ≡ true → IsSeenAs tells files faults n name.hash o change (Some answer)
@@ -178,12 +194,12 @@ module _ {V : Type 0} (tells : V → Bool) (files : V → Folders) (faults calls
     step-refused answer is seen = unmade answer Refuses (refusal-ends answer is) (λ same. cc) (Some answer) seen
         (record { leaves = record { not_made = refl; same = refl }; refused = seen.refuses })
 
-    pub step-full : IsSeenAs tells files faults n name.hash o change None → has_room n.journal (write_of change) ≡ false
+    pub step-full : IsSeenAs tells files faults n name.hash o change None → has_room n.journal (entry_of name change) ≡ false
         → IsStep tells files faults n name change answers.JournalFull n
     step-full seen full = unmade answers.JournalFull Overflows refl (λ same. cc) None seen (record {
       leaves = record { not_made = refl; same = refl };
       not_refused = seen.refuses;
-      full = room-single n.journal (write_of change) ∙ full;
+      full = room-is (read_with seen.state (values_of tells files faults n name.hash)) name.hash name change writes n.journal ∙ full;
     })
 
   -- what the listing and the read told: the counts of both
@@ -210,6 +226,7 @@ module _ {V : Type 0} (tells : V → Bool) (files : V → Folders) (faults calls
       → Called tells files faults calls lists k name change answer n
   called-refused k n name change (answers.Done front) is looked = absurd cc
   called-refused k n name change (answers.Buried front) is looked = absurd cc
+  called-refused k n name change (answers.Took is_there) is looked = absurd cc
   called-refused k n name change (answers.Conflict time) is looked = looked
   called-refused k n name change (answers.NotFound time) is looked = looked
   called-refused k n name change (answers.Mismatch second) is looked = looked
@@ -225,6 +242,8 @@ module _ {V : Type 0} (tells : V → Bool) (files : V → Folders) (faults calls
   written-made p q name w names o (Put time content none_match) front wrote = wrote
   written-made p q name w names o (Post time heads) front wrote = wrote
   written-made p q name w names o (Receive write) front wrote = wrote
+  written-made p q name w names o (MarkRecord filed device) front wrote = wrote
+  written-made p q name w names o (DropRecord filed all) front wrote = wrote
   written-made p q name w names o (Delete time if_delete_at) front wrote = by (has_object o)
     where
       by : (b : Bool) → Written tells files faults calls lists p name w names (deletion_answer b front) q
@@ -239,7 +258,7 @@ module _ {V : Type 0} (tells : V → Bool) (files : V → Folders) (faults calls
 
     called-entered : (q : Kept V) (answer : Answer) → WritesFile tells files faults calls lists p name (write_of change) looked.seen.names q
         → answer ≡ made_answer (picked_outline looked.seen.picked) change (length q.journal.entries)
-        → Wrote tells files faults calls lists k name change answer q
+        → MadeWrite tells files faults calls lists k name change answer q
     called-entered q answer wrote answered = record {
       decides = looked.decides;
       answered = answered;
@@ -253,7 +272,7 @@ module _ {V : Type 0} (tells : V → Bool) (files : V → Folders) (faults calls
       called = wrote.called ∙ ap (λ (n : ℕ). raised_by (length (obsolete_of (looked.seen.names ++ name_of (write_of change) ∷ []))) (raised n))
           looked.counts.called;
       listed = wrote.listed ∙ looked.counts.listed;
-      entered = wrote.entered ∙ ap (λ (j : Journal). with_entry j name (write_of change)) looked.kept;
+      entered = wrote.entered ∙ ap (λ (j : Journal). with_entry j (entry_of name change)) looked.kept;
     }
 
     pub called-written : (q : Kept V) (answer : Answer) → Written tells files faults calls lists p name (write_of change) looked.seen.names answer q
@@ -261,6 +280,7 @@ module _ {V : Type 0} (tells : V → Bool) (files : V → Folders) (faults calls
         → Called tells files faults calls lists k name change answer q
     called-written q (answers.Done front) wrote answered = called-entered q (answers.Done front) wrote (answered refl)
     called-written q (answers.Buried front) wrote answered = called-entered q (answers.Buried front) wrote (answered refl)
+    called-written q (answers.Took is_there) never answered = absurd never
     called-written q (answers.Conflict time) never answered = absurd never
     called-written q (answers.NotFound time) never answered = absurd never
     called-written q (answers.Mismatch second) never answered = absurd never
@@ -281,7 +301,7 @@ module _ {V : Type 0} (tells : V → Bool) (files : V → Folders) (faults calls
         failed = failed.counts.failed ∙ ap raised looked.counts.failed;
       };
       doubted = failed.doubted;
-      in_doubt = failed.in_doubt ∙ ap (λ (j : Journal). with_doubt j name (write_of change)) looked.kept;
+      in_doubt = failed.in_doubt ∙ ap (λ (j : Journal). with_doubt j (Wrote name (write_of change) [])) looked.kept;
     }))
     called-written q answers.NoMemory wanted answered = record {
       same = λ told d f. wanted.same (told_is ∙ told) d f ∙ looked.same told d f;

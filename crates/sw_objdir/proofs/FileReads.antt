@@ -14,7 +14,7 @@ use Rattle.sw_hashdir.specs.declared.reading.ReadFault.{ReadFault}
 use Rattle.sw_hashdir.specs.declared.reading.ReadFault.TheVariants as reads
 use Rattle.sw_hashpath.specs.declared.decode_error.BadFile.{BadFile}
 use Rattle.sw_hashpath.specs.declared.secrets.Secrets.{Secrets}
-use Rattle.sw_objdir.proofs.Looking.{all-held, dir-moved, held-told, looks-moved, looks-trans, part-reads, tells-now}
+use Rattle.sw_objdir.proofs.Looking.{all-held, dir-moved, held-told, looks-moved, looks-trans, part-reads, read_as, tells-now}
 use Rattle.sw_objdir.proofs.OneFile.{IsReadIn, damaged-never, is-file}
 use Rattle.sw_objdir.proofs.Reading.{found-still, risen-once}
 use Rattle.sw_objdir.specs.Comparing.{HasDoubt, IfDamagedPart, Looks, ReadsOnce, SettlesDoubt, fault_of_read, fault_of_volume, listings_of}
@@ -27,7 +27,6 @@ use Rattle.sw_object_steps.proofs.Hashes.{hash-same, hash-self}
 use Rattle.sw_object_steps.specs.Journals.{Hash, Journal, written}
 use Rattle.sw_object_steps.specs.Parts.{IsFile}
 use Rattle.sw_object_steps.specs.Histories.{IsGiven, part_look}
-use Rattle.sw_object_steps.specs.Values.{bare}
 use Rattle.sw_object_steps.specs.declared.dir_fault.DirFault.{DirFault}
 use Rattle.sw_object_steps.specs.declared.dir_fault.DirFault.TheVariants as faulted
 use Rattle.sw_object_steps.specs.declared.entry.ObjEntry.{ObjEntry}
@@ -133,7 +132,7 @@ module _ {V : Type 0} (tells : V → Bool) (files : V → Folders) (faults : V �
   -- what was told of the file is what a read of the hash gives
   read-so : (got : Result (Option Stored) DirFault)
       → (part_look got ≡ Tells → IsGiven (λ s x. IsFile (is_hashed k.secrets) hash file (is_told tells files faults m) s x)
-      (λ other. bare (held tells files faults m other)) got)
+      (read_as tells files faults moved (held tells files faults m)) got)
       → (part_look got ≡ IsFoundDamaged → is_told tells files faults m ≡ false)
       → (part_look got ≡ IsLost → HasRisen (faults k.volume) (faults v)) → Reads got
   read-so got shown orderly cause = part-reads tells files faults k moved (bytes_eq hash) true

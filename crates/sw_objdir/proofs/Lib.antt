@@ -1,3 +1,6 @@
+pub mod Singled
+pub mod WriteSteps
+pub mod Standing
 pub mod Deciding
 pub mod Journaling
 pub mod Looking
@@ -11,3 +14,17 @@ pub mod OneFile
 pub mod PartReads
 pub mod FileReads
 pub mod Guessing
+pub mod RecordSettling
+pub mod RecordFiles
+pub mod RecordReading
+pub mod RecordReady
+pub mod RecordMaking
+pub mod RecordFinding
+pub mod RecordEnding
+pub mod RecordAnswers
+pub mod RecordTelling
+pub mod FilingSettling
+pub mod FilingWalks
+pub mod RowNames
+pub mod RowReads
+pub mod RowTelling

@@ -1,16 +1,18 @@
 -- What is read of a partition, once its doubts are settled, is what its hashes stand for.
 use Rattle.std.proofs.Common.{◌≡◌, ℕ, Bool, true, false, ◌&&◌, List, [], sym, subst, Result, Ok, Err, IfOk, OnOk}
 use Rattle.sw_hashdir.specs.Places.{holds, in_order}
+use Rattle.std.proofs.lemmas.Bool.{and_from, and_parts}
 use Rattle.sw_object_steps.proofs.Parts.{hashes-as, lines-as}
 use Rattle.sw_objdir.proofs.Looking.{all-held, dir-moved, held-told, looks-moved, looks-trans, part-reads}
 use Rattle.sw_objdir.proofs.Told.{reopens}
 use Rattle.sw_objdir.specs.Comparing.{CountsFault, fault_of_volume}
-use Rattle.sw_objdir.specs.Directories.{IsDir, Kept, held, is_told}
+use Rattle.sw_objdir.specs.Directories.{IsDir, Kept, are_in_order, held, is_told}
 use Rattle.sw_objdir.specs.Stepping.{IsPartStep, LooksAt, SameFiles}
 use Rattle.sw_object_steps.specs.Journals.{Hash, written}
 use Rattle.sw_object_steps.specs.Parts.{AreHashes, AreLines}
 use Rattle.sw_object_steps.specs.declared.dir_fault.DirFault.{DirFault}
 use Rattle.sw_object_steps.specs.declared.dir_fault.DirFault.TheVariants as faulted
+use Rattle.sw_pending_dir.specs.Places.{records_in_order}
 use Rattle.sw_state.specs.declared.state.State.{State}
 use Rattle.sw_suffix.specs.declared.dir_line.DirLine.{DirLine}
 use Rattle.sw_suffix.specs.declared.told.SuffixHash.{SuffixHash}
@@ -31,18 +33,23 @@ module _ {V : Type 0} (tells : V → Bool) (files : V → Folders) (faults : V �
   abbrev now : Hash → State
   now hash = holds m.secrets m.power (files m.volume) hash
 
+  order-now : is_told tells files faults m ≡ true → (tells m.volume && in_order m.secrets m.power (files m.volume)) ≡ true
+  order-now told =
+      let both = and_parts (tells m.volume) (are_in_order m.secrets m.power (files m.volume)) (reopens tells files faults m dir told) in
+      and_from _ _ both.0 (and_parts (in_order m.secrets m.power (files m.volume)) (records_in_order m.secrets (files m.volume)) both.1).0
+
   -- what was read of the files is of what the hashes stand for
   pub lines-held : (part suffix : ℕ) (lines : List DirLine)
       → AreLines m.power part suffix (tells m.volume && in_order m.secrets m.power (files m.volume)) now lines
       → AreLines m.power part suffix (is_told tells files faults m) (held tells files faults m) lines
   lines-held part suffix lines = lines-as m.power part suffix _ (is_told tells files faults m) now (held tells files faults m) lines
-      (λ told. reopens tells files faults m dir told) (λ told hash of last. sym (held-told tells files faults m hash told))
+      order-now (λ told hash of last. sym (held-told tells files faults m hash told))
 
   pub hashes-held : (part : ℕ) (hashes : List SuffixHash)
       → AreHashes m.power part (tells m.volume && in_order m.secrets m.power (files m.volume)) now hashes
       → AreHashes m.power part (is_told tells files faults m) (held tells files faults m) hashes
   hashes-held part hashes = hashes-as m.power part _ (is_told tells files faults m) now (held tells files faults m) hashes
-      (λ told. reopens tells files faults m dir told) (λ told hash of. sym (held-told tells files faults m hash told))
+      order-now (λ told hash of. sym (held-told tells files faults m hash told))
 
 -- ---- answers
 

@@ -1,5 +1,5 @@
--- The calls of the volume that a step makes, in their order, and what they leave of the files: a changing step lists the name's directory,
--- reads the file that a deletion compares, puts the write's file, and unlinks what is then obsolete. (This project's own; the files are those of
+-- The calls of the volume that a write or a read of an object makes, in their order, and what they leave of the files: a write lists the name's
+-- directory, reads the file that a deletion compares, puts its own file, and unlinks what is then obsolete. (This project's own; the files are those of
 -- OpenStack Swift's object server.)
 use Rattle.std.specs.Prelude.{◌≡◌, ℕ, suc, ◌≤◌, Bool, true, List, [], ◌∷◌, ◌++◌, length, Option, Some, None, ◌⊎◌, if◌then◌else◌}
 use Rattle.sw_cleanup.specs.Cleaning.{AreListedIn, obsolete_of}
@@ -24,11 +24,18 @@ use Rattle.sw_object_steps.specs.Steps.{asks_expiry, made_answer, refusal_by, wr
 use Rattle.sw_object_steps.specs.declared.answer.Answer.{Answer}
 use Rattle.sw_object_steps.specs.declared.answer.Answer.TheVariants as answers
 use Rattle.sw_object_steps.specs.declared.change.Change.{Change}
+use Rattle.sw_object_steps.specs.Recorded.{records_for}
+use Rattle.sw_object_steps.specs.declared.entry.ObjEntry.{ObjEntry}
+use Rattle.sw_object_steps.specs.declared.entry.ObjEntry.TheVariants.{Wrote}
 use Rattle.sw_object_steps.specs.declared.got.Got.{Got}
 use Rattle.sw_object_steps.specs.declared.got.Got.TheVariants as gots
 use Rattle.sw_state.specs.declared.write.Write.{Write}
 use Rattle.sw_volume.specs.Tree.{Folders, contents}
 use Rattle.sw_volume.specs.Volume.{MaySet, raised_by}
+
+-- the entry of a write that was made
+abbrev pub entry_of : Name → Change → ObjEntry
+entry_of name change = Wrote name (write_of change) (records_for name change)
 
 -- one call where there is a file to be read
 abbrev pub read_calls : Option FileName → ℕ
@@ -86,7 +93,7 @@ module _ {V : Type 0} (tells : V → Bool) (files : V → Folders) (faults calls
     pub kept : n.journal ≡ seen.journal
 
   -- the write's file was put, and what it makes obsolete unlinked
-  pub record Wrote (k : Kept V) (name : Name) (change : Change) (answer : Answer) (n : Kept V) : Type 0 where
+  pub record MadeWrite (k : Kept V) (name : Name) (change : Change) (answer : Answer) (n : Kept V) : Type 0 where
     pub seen : Listed k name
     pub decides : Decides k name seen change None
     pub answered : answer ≡ made_answer (picked_outline seen.picked) change (length n.journal.entries)
@@ -95,7 +102,7 @@ module _ {V : Type 0} (tells : V → Bool) (files : V → Folders) (faults calls
     pub called : calls n.volume ≡ raised_by (length (obsolete_of (seen.names ++ name_of (write_of change) ∷ [])))
         (raised (raised_by (reads_of seen.picked change) (raised (calls k.volume))))
     pub listed : lists n.volume ≡ raised (lists k.volume)
-    pub entered : n.journal ≡ with_entry seen.journal name (write_of change)
+    pub entered : n.journal ≡ with_entry seen.journal (entry_of name change)
 
   -- the listing failed: nothing has changed
   pub record ListFails (k n : Kept V) : Type 0 where
@@ -121,7 +128,7 @@ module _ {V : Type 0} (tells : V → Bool) (files : V → Folders) (faults calls
         (Some (file_text name.account name.container name.object (write_of change)))
     pub counts : Counts (suc (reads_of seen.picked change)) 1 k n
     pub doubted : written name.hash n.journal.doubts ≡ write_of change ∷ []
-    pub in_doubt : n.journal ≡ with_doubt seen.journal name (write_of change)
+    pub in_doubt : n.journal ≡ with_doubt seen.journal (Wrote name (write_of change) [])
 
   -- memory ran out: no file has changed, no call failed, nothing came after the put, and nothing is in doubt that wasn't
   pub record Wanted (k : Kept V) (name : Name) (n : Kept V) : Type 0 where
@@ -133,8 +140,9 @@ module _ {V : Type 0} (tells : V → Bool) (files : V → Folders) (faults calls
 
   -- by its answer
   abbrev pub Called : Kept V → Name → Change → Answer → Kept V → Type 0
-  Called k name change (answers.Done front) n = Wrote k name change (answers.Done front) n
-  Called k name change (answers.Buried front) n = Wrote k name change (answers.Buried front) n
+  Called k name change (answers.Done front) n = MadeWrite k name change (answers.Done front) n
+  Called k name change (answers.Buried front) n = MadeWrite k name change (answers.Buried front) n
+  Called k name change (answers.Took is) n = ⊥
   Called k name change (answers.Conflict time) n = Looked k name change (Some (answers.Conflict time)) n
   Called k name change (answers.NotFound time) n = Looked k name change (Some (answers.NotFound time)) n
   Called k name change (answers.Mismatch second) n = Looked k name change (Some (answers.Mismatch second)) n
@@ -156,14 +164,14 @@ module _ {V : Type 0} (tells : V → Bool) (files : V → Folders) (faults calls
     pub writes : tells k.volume ≡ true → Writes (files k.volume) (files n.volume) (dir_text k.power name.hash) names name w (faults k.volume) (faults n.volume)
     pub called : calls n.volume ≡ raised_by (length (obsolete_of (names ++ name_of w ∷ []))) (raised (calls k.volume))
     pub listed : lists n.volume ≡ lists k.volume
-    pub entered : n.journal ≡ with_entry k.journal name w
+    pub entered : n.journal ≡ with_entry k.journal (Wrote name w [])
 
   pub record FailsToPut (k : Kept V) (name : Name) (w : Write) (n : Kept V) : Type 0 where
     pub may : tells k.volume ≡ true → MaySet (contents (files k.volume)) (contents (files n.volume)) (dir_text k.power name.hash) (name_text (name_of w))
         (Some (file_text name.account name.container name.object w))
     pub counts : NoListing 1 1 k n
     pub doubted : written name.hash n.journal.doubts ≡ w ∷ []
-    pub in_doubt : n.journal ≡ with_doubt k.journal name w
+    pub in_doubt : n.journal ≡ with_doubt k.journal (Wrote name w [])
 
   pub record WantsToPut (k n : Kept V) : Type 0 where
     pub same : SameFiles tells files faults k n
@@ -173,6 +181,7 @@ module _ {V : Type 0} (tells : V → Bool) (files : V → Folders) (faults calls
   abbrev pub Written : Kept V → Name → Write → List FileName → Answer → Kept V → Type 0
   Written k name w names (answers.Done front) n = WritesFile k name w names n
   Written k name w names (answers.Buried front) n = WritesFile k name w names n
+  Written k name w names (answers.Took is) n = ⊥
   Written k name w names (answers.Conflict time) n = ⊥
   Written k name w names (answers.NotFound time) n = ⊥
   Written k name w names (answers.Mismatch second) n = ⊥

@@ -1,4 +1,4 @@
--- Which doubts a read of a partition settles, which calls of the volume that takes, and how it fails. (This project's own.)
+-- Which doubts of writes a read of a partition settles, which calls of the volume that takes, and how it fails. (This project's own.)
 use Rattle.std.specs.Prelude.{◌≡◌, ◌≢◌, ⊤, ℕ, suc, ◌≤◌, ◌==◌, Bool, true, false, ◌&&◌, List, [], ◌∷◌, length, Result, Ok, Err, ◌⊎◌}
 use Rattle.std.specs.Str.{bytes_eq}
 use Rattle.sw_hashdir.specs.declared.reading.ReadFault.{ReadFault}
@@ -13,6 +13,7 @@ use Rattle.sw_object_steps.specs.Journals.{Hash, written}
 use Rattle.sw_object_steps.specs.declared.dir_fault.DirFault.{DirFault}
 use Rattle.sw_object_steps.specs.declared.dir_fault.DirFault.TheVariants as faulted
 use Rattle.sw_object_steps.specs.declared.entry.ObjEntry.{ObjEntry}
+use Rattle.sw_object_steps.specs.declared.entry.ObjEntry.TheVariants.{Dropped, Files, Marked, Wrote}
 use Rattle.sw_state.specs.declared.write.Write.{Write}
 use Rattle.sw_volume.specs.Volume.{raised_by}
 use Rattle.sw_volume.specs.declared.errors.VolumeError.{VolumeError}
@@ -54,17 +55,24 @@ is_in power (scopes.Part part) hash = partition_of hash power == part
 is_in power (scopes.Suffix part suffix) hash = (partition_of hash power == part) && (suffix_of hash == suffix)
 is_in power (scopes.Hash one) hash = bytes_eq one hash
 
--- no doubt of the scope is left
+-- whether an entry is a write of the scope
+abbrev pub is_write_in : ℕ → Scope → ObjEntry → Bool
+is_write_in power scope (Wrote name w records) = is_in power scope name.hash
+is_write_in power scope (Files by filed) = false
+is_write_in power scope (Marked by filed device) = false
+is_write_in power scope (Dropped by filed) = false
+
+-- no doubt of a write of the scope is left
 abbrev pub IsSettled : ℕ → Scope → List ObjEntry → Type 0
 IsSettled power scope doubts = (hash : Hash) → is_in power scope hash ≡ true → written hash doubts ≡ []
 
--- a hash of the scope is in doubt
+-- a write of a hash of the scope is in doubt
 pub record HasDoubt (power : ℕ) (scope : Scope) (doubts : List ObjEntry) : Type 0 where
   pub hash : Hash
   pub within : is_in power scope hash ≡ true
   pub doubted : written hash doubts ≢ []
 
--- how many listings settle the doubt of a hash: one where there is one
+-- how many listings settle the doubt of a hash's writes: one where there is one
 abbrev pub listings_of : List Write → ℕ
 listings_of [] = 0
 listings_of (w ∷ ws) = 1
@@ -84,7 +92,7 @@ module _ {V : Type 0} (calls lists : V → ℕ) where
   ReadsOnce listings k (Err faulted.Failed) n = Looks listings 1 k n ⊎ ((listings ≡ 1) × Looks 1 0 k n)
   ReadsOnce listings k (Err faulted.NoMemory) n = Looks listings 1 k n ⊎ ((listed : ℕ) × (listed ≤ listings) × Looks listed 0 k n)
 
-  -- a doubt of the scope was settled, by one listing
+  -- a doubt of a write of the scope was settled, by one listing
   pub record SettlesSome (k : Kept V) (scope : Scope) (n : Kept V) : Type 0 where
     pub doubt : HasDoubt k.power scope k.journal.doubts
     pub settled : written doubt.hash n.journal.doubts ≡ []

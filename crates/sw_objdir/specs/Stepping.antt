@@ -1,5 +1,5 @@
 -- What a step of an object directory is: one of its lock, by the rules of objects. (This project's own.)
-use Rattle.std.specs.Prelude.{◌≡◌, ◌≢◌, ℕ, ◌≤◌, Bool, true, false, List, ◌++◌, map, Option, Result, Err}
+use Rattle.std.specs.Prelude.{◌≡◌, ◌≢◌, ℕ, ◌≤◌, Bool, true, false, List, [], ◌∷◌, ◌++◌, map, Option, Some, None, Result, Err, if◌then◌else◌}
 use Rattle.sw_hashpath.specs.declared.decode_error.BadFile.{BadFile}
 use Rattle.sw_hashpath.specs.declared.name.Name.{Name}
 use Rattle.sw_objdir.specs.Directories.{Kept, held, is_told, steps_of, values_of}
@@ -25,6 +25,11 @@ use Rattle.sw_volume.specs.Volume.{IsSame}
 -- what a trail shows of the entries that were added
 abbrev pub AddsBriefs : List ObjEntry → List ObjEntry → List Brief → List Brief → Type 0
 AddsBriefs old new before after = (added : List ObjEntry) → new ≡ old ++ added → after ≡ before ++ map brief_of added
+
+-- what it shows of a doubt with this brief that was settled: nothing where no entry came of it
+abbrev pub told_of : Option Brief → Bool → List Brief
+told_of None came = []
+told_of (Some brief) came = if came then brief ∷ [] else []
 
 module _ {V : Type 0} (tells : V → Bool) (files : V → Folders) (faults : V → ℕ) where
   -- at every path stands what stood there
@@ -56,24 +61,24 @@ module _ {V : Type 0} (tells : V → Bool) (files : V → Folders) (faults : V �
     pub outline_is : o ≡ outline_of state
     pub refuses : refusal_of state change ≡ refused
 
-  -- a step that may change what stands under the name; every other hash stands for what it stood for
+  -- a step that may change what stands under the name; under every other hash stands what stood there
   pub record IsStep (k : Kept V) (name : Name) (change : Change) (answer : Answer) (n : Kept V) : Type 0 where
     pub same : IsSameDir k n
-    pub others : (hash : Hash) → hash ≢ name.hash → held tells files faults n hash ≡ held tells files faults k hash
+    pub others : (hash : Hash) → hash ≢ name.hash → values_of tells files faults n hash ≡ values_of tells files faults k hash
     pub changes : ChangesObject true (steps_of tells files faults k) (values_of tells files faults k) name change answer
         (steps_of tells files faults n) (values_of tells files faults n name.hash)
 
-  -- a step that reads the name; every hash stands for what it stood for
+  -- a step that reads the name; under every hash stands what stood there
   pub record IsReadStep (k : Kept V) (name : Name) (got : Got) (n : Kept V) : Type 0 where
     pub same : IsSameDir k n
-    pub all : (hash : Hash) → held tells files faults n hash ≡ held tells files faults k hash
+    pub all : (hash : Hash) → values_of tells files faults n hash ≡ values_of tells files faults k hash
     pub reads : ReadsObject true (steps_of tells files faults k) name.hash got (steps_of tells files faults n) (values_of tells files faults n)
 
-  -- a read of these hashes of a partition; every hash stands for what it stood for. Only a read that `damages` may find a file damaged
+  -- a read of these hashes of a partition; under every hash stands what stood there. Only a read that `damages` may find a file damaged
   pub record IsPartStep {A : Type 0} (k : Kept V) (at : Hash → Bool) (damages : Bool) (reading : Bool → (Hash → State) → A → Type 0)
       (got : Result A DirFault) (n : Kept V) : Type 0 where
     pub same : IsSameDir k n
-    pub all : (hash : Hash) → held tells files faults n hash ≡ held tells files faults k hash
+    pub all : (hash : Hash) → values_of tells files faults n hash ≡ values_of tells files faults k hash
     pub reads : ReadsPart true (steps_of tells files faults k) at (reading (is_told tells files faults n)) got (steps_of tells files faults n)
         (values_of tells files faults n)
     pub sound : (bad : BadFile) → got ≡ Err (Damaged bad) → damages ≡ true

@@ -1,4 +1,4 @@
-ghost use Rattle.std.specs.Prelude.{◌≡◌, true, false, [], Some, None, IfOk, OnOk, OnErr};
+ghost use Rattle.std.specs.Prelude.{◌≡◌, true, false, [], Some, None, IfOk, IfErr, OnOk, OnErr};
 ghost use Rattle.std.specs.Str.{bytes_eq};
 ghost use Rattle.sw_cleanup.specs.Cleaning.{AreListedIn};
 ghost use Rattle.sw_diskfile.specs.Picking.{IsPicked};
@@ -9,10 +9,12 @@ ghost use Rattle.sw_hashdir.specs.Readings.{IfDamaged, IsDamagedAt, IsSecondOf, 
 ghost use Rattle.sw_journal.specs.Settling.{SettlesFirst};
 ghost use Rattle.sw_objdir.specs.Calling.{Called, reads_of};
 ghost use Rattle.sw_objdir.specs.Directories.{IsDir, held, is_told};
+ghost use Rattle.sw_objdir.specs.Planning.{IsPlanned};
 ghost use Rattle.sw_objdir.specs.Stepping.{IsStep, LooksAt};
 ghost use Rattle.sw_outside.specs.Counts.{raised};
 ghost use Rattle.sw_object_steps.specs.Journals.{body_size, written};
 ghost use Rattle.sw_object_steps.specs.Outlines.{outline_of, standing_expiry};
+ghost use Rattle.sw_object_steps.specs.Recorded.{is_write};
 ghost use Rattle.sw_object_steps.specs.Steps.{asks_expiry, write_of};
 ghost use Rattle.sw_object_steps.specs.declared.change.Change.TheVariants as changes;
 ghost use Rattle.sw_volume.specs.Tree.{contents};
@@ -27,10 +29,17 @@ use sw_state::{Content, Heads, Kind, Write};
 use sw_timestamp::Timestamp;
 use sw_volume::{Volume, VolumeError};
 
+/// What a write that nothing refuses found: the directory of its name, and what stands there.
+#[derive(Drop)]
+struct Plan {
+    dir: Vec<u8>,
+    seen: Seen,
+}
+
 impl<V: Volume + Drop> ObjDir<V> {
     /// Makes a step that may change what stands under the name. Its hash has to be that of its path under the ring's secrets.
     ///
-    /// It lists the name's directory, and settles the name's doubt by it. A deletion that asks for the second of expiry reads the one file that
+    /// A write lists the name's directory, and settles the name's doubt by it. A deletion that asks for the second of expiry reads the one file that
     /// tells it. What then stands refuses the step, or a limit of the journal does, or its write's file is put, and what it makes obsolete is
     /// unlinked, in byte order of the names. An unlink that fails changes no answer.
     ///
@@ -39,30 +48,55 @@ impl<V: Volume + Drop> ObjDir<V> {
     /// [`Answer::NoMemory`] leaves all files as they are.
     pub fn change(&mut self, alloc: Global, name: &Name, change: Change) -> Answer
         requires hashed { IsHashed self.old.secrets name.now }
+        requires writes { is_write change ≡ true }
         ensures made { IsStep V.tells V.holds V.faults self.old name.now change result self.new }
         ensures called { Called V.tells V.holds V.faults V.calls V.lists self.old name.now change result self.new }
     {
+        self.make_write(alloc, name, change)
+    }
+
+    /// The same for a write.
+    pub(crate) fn make_write(&mut self, alloc: Global, name: &Name, change: Change) -> Answer
+        requires hashed { IsHashed self.old.secrets name.now }
+        requires writes { is_write change ≡ true }
+        ensures made { IsStep V.tells V.holds V.faults self.old name.now change result self.new }
+        ensures called { Called V.tells V.holds V.faults V.calls V.lists self.old name.now change result self.new }
+    {
+        match self.decide(alloc, name, &change) {
+            Ok(plan) => self.write(alloc, name, &plan.dir, &plan.seen, change),
+            Err(answer) => answer,
+        }
+    }
+
+    /// All of a write but its file: what it found where the file may be put, and else its answer.
+    fn decide(&mut self, alloc: Global, name: &Name, change: &Change) -> Result<Plan, Answer>
+        requires hashed { IsHashed self.old.secrets name.now }
+        requires writes { is_write change.now ≡ true }
+        ensures planned { IfOk result (λ plan. IsPlanned V.tells V.holds V.faults V.calls V.lists self.old name.now change.now plan self.new) }
+        ensures made { IfErr result (λ answer. IsStep V.tells V.holds V.faults self.old name.now change.now answer self.new) }
+        ensures called { IfErr result (λ answer. Called V.tells V.holds V.faults V.calls V.lists self.old name.now change.now answer self.new) }
+    {
         let Ok(dir) = dir_of(alloc, &name.hash, self.power) else {
-            return Answer::NoMemory;
+            return Err(Answer::NoMemory);
         };
         let seen = match self.list(alloc, &name.hash, &dir) {
             Ok(seen) => seen,
-            Err(VolumeError::Failed) => return Answer::Failed,
-            Err(VolumeError::NoMemory) => return Answer::NoMemory,
+            Err(VolumeError::Failed) => return Err(Answer::Failed),
+            Err(VolumeError::NoMemory) => return Err(Answer::NoMemory),
         };
-        let expiry = match self.expiry(alloc, name, &dir, &seen, &change) {
+        let expiry = match self.expiry(alloc, name, &dir, &seen, change) {
             Ok(expiry) => expiry,
-            Err(ReadFault::Damaged(bad)) => return Answer::Damaged(bad),
-            Err(ReadFault::Failed) => return Answer::Failed,
-            Err(ReadFault::NoMemory) => return Answer::NoMemory,
+            Err(ReadFault::Damaged(bad)) => return Err(Answer::Damaged(bad)),
+            Err(ReadFault::Failed) => return Err(Answer::Failed),
+            Err(ReadFault::NoMemory) => return Err(Answer::NoMemory),
         };
-        if let Some(refused) = refusal(&seen.outline, expiry, &change) {
-            return refused;
+        if let Some(refused) = refusal(&seen.outline, expiry, change) {
+            return Err(refused);
         }
-        if !self.journal.has_room(body_size(&change)) {
-            return Answer::JournalFull;
+        if !self.journal.has_room(body_size(change)) {
+            return Err(Answer::JournalFull);
         }
-        self.write(alloc, name, &dir, &seen, change)
+        Ok(Plan { dir, seen })
     }
 
     /// Lists the directory of a hash, and settles its doubt by it.
@@ -162,6 +196,7 @@ fn body_size(change: &Change) -> u64
         Change::Post { .. } => 0,
         Change::Delete { .. } => 0,
         Change::Receive { write } => kind_size(&write.kind),
+        Change::MarkRecord { .. } | Change::DropRecord { .. } => 0,
     }
 }
 

@@ -1,4 +1,4 @@
-ghost use Rattle.std.specs.Prelude.{◌≡◌, ℕ, ◌<◌, ◌≤◌, ◌^◌, suc, length, ◌==◌, ◌&&◌, true, false, [], find, IfOk, OnOk, OnErr, Some};
+ghost use Rattle.std.specs.Prelude.{◌≡◌, ℕ, ◌<◌, ◌≤◌, ◌^◌, suc, length, ◌==◌, ◌&&◌, true, false, [], find, IfOk, OnOk, OnErr, Some, vec_capacity, vec_len};
 ghost use Rattle.std.specs.Option.{option_copied, option_map};
 ghost use Rattle.std.specs.Str.{bytes_eq};
 ghost use Rattle.sw_diskfile.specs.FileNames.{name_text};
@@ -6,19 +6,21 @@ ghost use Rattle.sw_hashdir.specs.Places.{dir_text};
 ghost use Rattle.sw_hashdir.specs.Readings.{IsDamaged, IsFound};
 ghost use Rattle.sw_hashdir.specs.Steps.{is_hashed};
 ghost use Rattle.sw_hashpath.specs.HashParts.{partition_of, suffix_of};
-ghost use Rattle.sw_journal.specs.Entries.{entry_hash, first_in};
+ghost use Rattle.sw_journal.specs.Entries.{first_in};
 ghost use Rattle.sw_objdir.specs.Comparing.{CountsFault, IfDamagedPart, IsSettled, Looks, ReadsOnce, SettlesDoubt, fault_of_read, fault_of_volume};
-ghost use Rattle.sw_objdir.specs.Comparing.{is_in, listings_of};
+ghost use Rattle.sw_objdir.specs.Comparing.{is_in, is_write_in, listings_of};
 ghost use Rattle.sw_objdir.specs.Directories.{IsDir};
 ghost use Rattle.sw_objdir.specs.Stepping.{AddsBriefs, IsPartStep, LooksAt};
 ghost use Rattle.sw_object_steps.specs.Briefs.{brief_of};
 ghost use Rattle.sw_object_steps.specs.Journals.{written};
+ghost use Rattle.sw_object_steps.specs.Rules.{obj_key};
 ghost use Rattle.sw_object_steps.specs.Parts.{AreHashes, AreLines, IsFile, IsOfPart};
 ghost use Rattle.sw_object_steps.specs.declared.entry.ObjEntry.{ObjEntry};
 ghost use Rattle.sw_volume.specs.Tree.{contents};
 ghost use Rattle.sw_volume.specs.Volume.{HasCause, OnFailed};
 
 use crate::obj_dir::ObjDir;
+use crate::telling::{brief_ready, tell};
 use std::alloc::Global;
 use sw_diskfile::FileName;
 use sw_hashdir::{ReadFault, dir_of, hashes_of, lines_of, read_stored};
@@ -54,8 +56,8 @@ impl Scope {
     }
 }
 
-/// Reads of a partition. Each first settles every doubt of the hashes that it reads, by a listing of the hash's directory, and adds to `settled` what
-/// a trail shows of the entries that this makes, whatever it then answers.
+/// Reads of a partition. Each first settles every doubt of a write of the hashes that it reads, by a listing of the hash's directory, and adds to
+/// `settled` what a trail shows of the entries that this makes, whatever it then answers. Doubts of records stay.
 ///
 /// [`DirFault::Failed`] comes only where a call of the volume failed, which is counted once. No file changes.
 impl<V: Volume + Drop> ObjDir<V> {
@@ -145,7 +147,7 @@ impl<V: Volume + Drop> ObjDir<V> {
         }
     }
 
-    /// Settles every doubt of the scope.
+    /// Settles every doubt of a write of the scope.
     fn settle_all(
         &mut self,
         alloc: Global,
@@ -163,7 +165,7 @@ impl<V: Volume + Drop> ObjDir<V> {
         Ok(())
     }
 
-    /// Settles the first doubt of the scope, and answers whether there was one.
+    /// Settles the first doubt of a write of the scope, and answers whether there was one.
     fn settle_one(
         &mut self,
         alloc: Global,
@@ -180,12 +182,12 @@ impl<V: Volume + Drop> ObjDir<V> {
             return Ok(false);
         };
         let hash = hash_of(entry);
-        let brief = entry.brief(alloc)?;
+        let brief = brief_ready(alloc, entry, settled)?;
         self.settle(alloc, &hash, brief, settled)?;
         Ok(true)
     }
 
-    /// Settles the doubt of a hash, of which this is the brief.
+    /// Settles the doubt of a write of a hash, of which this is the brief. There is room for it.
     fn settle(
         &mut self,
         alloc: Global,
@@ -194,6 +196,7 @@ impl<V: Volume + Drop> ObjDir<V> {
         settled: &mut Vec<Brief>,
     ) -> Result<(), VolumeError>
         requires first { (entry : ObjEntry) × (first_in hash.now self.old.journal.doubts ≡ Some entry) × (brief ≡ brief_of entry) }
+        requires room { vec_len settled.old < vec_capacity settled.old }
         ensures dir { IsDir V.tells V.holds V.faults self.new }
         ensures looks { LooksAt V.tells V.holds V.faults (λ key. bytes_eq key hash.now) self.old self.new }
         ensures briefs { AddsBriefs self.old.journal.entries self.new.journal.entries settled.old.items settled.new.items }
@@ -205,37 +208,50 @@ impl<V: Volume + Drop> ObjDir<V> {
         ensures failed { OnFailed result (Looks V.calls V.lists 1 0 self.old self.new) }
     {
         let dir = dir_of(alloc, hash, self.power)?;
-        settled.reserve(1)?;
         let front = self.front();
         self.list(alloc, hash, &dir)?;
-        if self.front() > front {
-            settled.push_reserved(brief);
-        }
+        tell(Some(brief), self.front() > front, settled);
         Ok(())
     }
 }
 
-/// The first doubt of the scope.
+/// The first doubt of a write of the scope.
 fn doubt_in(journal: &Journal, power: u8, scope: Scope) -> Option<&ObjEntry>
     requires least { 1 ≤ power }
     requires greatest { power ≤ 32 }
-    ensures { option_copied result ≡ find (λ entry. is_in power scope (entry_hash entry)) journal.now.doubts }
+    ensures { option_copied result ≡ find (is_write_in power scope) journal.now.doubts }
 {
     journal
         .doubts()
         .iter()
-        .find(|entry| scope.has(power, &hash_of(entry)))
+        .find(|entry| is_write_in(entry, power, scope))
 }
 
-/// The hash whose write it is.
-fn hash_of(entry: &ObjEntry) -> [u8; 16]
-    ensures { result ≡ entry_hash entry.now }
+/// Whether an entry is a write of the scope.
+fn is_write_in(entry: &ObjEntry, power: u8, scope: Scope) -> bool
+    requires least { 1 ≤ power }
+    requires greatest { power ≤ 32 }
+    ensures { result ≡ is_write_in power scope entry.now }
 {
-    let ObjEntry::Wrote(name, _) = entry;
-    name.hash
+    match entry {
+        ObjEntry::Wrote(name, _, _) => scope.has(power, &name.hash),
+        _ => false,
+    }
 }
 
-fn fault_of_volume(error: VolumeError) -> DirFault
+/// The hash under which an entry is.
+fn hash_of(entry: &ObjEntry) -> [u8; 16]
+    ensures { result ≡ obj_key entry.now }
+{
+    match entry {
+        ObjEntry::Wrote(name, _, _) => name.hash,
+        ObjEntry::Files(by, _) => *by,
+        ObjEntry::Marked(by, _, _) => *by,
+        ObjEntry::Dropped(by, _) => *by,
+    }
+}
+
+pub(crate) fn fault_of_volume(error: VolumeError) -> DirFault
     ensures { result ≡ fault_of_volume error }
 {
     match error {
@@ -244,7 +260,7 @@ fn fault_of_volume(error: VolumeError) -> DirFault
     }
 }
 
-fn fault_of_read(fault: ReadFault) -> DirFault
+pub(crate) fn fault_of_read(fault: ReadFault) -> DirFault
     ensures { result ≡ fault_of_read fault }
 {
     match fault {

@@ -2,7 +2,7 @@ ghost use Rattle.std.specs.Prelude.{◌≡◌, ℕ, true, IfOk, OnOk};
 ghost use Rattle.sw_hashdir.specs.Steps.{IsHashed};
 ghost use Rattle.sw_hashdir.specs.Walks.{Adds, IsPathBelow};
 ghost use Rattle.sw_objdir.specs.Calling.{ReadCalled};
-ghost use Rattle.sw_objdir.specs.Directories.{held};
+ghost use Rattle.sw_objdir.specs.Directories.{values_of};
 ghost use Rattle.sw_objdir.specs.Stepping.{IsReadStep, OnlyLooks};
 ghost use Rattle.sw_object_steps.specs.Journals.{Hash};
 ghost use Rattle.sw_volume.specs.Tree.{contents};
@@ -60,7 +60,7 @@ impl<V: Volume + Drop> ObjDir<V> {
     pub fn add_files(&mut self, alloc: Global, found: &mut Paths) -> Result<(), VolumeError>
         ensures looks { OnlyLooks V.tells V.holds V.faults self.old self.new }
         ensures journal { self.new.journal ≡ self.old.journal }
-        ensures held { (hash : Hash) → held V.tells V.holds V.faults self.new hash ≡ held V.tells V.holds V.faults self.old hash }
+        ensures values { (hash : Hash) → values_of V.tells V.holds V.faults self.new hash ≡ values_of V.tells V.holds V.faults self.old hash }
         ensures paths { OnOk result (V.tells self.old.volume ≡ true → Adds found.old found.new (IsPathBelow (contents (V.holds self.old.volume)))) }
         ensures cause { HasCause (V.faults self.old.volume) (V.faults self.new.volume) result }
         ensures only_lists { (n : ℕ) × (V.calls self.new.volume ≡ raised_by n (V.calls self.old.volume))

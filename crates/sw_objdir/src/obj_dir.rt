@@ -1,10 +1,8 @@
 ghost use Rattle.std.specs.Prelude.{◌≡◌, ◌<◌, ◌≤◌, ◌^◌, true, List, ◌++◌, length, ◌&&◌};
-ghost use Rattle.sw_hashdir.specs.Places.{holds, in_order};
 ghost use Rattle.std.specs.Option.{option_copied};
 ghost use Rattle.sw_journal.specs.Entries.{first_in};
 ghost use Rattle.sw_object_steps.specs.Rules.{obj_rules};
-ghost use Rattle.sw_object_steps.specs.Values.{bare};
-ghost use Rattle.sw_objdir.specs.Directories.{is_told, started, steps_of, values_of};
+ghost use Rattle.sw_objdir.specs.Directories.{are_in_order, is_told, started, steps_of, value_at, values_of};
 ghost use Rattle.sw_object_steps.specs.Journals.{Hash};
 ghost use Rattle.sw_object_steps.specs.declared.entry.ObjEntry.{ObjEntry};
 ghost use Rattle.sw_step.specs.Rules.{CanStand};
@@ -39,7 +37,7 @@ impl<V: Volume + Drop> Model for ObjDir<V> {
 }
 
 impl<V: Volume + Drop> ObjDir<V> {
-    /// Begins with what the volume's files stand for, and an empty journal that has room for so many entries, whose bodies have together
+    /// Begins with what the volume's files and records stand for, and an empty journal that has room for so many entries, whose bodies have together
     /// at most so many bytes. The part power and the secrets are the ring's. It takes no memory.
     pub fn start(
         alloc: Global,
@@ -62,7 +60,7 @@ impl<V: Volume + Drop> ObjDir<V> {
         }
     }
 
-    /// Each hash holds what it may stand for: by the entries, and by those of its doubts that were made. It does nothing: its clause tells it.
+    /// Under each hash stands what may stand there: by the entries, and by those of its doubts that were made. It does nothing: its clause tells it.
     pub fn may_stand(&self)
         ensures { is_told V.tells V.holds V.faults self.now ≡ true → (hash : Hash)
             → CanStand obj_rules (steps_of V.tells V.holds V.faults self.now) hash (values_of V.tells V.holds V.faults self.now hash) }
@@ -70,13 +68,13 @@ impl<V: Volume + Drop> ObjDir<V> {
         let _ = &self.volume;
     }
 
-    /// Ends it, and gives the volume back. A directory that begins anew on it has every write that was entered, and of each that is in
-    /// doubt the write or not. It takes no memory.
+    /// Ends it, and gives the volume back. A directory that begins anew on it has every change that was entered, and of each that is in
+    /// doubt the change or not. It takes no memory.
     pub fn into_volume(self) -> V
         ensures same { result ≡ self.volume }
-        ensures told { is_told V.tells V.holds V.faults self ≡ true → (V.tells result && in_order self.secrets self.power (V.holds result)) ≡ true }
+        ensures told { is_told V.tells V.holds V.faults self ≡ true → (V.tells result && are_in_order self.secrets self.power (V.holds result)) ≡ true }
         ensures stands { is_told V.tells V.holds V.faults self ≡ true → (hash : Hash)
-            → CanStand obj_rules (steps_of V.tells V.holds V.faults self) hash (bare (holds self.secrets self.power (V.holds result) hash)) }
+            → CanStand obj_rules (steps_of V.tells V.holds V.faults self) hash (value_at self.secrets self.power (V.holds result) hash) }
     {
         self.volume
     }
@@ -85,7 +83,8 @@ impl<V: Volume + Drop> ObjDir<V> {
     pub fn into_parts(self) -> (V, Secrets)
         ensures volume { result.0 ≡ self.volume }
         ensures secrets { result.1 ≡ self.secrets }
-        ensures told { is_told V.tells V.holds V.faults self ≡ true → (V.tells self.volume && in_order self.secrets self.power (V.holds self.volume)) ≡ true }
+        ensures told { is_told V.tells V.holds V.faults self ≡ true
+            → (V.tells self.volume && are_in_order self.secrets self.power (V.holds self.volume)) ≡ true }
     {
         (self.volume, self.secrets)
     }
@@ -98,7 +97,7 @@ impl<V: Volume + Drop> ObjDir<V> {
         self.journal.front()
     }
 
-    /// The doubt of a hash, where there is one: the write that the next listing of its directory settles.
+    /// The doubt of a write of a hash, where there is one: the next listing of its directory settles it.
     pub fn doubted(&self, hash: &[u8; 16]) -> Option<&ObjEntry>
         ensures { option_copied result ≡ first_in hash.now self.now.journal.doubts }
     {

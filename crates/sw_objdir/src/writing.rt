@@ -2,9 +2,10 @@ ghost use Rattle.std.specs.Prelude.{◌≡◌, true, [], length, IfOk, None};
 ghost use Rattle.sw_cleanup.specs.Cleaning.{AreListedIn};
 ghost use Rattle.sw_hashdir.specs.Places.{dir_text};
 ghost use Rattle.sw_hashdir.specs.Steps.{IsOurs};
-ghost use Rattle.sw_objdir.specs.Calling.{Written};
+ghost use Rattle.sw_objdir.specs.Calling.{Written, entry_of};
 ghost use Rattle.sw_objdir.specs.Stepping.{IsSeenAs, IsStep};
 ghost use Rattle.sw_object_steps.specs.Journals.{has_room, written};
+ghost use Rattle.sw_object_steps.specs.Recorded.{is_write};
 ghost use Rattle.sw_object_steps.specs.Steps.{is_entered, made_answer, write_of};
 ghost use Rattle.sw_object_steps.specs.declared.entry.ObjEntry.TheVariants.{Wrote};
 ghost use Rattle.sw_volume.specs.Tree.{contents};
@@ -13,7 +14,7 @@ use crate::obj_dir::ObjDir;
 use std::alloc::Global;
 use sw_hashdir::{Seen, write_file};
 use sw_hashpath::Name;
-use sw_object_steps::{Answer, Change, ObjEntry, made_answer};
+use sw_object_steps::{Answer, Change, FiledList, ObjEntry, made_answer};
 use sw_outside::NoMemory;
 use sw_state::Write;
 use sw_volume::{Volume, VolumeError};
@@ -28,12 +29,13 @@ impl<V: Volume + Drop> ObjDir<V> {
         seen: &Seen,
         change: Change,
     ) -> Answer
+        requires writes { is_write change ≡ true }
         requires settled { written name.now.hash self.old.journal.doubts ≡ [] }
         requires ours { IsOurs self.old.secrets self.old.power name.now }
         requires dir { dir.now ≡ dir_text self.old.power name.now.hash }
         requires names { V.tells self.old.volume ≡ true → AreListedIn (contents (V.holds self.old.volume)) dir.now seen.now.names.items }
         requires stood { IsSeenAs V.tells V.holds V.faults self.old name.now.hash seen.now.outline change None }
-        requires room { has_room self.old.journal (write_of change) ≡ true }
+        requires room { has_room self.old.journal (entry_of name.now change) ≡ true }
         ensures made { IsStep V.tells V.holds V.faults self.old name.now change result self.new }
         ensures written { Written V.tells V.holds V.faults V.calls V.lists self.old name.now (write_of change) seen.now.names.items result self.new }
         ensures answered { is_entered result ≡ true → result ≡ made_answer seen.now.outline change (length self.new.journal.entries) }
@@ -60,9 +62,9 @@ impl<V: Volume + Drop> ObjDir<V> {
     }
 }
 
-/// The entry of a write, whose body is moved into it.
+/// The entry of a write, whose body is moved into it. No record is filed for it.
 fn entry_of(alloc: Global, name: &Name, write: Write) -> Result<ObjEntry, NoMemory>
-    ensures { IfOk result (λ entry. entry ≡ Wrote name.now write) }
+    ensures { IfOk result (λ entry. entry ≡ Wrote name.now write []) }
 {
-    Ok(ObjEntry::Wrote(name.copy(alloc)?, write))
+    Ok(ObjEntry::Wrote(name.copy(alloc)?, write, FiledList::new(alloc)))
 }

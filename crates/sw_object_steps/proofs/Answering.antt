@@ -18,12 +18,13 @@ use Rattle.sw_object_steps.specs.declared.outline.Mark.{Mark}
 use Rattle.sw_object_steps.specs.declared.outline.Mark.TheVariants.{Object, Tombstone}
 use Rattle.sw_object_steps.specs.Outlines.{burial_time, is_object, time_with, standing_expiry, has_object, is_before, is_below, is_new_to, mark_of, mark_time}
 use Rattle.sw_object_steps.specs.Outlines.{outline_of, shown_time, standing_time, tombstone_time}
+use Rattle.sw_object_steps.specs.Recorded.{is_write}
 use Rattle.sw_object_steps.specs.Steps.{asks_expiry, asks_expiry_after, burial_refusal, conflict, deletion_refusal, expires_at}
 use Rattle.sw_object_steps.specs.Steps.{expiring_deletion_refusal, expiry_refusal, latest_time, refusal_by, refusal_of, write_of}
 use Rattle.sw_object_steps.specs.declared.answer.Answer.{Answer}
 use Rattle.sw_object_steps.specs.declared.answer.Answer.TheVariants as answers
 use Rattle.sw_object_steps.specs.declared.change.Change.{Change}
-use Rattle.sw_object_steps.specs.declared.change.Change.TheVariants.{Put, Post, Delete, Receive}
+use Rattle.sw_object_steps.specs.declared.change.Change.TheVariants.{Put, Post, Delete, Receive, MarkRecord, DropRecord}
 
 -- ---- outlines
 
@@ -54,6 +55,8 @@ pub expiry-unasked : (o : Outline) (e f : Option ℕ) (change : Change) → asks
 expiry-unasked o e f (Put time content none_match) unasked = refl
 expiry-unasked o e f (Post time heads) unasked = refl
 expiry-unasked o e f (Receive write) unasked = refl
+expiry-unasked o e f (MarkRecord filed device) unasked = refl
+expiry-unasked o e f (DropRecord filed all) unasked = refl
 expiry-unasked o e f (Delete time None) unasked = refl
 expiry-unasked o e f (Delete time (Some second)) unasked = by (standing_time o) unasked
   where
@@ -71,6 +74,7 @@ is_refusal (answers.Mismatch second) = true
 is_refusal answers.Exists = true
 is_refusal (answers.Done front) = false
 is_refusal (answers.Buried front) = false
+is_refusal (answers.Took is) = false
 is_refusal answers.JournalFull = false
 is_refusal (answers.Damaged bad) = false
 is_refusal answers.Failed = false
@@ -123,6 +127,8 @@ refusals o expiry (Delete time if_delete_at) = deletions o expiry time if_delete
 refusals o expiry (Receive w) =
     either (is_new_to o w.time (tag_of w.kind)) None (Some (answers.Conflict (latest_time o (tag_of w.kind)))) none
     (one (answers.Conflict (latest_time o (tag_of w.kind))) refl)
+refusals o expiry (MarkRecord filed device) = none
+refusals o expiry (DropRecord filed all) = none
 
 -- ---- a step that isn't refused brings something new
 
@@ -166,16 +172,20 @@ new-expiring (Some (Object at)) expiry time second is = let lt : nat_lt at time 
     passed-too (nat_lt at time) (expiry_refusal expiry second) (answers.Conflict at) is in rw lt refl
 new-expiring (Some (Tombstone at)) expiry time second is = passed-too (nat_lt at time) (expiry_refusal expiry second) (answers.Conflict at) is
 
-allowed : (o : Outline) (expiry : Option ℕ) (change : Change) → refusal_by o expiry change ≡ None →
+allowed : (o : Outline) (expiry : Option ℕ) (change : Change) → is_write change ≡ true → refusal_by o expiry change ≡ None →
     is_new_to o (write_of change).time (tag_of (write_of change).kind) ≡ true
-allowed o expiry (Put time content none_match) is = new-put o.base time (none_match && has_object o) is
-allowed o expiry (Post time heads) is = new-post o.base o.meta time is
-allowed o expiry (Delete time None) is = new-deletion o.base time is
-allowed o expiry (Delete time (Some second)) is = new-expiring o.base expiry time second is
-allowed o expiry (Receive w) is = passed (is_new_to o w.time (tag_of w.kind)) (answers.Conflict (latest_time o (tag_of w.kind))) is
+allowed o expiry (Put time content none_match) writes is = new-put o.base time (none_match && has_object o) is
+allowed o expiry (Post time heads) writes is = new-post o.base o.meta time is
+allowed o expiry (Delete time None) writes is = new-deletion o.base time is
+allowed o expiry (Delete time (Some second)) writes is = new-expiring o.base expiry time second is
+allowed o expiry (Receive w) writes is = passed (is_new_to o w.time (tag_of w.kind)) (answers.Conflict (latest_time o (tag_of w.kind))) is
+allowed o expiry (MarkRecord filed device) writes is = cc
+allowed o expiry (DropRecord filed all) writes is = cc
 
-pub allowed-new : (s : State) (change : Change) → refusal_of s change ≡ None → is_new s (write_of change).time (tag_of (write_of change).kind) ≡ true
-allowed-new s change is = sym (outline-new s (write_of change).time (tag_of (write_of change).kind)) ∙ allowed (outline_of s) (standing_expiry s) change is
+pub allowed-new : (s : State) (change : Change) → is_write change ≡ true → refusal_of s change ≡ None
+    → is_new s (write_of change).time (tag_of (write_of change).kind) ≡ true
+allowed-new s change writes is =
+    sym (outline-new s (write_of change).time (tag_of (write_of change).kind)) ∙ allowed (outline_of s) (standing_expiry s) change writes is
 
 -- what stands has already what it refuses to take over
 pub refused-held : (s : State) (w : Write) (answer : Answer) → refusal_of s (Receive w) ≡ Some answer → joined s w ≡ s

@@ -13,7 +13,7 @@ pub outline_tells : OutlineTells
 outline_tells s time tag = outline-new s time tag
 
 pub allowed_changes : AllowedChanges
-allowed_changes s change allowed same = apart (sym ((new_changes s (write_of change)).1 same) ∙ allowed-new s change allowed)
+allowed_changes s change writes allowed same = apart (sym ((new_changes s (write_of change)).1 same) ∙ allowed-new s change writes allowed)
   where
     apart : false ≡ true → ⊥
     apart is = cc

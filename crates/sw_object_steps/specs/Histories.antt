@@ -11,8 +11,9 @@ use Rattle.sw_object_steps.specs.declared.got.Got.{Got}
 use Rattle.sw_object_steps.specs.declared.got.Got.TheVariants as gots
 use Rattle.sw_state.specs.declared.state.State.{State}
 use Rattle.sw_step.specs.Steps.{IsDamaged, IsLost, IsWanting, Look, StepChanges, StepReads, Tells}
+use Rattle.sw_object_steps.specs.Recorded.{doubts_records, doubts_write}
 use Rattle.sw_object_steps.specs.Rules.{ObjHistory, Writes, obj_rules}
-use Rattle.sw_object_steps.specs.Values.{ObjValue}
+use Rattle.sw_object_steps.specs.Values.{ObjValue, Records}
 
 -- a step that may change what stands under a name
 abbrev pub ChangesObject : Bool → ObjHistory → (Hash → ObjValue) → Name → Change → Answer → ObjHistory → ObjValue → Type 0
@@ -34,7 +35,7 @@ is_wanting_by look = false
 -- a step that reads what stands under a hash: where the lock is told, the answer is that of one value
 abbrev pub ReadsObject : Bool → ObjHistory → Hash → Got → ObjHistory → (Hash → ObjValue) → Type 0
 ReadsObject alone h hash got g t =
-    StepReads obj_rules alone h (λ key. bytes_eq key hash) (λ doubt. true) got_look (λ read front x. Shows g.told (read hash).state front x) got g t
+    StepReads obj_rules alone h (λ key. bytes_eq key hash) doubts_write got_look (λ read front x. Shows g.told (read hash).state front x) got g t
 
 module _ {A : Type 0} where
   abbrev pub part_look : Result A DirFault → Look
@@ -51,4 +52,15 @@ module _ {A : Type 0} where
   -- a step that reads these hashes of a partition, where `reading` tells which answers are right
   abbrev pub ReadsPart : Bool → ObjHistory → (Hash → Bool) → ((Hash → State) → A → Type 0) → Result A DirFault → ObjHistory → (Hash → ObjValue) → Type 0
   ReadsPart alone h at reading got g t =
-      StepReads obj_rules alone h at (λ doubt. true) part_look (λ read front x. IsGiven reading read x) got g t
+      StepReads obj_rules alone h at doubts_write part_look (λ read front x. IsGiven reading read x) got g t
+
+  -- the answer is right of these records
+  abbrev pub IsRecorded : ((Hash → Records) → A → Type 0) → (Hash → ObjValue) → Result A DirFault → Type 0
+  IsRecorded reading read (Ok got) = reading (λ hash. (read hash).records) got
+  IsRecorded reading read (Err fault) = ⊥
+
+  -- a step that reads the records that are filed under these hashes
+  abbrev pub ReadsRecords : Bool → ObjHistory → (Hash → Bool) → ((Hash → Records) → A → Type 0) → Result A DirFault → ObjHistory → (Hash → ObjValue)
+      → Type 0
+  ReadsRecords alone h at reading got g t =
+      StepReads obj_rules alone h at doubts_records part_look (λ read front x. IsRecorded reading read x) got g t

@@ -1,8 +1,7 @@
--- The journal of an object lock: the writes that were made since it began, and those that may have been; its limits; and what a read of an object
+-- The journal of an object lock: what was made since it began, and what may have been; its limits; and what a read of an object
 -- shows. (This project's own; what is shown is that of OpenStack Swift's object server.)
 use Rattle.std.specs.Prelude.{◌≡◌, ⊤, ℕ, ◌+◌, Bool, true, false, ◌&&◌, nat_le, List, [], ◌∷◌, ◌++◌, length, if◌then◌else◌}
 use Rattle.std.specs.Str.{bytes_eq}
-use Rattle.sw_hashpath.specs.declared.name.Name.{Name}
 use Rattle.sw_state.specs.declared.state.State.{State}
 use Rattle.sw_state.specs.declared.write.Kind.{Kind}
 use Rattle.sw_state.specs.declared.write.Kind.TheVariants as kinds
@@ -10,7 +9,7 @@ use Rattle.sw_state.specs.declared.write.Write.{Write}
 use Rattle.sw_history.specs.Halves.{JournalOf}
 use Rattle.sw_object_steps.specs.Steps.{got_of}
 use Rattle.sw_object_steps.specs.declared.entry.ObjEntry.{ObjEntry}
-use Rattle.sw_object_steps.specs.declared.entry.ObjEntry.TheVariants.{Wrote}
+use Rattle.sw_object_steps.specs.declared.entry.ObjEntry.TheVariants.{Dropped, Files, Marked, Wrote}
 use Rattle.sw_object_steps.specs.declared.got.Got.{Got}
 use Rattle.sw_object_steps.specs.declared.got.Got.TheVariants as gots
 
@@ -24,7 +23,10 @@ Journal = JournalOf ObjEntry ObjEntry
 -- the writes of a hash among the entries, in order
 abbrev pub written : Hash → List ObjEntry → List Write
 written hash [] = []
-written hash (Wrote name write ∷ entries) = if bytes_eq name.hash hash then write ∷ written hash entries else written hash entries
+written hash (Wrote name write records ∷ entries) = if bytes_eq name.hash hash then write ∷ written hash entries else written hash entries
+written hash (Files by filed ∷ entries) = written hash entries
+written hash (Marked by filed device ∷ entries) = written hash entries
+written hash (Dropped by filed ∷ entries) = written hash entries
 
 -- ---- limits
 
@@ -33,25 +35,32 @@ body_size (kinds.Put content) = length content.body
 body_size kinds.Del = 0
 body_size (kinds.Meta heads) = 0
 
+-- how large the body in an entry is
+abbrev pub entry_size : ObjEntry → ℕ
+entry_size (Wrote name write records) = body_size write.kind
+entry_size (Files by filed) = 0
+entry_size (Marked by filed device) = 0
+entry_size (Dropped by filed) = 0
+
 abbrev pub bodies : List ObjEntry → ℕ
 bodies [] = 0
-bodies (Wrote name write ∷ entries) = body_size write.kind + bodies entries
+bodies (entry ∷ entries) = entry_size entry + bodies entries
 
--- whether there is room for one entry more, with this write
-abbrev pub has_room : Journal → Write → Bool
-has_room j w =
+-- whether there is room for this entry
+abbrev pub has_room : Journal → ObjEntry → Bool
+has_room j entry =
     nat_le (length j.entries + length j.doubts + 1) j.max_entries
-    && nat_le (bodies j.entries + bodies j.doubts + body_size w.kind) j.max_bytes
+    && nat_le (bodies j.entries + bodies j.doubts + entry_size entry) j.max_bytes
 
--- ---- one write more
+-- ---- one entry more
 
--- it was made
-abbrev pub with_entry : Journal → Name → Write → Journal
-with_entry j name w = record j { entries = j.entries ++ Wrote name w ∷ [] }
+-- what it tells was made
+abbrev pub with_entry : Journal → ObjEntry → Journal
+with_entry j entry = record j { entries = j.entries ++ entry ∷ [] }
 
 -- it may have been made
-abbrev pub with_doubt : Journal → Name → Write → Journal
-with_doubt j name w = record j { doubts = j.doubts ++ Wrote name w ∷ [] }
+abbrev pub with_doubt : Journal → ObjEntry → Journal
+with_doubt j entry = record j { doubts = j.doubts ++ entry ∷ [] }
 
 -- ---- a read of what stands for s, with this front
 abbrev pub Shows : Bool → State → ℕ → Got → Type 0

@@ -6,6 +6,7 @@ pub mod Laws
 pub mod OutlineLaws
 pub mod Outlines
 pub mod Parts
+pub mod Recorded
 pub mod Rules
 pub mod Singles
 pub mod Steps

@@ -17,19 +17,21 @@ use Rattle.sw_object_steps.specs.Outlines.{has_object, is_new_to, outline_of, sh
 use Rattle.sw_object_steps.specs.declared.answer.Answer.{Answer}
 use Rattle.sw_object_steps.specs.declared.answer.Answer.TheVariants as answers
 use Rattle.sw_object_steps.specs.declared.change.Change.{Change}
-use Rattle.sw_object_steps.specs.declared.change.Change.TheVariants.{Put, Post, Delete, Receive}
+use Rattle.sw_object_steps.specs.declared.change.Change.TheVariants.{Put, Post, Delete, Receive, MarkRecord, DropRecord}
 use Rattle.sw_object_steps.specs.declared.change.StepKind.{StepKind}
 use Rattle.sw_object_steps.specs.declared.change.StepKind.TheVariants as step_kinds
 use Rattle.sw_object_steps.specs.declared.got.Got.{Got}
 use Rattle.sw_object_steps.specs.declared.got.Got.TheVariants as gots
 use Rattle.sw_object_steps.specs.declared.outline.Outline.{Outline}
 
--- the write that the step adds where it isn't refused
+-- the write that the step adds where it isn't refused. One at a record adds none, and nothing asks for it
 abbrev pub write_of : Change → Write
 write_of (Put time content none_match) = record { time = time; kind = kinds.Put content }
 write_of (Post time heads) = record { time = time; kind = kinds.Meta heads }
 write_of (Delete time if_delete_at) = record { time = time; kind = kinds.Del }
 write_of (Receive write) = write
+write_of (MarkRecord filed device) = record { time = filed.time; kind = kinds.Del }
+write_of (DropRecord filed all) = record { time = filed.time; kind = kinds.Del }
 
 abbrev pub time_in : Change → ℕ
 time_in change = (write_of change).time
@@ -42,6 +44,8 @@ step_kind (Put time content none_match) = step_kinds.Put
 step_kind (Post time heads) = step_kinds.Post
 step_kind (Delete time if_delete_at) = step_kinds.Delete
 step_kind (Receive write) = step_kinds.Receive
+step_kind (MarkRecord filed device) = step_kinds.MarkRecord
+step_kind (DropRecord filed all) = step_kinds.DropRecord
 
 -- ---- refusals
 
@@ -99,6 +103,8 @@ refusal_by o expiry (Put time content none_match) = put_refusal o time none_matc
 refusal_by o expiry (Post time heads) = post_refusal o time
 refusal_by o expiry (Delete time if_delete_at) = deletion_refusal o expiry time if_delete_at
 refusal_by o expiry (Receive write) = transfer_refusal o write.time (tag_of write.kind)
+refusal_by o expiry (MarkRecord filed device) = None
+refusal_by o expiry (DropRecord filed all) = None
 
 abbrev pub refusal_of : State → Change → Option Answer
 refusal_of s change = refusal_by (outline_of s) (standing_expiry s) change
@@ -114,6 +120,8 @@ asks_expiry o (Put time content none_match) = false
 asks_expiry o (Post time heads) = false
 asks_expiry o (Delete time if_delete_at) = asks_expiry_after (standing_time o) if_delete_at time
 asks_expiry o (Receive write) = false
+asks_expiry o (MarkRecord filed device) = false
+asks_expiry o (DropRecord filed all) = false
 
 -- ---- answers
 
@@ -121,12 +129,14 @@ abbrev pub deletion_answer : Bool → ℕ → Answer
 deletion_answer true front = answers.Done front
 deletion_answer false front = answers.Buried front
 
--- what a step that is made is answered, with this front
+-- what a write that is made is answered, with this front
 abbrev pub made_answer : Outline → Change → ℕ → Answer
 made_answer o (Put time content none_match) front = answers.Done front
 made_answer o (Post time heads) front = answers.Done front
 made_answer o (Delete time if_delete_at) front = deletion_answer (has_object o) front
 made_answer o (Receive write) front = answers.Done front
+made_answer o (MarkRecord filed device) front = answers.Done front
+made_answer o (DropRecord filed all) front = answers.Done front
 
 -- whether the answer says that the write was entered
 abbrev pub is_entered : Answer → Bool

@@ -45,7 +45,7 @@ impl ChangeSeen {
         self.kind
     }
 
-    /// The time of the write that it adds where it isn't refused.
+    /// The time of the write that it adds where it isn't refused, or of its record.
     pub fn time(&self) -> Timestamp
         ensures { result ≡ time_in self.now }
     {

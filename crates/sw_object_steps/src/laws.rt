@@ -8,7 +8,7 @@ pub fn outline_tells()
     ensures { OutlineTells }
 {}
 
-/// What isn't refused changes what stands.
+/// A write that isn't refused changes what stands.
 pub fn allowed_changes()
     ensures { AllowedChanges }
 {}

@@ -4,6 +4,9 @@
 //! answered by what `specs/Parts` tells. All of it is told by an [`Outline`], which is what the names of a hash's files tell: [`refusal`] and
 //! [`made_answer`] say which answer it gives. `specs/Steps` has what a step writes.
 //!
+//! Beside its state a hash has the records of updates that are filed there. Steps mark and drop them (`specs/Recorded`); a write has a list of those
+//! that it files, and none files any yet.
+//!
 //! `specs/Values` says what stands under a hash, and `specs/Rules` by which rules the steps at it go, in the words of `sw_step`: what each enters, what
 //! an entry leaves, what refuses a step, and how its answer ended. `specs/Histories` has what a step that changes or reads an object is by them. So what
 //! follows of any rules follows here; [`laws`] has that these are rules.
@@ -26,7 +29,7 @@ pub use answer::Answer;
 pub use change::{Change, StepKind};
 pub use change_seen::ChangeSeen;
 pub use dir_fault::DirFault;
-pub use entry::{Added, Brief, ObjEntry};
+pub use entry::{Added, Brief, BriefKind, FiledList, ObjEntry};
 pub use got::Got;
 pub use outline::{Mark, Outline, standing_expiry};
 pub use refusing::{made_answer, refusal};

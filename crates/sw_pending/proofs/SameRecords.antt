@@ -20,6 +20,9 @@ same_records f g same =
     let P : Plain → Type 0 = λ p. (right : is_queue_right p.queue p.name.account ≡ true) (order : are_in_order p.done ≡ true) → f ≡ record_with p right order in
     subst P same (λ right order. same_proofs (plain f) f.queue_right right f.in_order order) g.queue_right g.in_order
 
+pub same_parts : (f g : Filed) → f.name ≡ g.name → f.time ≡ g.time → f.queue ≡ g.queue → f.done ≡ g.done → f ≡ g
+same_parts f g name time queue done = same_records f g (rw (name, time, queue, done) refl)
+
 -- with its proofs at hand, the plain form is the record
 if_again : (p : Plain) (right : is_queue_right p.queue p.name.account ≡ true) (order : are_in_order p.done ≡ true) (a b : Bool)
     (e : is_queue_right p.queue p.name.account ≡ a) (f : are_in_order p.done ≡ b) → record_if p a b e f ≡ Some (record_with p right order)

@@ -1,4 +1,4 @@
-ghost use Rattle.std.specs.Prelude.{◌≡◌, true, IfOk};
+ghost use Rattle.std.specs.Prelude.{◌≡◌, ◌↔◌, true, IfOk};
 ghost use Rattle.sw_pending.specs.Rules.{are_in_order, is_queue_account, is_queue_right};
 
 use std::alloc::Global;
@@ -41,6 +41,16 @@ impl Filed {
         devices.is_sorted_by(|one, next| *one < *next)
     }
 
+    /// Whether it is the other record: it has its name, time, kind and devices.
+    pub fn is_same(&self, other: &Filed) -> bool
+        ensures { (result ≡ true) ↔ (self.now ≡ other.now) }
+    {
+        is_same_name(&self.name, &other.name)
+            && self.time == other.time
+            && self.queue == other.queue
+            && self.done.as_slice() == other.done.as_slice()
+    }
+
     /// A record that is equal to this one, or [`NoMemory`].
     pub fn copy(&self, alloc: Global) -> Result<Filed, NoMemory>
         ensures { IfOk result (λ copy. copy ≡ self.now) }
@@ -52,6 +62,15 @@ impl Filed {
             done: self.done.copy(alloc)?,
         })
     }
+}
+
+fn is_same_name(one: &Name, other: &Name) -> bool
+    ensures { (result ≡ true) ↔ (one.now ≡ other.now) }
+{
+    one.hash == other.hash
+        && one.account.as_slice() == other.account.as_slice()
+        && one.container.as_slice() == other.container.as_slice()
+        && one.object.as_slice() == other.object.as_slice()
 }
 
 impl TryCopy for Filed {

@@ -48,6 +48,7 @@ pub fn folder(hash: &[u8; 16]) -> [u8; FOLDER_LENGTH]
 pub fn write_name(key: &RecordKey, out: &mut [u8; NAME_ROOM]) -> usize
     ensures count { result ≡ length (name_text key.now) }
     ensures text { out.new ≡ name_text key.now ++ drop result out.old }
+    ensures key { IsKey key.now }
 {
     let mut room = [0; 33];
     let count = key.time.write_text(&mut room);

@@ -16,3 +16,6 @@ returns-clause-text c =
     rw (c.copy_from_slice-2.ensures.after, digits, time)
     (name_pieces (encode_lower key.hash) (text_of key.time) c.args.out.now count (hex_length key.hash c.hex_text.ensures.rule.0)
     (sym c.write_text-count.ensures.count))
+
+pub returns-clause-key : goal.returns-clause-key
+returns-clause-key c = record { hash = c.hex_text.ensures.rule; time = c.write_text-count.ensures.bound }

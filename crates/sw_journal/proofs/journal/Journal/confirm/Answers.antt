@@ -1,4 +1,4 @@
-use Rattle.std.proofs.Common.{◌≡◌, [], ◌∷◌, ◌++◌, sym, ◌∙◌, ap}
+use Rattle.std.proofs.Common.{[], ◌∷◌, ◌++◌, sym, ◌∙◌, ap}
 use Rattle.sw_object_steps.specs.declared.entry.ObjEntry.{ObjEntry}
 use Rattle.std.proofs.lemmas.List.{append-nil}
 use Rattle.sw_journal.proofs.Counting.{counted-entered}

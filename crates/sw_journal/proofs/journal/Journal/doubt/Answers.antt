@@ -1,7 +1,6 @@
-use Rattle.std.proofs.Common.{◌≡◌, ◌≤◌, ◌+◌, ◌∙◌, ap, sym, subst, refl, arith, length}
+use Rattle.std.proofs.Common.{◌≤◌, ◌+◌, ◌∙◌, ap, sym, subst, refl, arith, length}
 use Rattle.sw_journal.proofs.Counting.{counted-doubted}
-use Rattle.sw_object_steps.specs.Journals.{Journal, bodies}
-use Rattle.sw_journal.specs.Entries.{entry_size}
+use Rattle.sw_object_steps.specs.Journals.{Journal, bodies, entry_size}
 use Rattle.sw_journal.proofs.journal.Journal.doubt.Goals as goal
 
 pub invariant_of-self-2 : goal.invariant_of-self-2

@@ -1,4 +1,4 @@
-use Rattle.std.proofs.Common.{◌≡◌, ◌≤◌, [], ◌∷◌, ◌++◌, sym, ◌∙◌, subst, ℕ}
+use Rattle.std.proofs.Common.{◌≤◌, [], sym, subst, ℕ}
 use Rattle.std.proofs.lemmas.List.{append-nil}
 use Rattle.sw_journal.proofs.Counting.{counted-gone, sized}
 use Rattle.sw_journal.proofs.journal.Journal.withdraw.Goals as goal

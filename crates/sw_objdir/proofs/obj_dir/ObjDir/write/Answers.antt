@@ -9,9 +9,11 @@ use Rattle.sw_diskfile.specs.declared.file_name.FileName.{FileName}
 use Rattle.sw_hashdir.specs.Places.{dir_text}
 use Rattle.sw_hashdir.specs.Steps.{IsNewIn, IsOurs, Joins, JoinsAll, Keeps, MayJoin, Writes}
 use Rattle.sw_objdir.proofs.Deciding.{written-made}
-use Rattle.sw_objdir.proofs.Looking.{dir-moved, looks-moved, looks-refl, step-unsettled, tells-now}
+use Rattle.sw_objdir.proofs.Looking.{dir-moved, looks-moved, looks-refl, step-unsettled, tells-now, values-same}
 use Rattle.sw_objdir.proofs.Making.{confirmed, dir-doubted, dir-entered, in-doubt, is-new-in, last, own-doubt, step-doubts, step-enters, up-from, withdrawn}
-use Rattle.sw_objdir.specs.Calling.{WritesFile}
+use Rattle.sw_objdir.proofs.Standing.{may-keeps, writes-keep}
+use Rattle.sw_objdir.specs.Calling.{WritesFile, entry_of}
+use Rattle.sw_pending_dir.specs.Steps.{KeepsRecords}
 use Rattle.sw_objdir.specs.Directories.{Kept, is_told}
 use Rattle.sw_objdir.specs.Stepping.{IsSeenAs}
 use Rattle.sw_step.specs.Rules.{Wants}
@@ -29,7 +31,7 @@ returns-in_default-clause-made g c =
     let v = g.V.Volume in let i = c.self.inside in
     let k : Kept _ = record { volume = i.volume; began = i.opening.value; secrets = i.secrets; power = i.power; journal = i.journal } in
     let name = c.args.name.now in let change = c.args.change in let o = c.args.seen.now.outline in let w = write_of change in
-    rw (sym c.self.view_is) (step-unsettled v.tells v.holds v.faults k k c.self.invariant name
+    rw (sym c.self.view_is) (step-unsettled v.tells v.holds v.faults k k (λ hash. refl) name
     (looks-refl v.tells v.holds v.faults k) change answers.NoMemory Wants refl (record { not_made = refl; same = refl }) c.self.invariant
     (λ is. cc) (λ is. cc))
 
@@ -38,7 +40,7 @@ returns-in_default-doubt-clause-made g c =
     let v = g.V.Volume in let i = c.self.inside in
     let k : Kept _ = record { volume = i.volume; began = i.opening.value; secrets = i.secrets; power = i.power; journal = i.journal } in
     let name = c.args.name.now in let change = c.args.change in let o = c.args.seen.now.outline in let w = write_of change in
-    rw (sym c.self.view_is, c.in_default-doubt.ensures.err) (step-unsettled v.tells v.holds v.faults k k c.self.invariant name
+    rw (sym c.self.view_is, c.in_default-doubt.ensures.err) (step-unsettled v.tells v.holds v.faults k k (λ hash. refl) name
     (looks-refl v.tells v.holds v.faults k) change answers.NoMemory Wants refl (record { not_made = refl; same = refl }) c.self.invariant
     (λ is. cc) (λ is. cc))
 
@@ -57,22 +59,27 @@ invariant_of-self-in-Ok-write_file g c =
     (sym c.self.view_is) c.requires.names in
     let stood : IsSeenAs v.tells v.holds v.faults k name.hash o change None =
     subst (λ (x : Kept _). IsSeenAs v.tells v.holds v.faults x name.hash o change None) (sym c.self.view_is) c.requires.stood in
-    let room : has_room k.journal w ≡ true = subst (λ (x : Kept _). has_room x.journal w ≡ true) (sym c.self.view_is) c.requires.room in
-    let entry : c.in-Ok.entry ≡ Wrote name w = c.in-Ok.ensures ∙ ap (λ (x : Write). Wrote name x) c.into_write.ensures in
+    let room : has_room k.journal (entry_of name change) ≡ true = subst (λ (x : Kept _). has_room x.journal (entry_of name change) ≡ true)
+    (sym c.self.view_is) c.requires.room in
+    let entry : c.in-Ok.entry ≡ Wrote name w [] = c.in-Ok.ensures ∙ ap (λ (x : Write). Wrote name x []) c.into_write.ensures in
     let doubted = c.in-Ok-doubt.ensures.ok in
     let new-in : is_told v.tells v.holds v.faults k ≡ true → IsNewIn k.secrets k.power (v.holds k.volume) c.args.dir.now c.args.seen.now.names.items name w =
-    is-new-in v.tells v.holds v.faults k c.self.invariant name settled change ours o stood room c.args.dir.now c.args.seen.now.names.items path_is names in
+    is-new-in v.tells v.holds v.faults k c.self.invariant name settled change c.requires.writes ours o stood room c.args.dir.now
+    c.args.seen.now.names.items path_is names in
     let tells : is_told v.tells v.holds v.faults k ≡ true → v.tells k.volume ≡ true = tells-now v.tells v.holds v.faults k c.self.invariant in
-    let write_is : c.last_doubted-write.result.now ≡ w = c.last_doubted-write.ensures k.journal.doubts name w
+    let write_is : c.last_doubted-write.result.now ≡ w = c.last_doubted-write.ensures k.journal.doubts name w []
     (last k.journal c.doubt.new.self c.in-Ok.entry name w doubted entry ∙ ap (λ (x : ObjEntry). k.journal.doubts ++ x ∷ []) entry) in
+    let records : is_told v.tells v.holds v.faults k ≡ true → KeepsRecords k.secrets (v.holds k.volume) (v.holds c.write_file.new.volume) = λ told.
+    writes-keep k.secrets (v.holds k.volume) (v.holds c.write_file.new.volume) k.power name.hash c.args.dir.now path_is c.deref.result.now name
+    c.last_doubted-write.result.now (v.faults k.volume) (v.faults c.write_file.new.volume) (c.in-Ok-write_file.ensures.ok (tells told)) in
     let joins : is_told v.tells v.holds v.faults k ≡ true → Joins k.secrets k.power name.hash w (v.holds k.volume) (v.holds c.write_file.new.volume) = λ told.
     (subst (λ (x : Write). JoinsAll (v.holds k.volume) (v.holds c.write_file.new.volume) c.args.dir.now c.args.seen.now.names.items name x) write_is
     (subst (λ (fs : List FileName). JoinsAll (v.holds k.volume) (v.holds c.write_file.new.volume) c.args.dir.now fs name c.last_doubted-write.result.now)
     c.deref.ensures.value (c.in-Ok-write_file.ensures.joins (tells told)))) k.secrets k.power (new-in told) in
-    let confirms : c.confirm.new.self ≡ with_entry k.journal name w = confirmed k.journal c.doubt.new.self c.in-Ok.entry name w doubted entry
+    let confirms : c.confirm.new.self ≡ with_entry k.journal (Wrote name w []) = confirmed k.journal c.doubt.new.self c.in-Ok.entry name w doubted entry
     c.confirm.new.self c.confirm.ensures in
-    rw confirms (dir-entered v.tells v.holds v.faults k c.self.invariant name settled change ours o stood room c.write_file.new.volume c.write_file.ensures.told
-    c.write_file.ensures.later joins)
+    rw confirms (dir-entered v.tells v.holds v.faults k c.self.invariant name settled change c.requires.writes ours o stood room c.write_file.new.volume
+    c.write_file.ensures.told c.write_file.ensures.later records joins)
 
 pub invariant_of-self-in-Err-Failed : goal.invariant_of-self-in-Err-Failed
 invariant_of-self-in-Err-Failed g c =
@@ -89,29 +96,36 @@ invariant_of-self-in-Err-Failed g c =
     (sym c.self.view_is) c.requires.names in
     let stood : IsSeenAs v.tells v.holds v.faults k name.hash o change None =
     subst (λ (x : Kept _). IsSeenAs v.tells v.holds v.faults x name.hash o change None) (sym c.self.view_is) c.requires.stood in
-    let room : has_room k.journal w ≡ true = subst (λ (x : Kept _). has_room x.journal w ≡ true) (sym c.self.view_is) c.requires.room in
-    let entry : c.in-Ok.entry ≡ Wrote name w = c.in-Ok.ensures ∙ ap (λ (x : Write). Wrote name x) c.into_write.ensures in
+    let room : has_room k.journal (entry_of name change) ≡ true = subst (λ (x : Kept _). has_room x.journal (entry_of name change) ≡ true)
+    (sym c.self.view_is) c.requires.room in
+    let entry : c.in-Ok.entry ≡ Wrote name w [] = c.in-Ok.ensures ∙ ap (λ (x : Write). Wrote name x []) c.into_write.ensures in
     let doubted = c.in-Ok-doubt.ensures.ok in
     let new-in : is_told v.tells v.holds v.faults k ≡ true → IsNewIn k.secrets k.power (v.holds k.volume) c.args.dir.now c.args.seen.now.names.items name w =
-    is-new-in v.tells v.holds v.faults k c.self.invariant name settled change ours o stood room c.args.dir.now c.args.seen.now.names.items path_is names in
+    is-new-in v.tells v.holds v.faults k c.self.invariant name settled change c.requires.writes ours o stood room c.args.dir.now
+    c.args.seen.now.names.items path_is names in
     let tells : is_told v.tells v.holds v.faults k ≡ true → v.tells k.volume ≡ true = tells-now v.tells v.holds v.faults k c.self.invariant in
-    let write_is : c.last_doubted-write.result.now ≡ w = c.last_doubted-write.ensures k.journal.doubts name w
+    let write_is : c.last_doubted-write.result.now ≡ w = c.last_doubted-write.ensures k.journal.doubts name w []
     (last k.journal c.doubt.new.self c.in-Ok.entry name w doubted entry ∙ ap (λ (x : ObjEntry). k.journal.doubts ++ x ∷ []) entry) in
+    let records : is_told v.tells v.holds v.faults k ≡ true → KeepsRecords k.secrets (v.holds k.volume) (v.holds c.write_file.new.volume) = λ told.
+    may-keeps k.secrets (v.holds k.volume) (v.holds c.write_file.new.volume) k.power name.hash c.args.dir.now path_is
+    (name_text (name_of c.last_doubted-write.result.now))
+    (Some (file_text name.account name.container name.object c.last_doubted-write.result.now))
+    ((rw c.in-Err-Failed.field-0-is at c.in-Err-Failed.ensures.failed) (tells told)) in
     let may : is_told v.tells v.holds v.faults k ≡ true → Keeps k.secrets k.power name.hash (v.holds k.volume) (v.holds c.write_file.new.volume)
     ⊎ Joins k.secrets k.power name.hash w (v.holds k.volume) (v.holds c.write_file.new.volume) = λ told.
     (subst (λ (x : Write). MayJoin (v.holds k.volume) (v.holds c.write_file.new.volume) c.args.dir.now c.args.seen.now.names.items name x) write_is
     (subst (λ (fs : List FileName). MayJoin (v.holds k.volume) (v.holds c.write_file.new.volume) c.args.dir.now fs name c.last_doubted-write.result.now)
     c.deref.ensures.value ((rw c.in-Err-Failed.field-0-is at c.in-Err-Failed.ensures.may_join) (tells told)))) k.secrets k.power (new-in told) in
-    let in_doubt : c.doubt.new.self ≡ with_doubt k.journal name w = in-doubt k.journal c.doubt.new.self c.in-Ok.entry name w doubted entry in
-    rw in_doubt (dir-doubted v.tells v.holds v.faults k c.self.invariant name settled change ours o stood room c.write_file.new.volume c.write_file.ensures.told
-    c.write_file.ensures.later may (rw c.in-Err-Failed.field-0-is at c.in-Err-Failed.ensures.risen))
+    let in_doubt : c.doubt.new.self ≡ with_doubt k.journal (Wrote name w []) = in-doubt k.journal c.doubt.new.self c.in-Ok.entry name w doubted entry in
+    rw in_doubt (dir-doubted v.tells v.holds v.faults k c.self.invariant name settled change c.requires.writes ours o stood room c.write_file.new.volume
+    c.write_file.ensures.told c.write_file.ensures.later records may (rw c.in-Err-Failed.field-0-is at c.in-Err-Failed.ensures.risen))
 
 pub invariant_of-self-in-Err-NoMemory : goal.invariant_of-self-in-Err-NoMemory
 invariant_of-self-in-Err-NoMemory g c =
     let v = g.V.Volume in let i = c.self.inside in
     let k : Kept _ = record { volume = i.volume; began = i.opening.value; secrets = i.secrets; power = i.power; journal = i.journal } in
     let name = c.args.name.now in let change = c.args.change in let o = c.args.seen.now.outline in let w = write_of change in
-    let entry : c.in-Ok.entry ≡ Wrote name w = c.in-Ok.ensures ∙ ap (λ (x : Write). Wrote name x) c.into_write.ensures in
+    let entry : c.in-Ok.entry ≡ Wrote name w [] = c.in-Ok.ensures ∙ ap (λ (x : Write). Wrote name x []) c.into_write.ensures in
     let back : c.withdraw.new.self ≡ k.journal = withdrawn k.journal c.doubt.new.self c.in-Ok.entry name w c.in-Ok-doubt.ensures.ok entry c.withdraw.new.self
     c.withdraw.ensures in
     rw back (dir-moved v.tells v.holds v.faults k c.write_file.new.volume c.self.invariant c.write_file.ensures.told
@@ -132,23 +146,29 @@ returns-in-Ok-write_file-clause-made g c =
     (sym c.self.view_is) c.requires.names in
     let stood : IsSeenAs v.tells v.holds v.faults k name.hash o change None =
     subst (λ (x : Kept _). IsSeenAs v.tells v.holds v.faults x name.hash o change None) (sym c.self.view_is) c.requires.stood in
-    let room : has_room k.journal w ≡ true = subst (λ (x : Kept _). has_room x.journal w ≡ true) (sym c.self.view_is) c.requires.room in
-    let entry : c.in-Ok.entry ≡ Wrote name w = c.in-Ok.ensures ∙ ap (λ (x : Write). Wrote name x) c.into_write.ensures in
+    let room : has_room k.journal (entry_of name change) ≡ true = subst (λ (x : Kept _). has_room x.journal (entry_of name change) ≡ true)
+    (sym c.self.view_is) c.requires.room in
+    let entry : c.in-Ok.entry ≡ Wrote name w [] = c.in-Ok.ensures ∙ ap (λ (x : Write). Wrote name x []) c.into_write.ensures in
     let doubted = c.in-Ok-doubt.ensures.ok in
     let new-in : is_told v.tells v.holds v.faults k ≡ true → IsNewIn k.secrets k.power (v.holds k.volume) c.args.dir.now c.args.seen.now.names.items name w =
-    is-new-in v.tells v.holds v.faults k c.self.invariant name settled change ours o stood room c.args.dir.now c.args.seen.now.names.items path_is names in
+    is-new-in v.tells v.holds v.faults k c.self.invariant name settled change c.requires.writes ours o stood room c.args.dir.now
+    c.args.seen.now.names.items path_is names in
     let tells : is_told v.tells v.holds v.faults k ≡ true → v.tells k.volume ≡ true = tells-now v.tells v.holds v.faults k c.self.invariant in
-    let write_is : c.last_doubted-write.result.now ≡ w = c.last_doubted-write.ensures k.journal.doubts name w
+    let write_is : c.last_doubted-write.result.now ≡ w = c.last_doubted-write.ensures k.journal.doubts name w []
     (last k.journal c.doubt.new.self c.in-Ok.entry name w doubted entry ∙ ap (λ (x : ObjEntry). k.journal.doubts ++ x ∷ []) entry) in
+    let records : is_told v.tells v.holds v.faults k ≡ true → KeepsRecords k.secrets (v.holds k.volume) (v.holds c.write_file.new.volume) = λ told.
+    writes-keep k.secrets (v.holds k.volume) (v.holds c.write_file.new.volume) k.power name.hash c.args.dir.now path_is c.deref.result.now name
+    c.last_doubted-write.result.now (v.faults k.volume) (v.faults c.write_file.new.volume) (c.in-Ok-write_file.ensures.ok (tells told)) in
     let joins : is_told v.tells v.holds v.faults k ≡ true → Joins k.secrets k.power name.hash w (v.holds k.volume) (v.holds c.write_file.new.volume) = λ told.
     (subst (λ (x : Write). JoinsAll (v.holds k.volume) (v.holds c.write_file.new.volume) c.args.dir.now c.args.seen.now.names.items name x) write_is
     (subst (λ (fs : List FileName). JoinsAll (v.holds k.volume) (v.holds c.write_file.new.volume) c.args.dir.now fs name c.last_doubted-write.result.now)
     c.deref.ensures.value (c.in-Ok-write_file.ensures.joins (tells told)))) k.secrets k.power (new-in told) in
-    let confirms : c.confirm.new.self ≡ with_entry k.journal name w = confirmed k.journal c.doubt.new.self c.in-Ok.entry name w doubted entry
+    let confirms : c.confirm.new.self ≡ with_entry k.journal (Wrote name w []) = confirmed k.journal c.doubt.new.self c.in-Ok.entry name w doubted entry
     c.confirm.new.self c.confirm.ensures in
     rw (sym c.self.view_is, confirms, c.made_answer-answer.ensures)
-    (step-enters v.tells v.holds v.faults k c.self.invariant name settled change ours o stood room c.write_file.new.volume c.write_file.ensures.told
-    c.write_file.ensures.later joins (c.front.result + 1) (up-from k.journal.entries (Wrote name w) c.front.result c.front.ensures.length))
+    (step-enters v.tells v.holds v.faults k c.self.invariant name settled change c.requires.writes ours o stood room c.write_file.new.volume
+    c.write_file.ensures.told c.write_file.ensures.later records joins (c.front.result + 1)
+    (up-from k.journal.entries (Wrote name w []) c.front.result c.front.ensures.length))
 
 pub returns-in-Ok-write_file-clause-written : goal.returns-in-Ok-write_file-clause-written
 returns-in-Ok-write_file-clause-written g c =
@@ -158,11 +178,11 @@ returns-in-Ok-write_file-clause-written g c =
     let names = c.args.seen.now.names.items in let u = c.write_file.new.volume in
     let path_is : c.args.dir.now ≡ dir_text k.power name.hash = subst (λ (x : Kept _). c.args.dir.now ≡ dir_text x.power name.hash)
     (sym c.self.view_is) c.requires.dir in
-    let entry : c.in-Ok.entry ≡ Wrote name w = c.in-Ok.ensures ∙ ap (λ (x : Write). Wrote name x) c.into_write.ensures in
+    let entry : c.in-Ok.entry ≡ Wrote name w [] = c.in-Ok.ensures ∙ ap (λ (x : Write). Wrote name x []) c.into_write.ensures in
     let doubted = c.in-Ok-doubt.ensures.ok in
-    let write_is : c.last_doubted-write.result.now ≡ w = c.last_doubted-write.ensures k.journal.doubts name w
+    let write_is : c.last_doubted-write.result.now ≡ w = c.last_doubted-write.ensures k.journal.doubts name w []
     (last k.journal c.doubt.new.self c.in-Ok.entry name w doubted entry ∙ ap (λ (x : ObjEntry). k.journal.doubts ++ x ∷ []) entry) in
-    let confirms : c.confirm.new.self ≡ with_entry k.journal name w = confirmed k.journal c.doubt.new.self c.in-Ok.entry name w doubted entry
+    let confirms : c.confirm.new.self ≡ with_entry k.journal (Wrote name w []) = confirmed k.journal c.doubt.new.self c.in-Ok.entry name w doubted entry
     c.confirm.new.self c.confirm.ensures in
     let q : Kept _ = record { volume = u; began = i.opening.value; secrets = i.secrets; power = i.power; journal = c.confirm.new.self } in
     let wrote : WritesFile v.tells v.holds v.faults v.calls v.lists k name w names q = record {
@@ -194,23 +214,30 @@ returns-in-Err-Failed-clause-made g c =
     (sym c.self.view_is) c.requires.names in
     let stood : IsSeenAs v.tells v.holds v.faults k name.hash o change None =
     subst (λ (x : Kept _). IsSeenAs v.tells v.holds v.faults x name.hash o change None) (sym c.self.view_is) c.requires.stood in
-    let room : has_room k.journal w ≡ true = subst (λ (x : Kept _). has_room x.journal w ≡ true) (sym c.self.view_is) c.requires.room in
-    let entry : c.in-Ok.entry ≡ Wrote name w = c.in-Ok.ensures ∙ ap (λ (x : Write). Wrote name x) c.into_write.ensures in
+    let room : has_room k.journal (entry_of name change) ≡ true = subst (λ (x : Kept _). has_room x.journal (entry_of name change) ≡ true)
+    (sym c.self.view_is) c.requires.room in
+    let entry : c.in-Ok.entry ≡ Wrote name w [] = c.in-Ok.ensures ∙ ap (λ (x : Write). Wrote name x []) c.into_write.ensures in
     let doubted = c.in-Ok-doubt.ensures.ok in
     let new-in : is_told v.tells v.holds v.faults k ≡ true → IsNewIn k.secrets k.power (v.holds k.volume) c.args.dir.now c.args.seen.now.names.items name w =
-    is-new-in v.tells v.holds v.faults k c.self.invariant name settled change ours o stood room c.args.dir.now c.args.seen.now.names.items path_is names in
+    is-new-in v.tells v.holds v.faults k c.self.invariant name settled change c.requires.writes ours o stood room c.args.dir.now
+    c.args.seen.now.names.items path_is names in
     let tells : is_told v.tells v.holds v.faults k ≡ true → v.tells k.volume ≡ true = tells-now v.tells v.holds v.faults k c.self.invariant in
-    let write_is : c.last_doubted-write.result.now ≡ w = c.last_doubted-write.ensures k.journal.doubts name w
+    let write_is : c.last_doubted-write.result.now ≡ w = c.last_doubted-write.ensures k.journal.doubts name w []
     (last k.journal c.doubt.new.self c.in-Ok.entry name w doubted entry ∙ ap (λ (x : ObjEntry). k.journal.doubts ++ x ∷ []) entry) in
+    let records : is_told v.tells v.holds v.faults k ≡ true → KeepsRecords k.secrets (v.holds k.volume) (v.holds c.write_file.new.volume) = λ told.
+    may-keeps k.secrets (v.holds k.volume) (v.holds c.write_file.new.volume) k.power name.hash c.args.dir.now path_is
+    (name_text (name_of c.last_doubted-write.result.now))
+    (Some (file_text name.account name.container name.object c.last_doubted-write.result.now))
+    ((rw c.in-Err-Failed.field-0-is at c.in-Err-Failed.ensures.failed) (tells told)) in
     let may : is_told v.tells v.holds v.faults k ≡ true → Keeps k.secrets k.power name.hash (v.holds k.volume) (v.holds c.write_file.new.volume)
     ⊎ Joins k.secrets k.power name.hash w (v.holds k.volume) (v.holds c.write_file.new.volume) = λ told.
     (subst (λ (x : Write). MayJoin (v.holds k.volume) (v.holds c.write_file.new.volume) c.args.dir.now c.args.seen.now.names.items name x) write_is
     (subst (λ (fs : List FileName). MayJoin (v.holds k.volume) (v.holds c.write_file.new.volume) c.args.dir.now fs name c.last_doubted-write.result.now)
     c.deref.ensures.value ((rw c.in-Err-Failed.field-0-is at c.in-Err-Failed.ensures.may_join) (tells told)))) k.secrets k.power (new-in told) in
-    let in_doubt : c.doubt.new.self ≡ with_doubt k.journal name w = in-doubt k.journal c.doubt.new.self c.in-Ok.entry name w doubted entry in
+    let in_doubt : c.doubt.new.self ≡ with_doubt k.journal (Wrote name w []) = in-doubt k.journal c.doubt.new.self c.in-Ok.entry name w doubted entry in
     rw (sym c.self.view_is, in_doubt)
-    (step-doubts v.tells v.holds v.faults k c.self.invariant name settled change ours o stood room c.write_file.new.volume c.write_file.ensures.told
-    c.write_file.ensures.later may (rw c.in-Err-Failed.field-0-is at c.in-Err-Failed.ensures.risen))
+    (step-doubts v.tells v.holds v.faults k c.self.invariant name settled change c.requires.writes ours o stood room c.write_file.new.volume
+    c.write_file.ensures.told c.write_file.ensures.later records may (rw c.in-Err-Failed.field-0-is at c.in-Err-Failed.ensures.risen))
 
 pub returns-in-Err-Failed-clause-written : goal.returns-in-Err-Failed-clause-written
 returns-in-Err-Failed-clause-written g c =
@@ -227,15 +254,17 @@ returns-in-Err-Failed-clause-written g c =
     (sym c.self.view_is) c.requires.names in
     let stood : IsSeenAs v.tells v.holds v.faults k name.hash o change None =
     subst (λ (x : Kept _). IsSeenAs v.tells v.holds v.faults x name.hash o change None) (sym c.self.view_is) c.requires.stood in
-    let room : has_room k.journal w ≡ true = subst (λ (x : Kept _). has_room x.journal w ≡ true) (sym c.self.view_is) c.requires.room in
-    let entry : c.in-Ok.entry ≡ Wrote name w = c.in-Ok.ensures ∙ ap (λ (x : Write). Wrote name x) c.into_write.ensures in
+    let room : has_room k.journal (entry_of name change) ≡ true = subst (λ (x : Kept _). has_room x.journal (entry_of name change) ≡ true)
+    (sym c.self.view_is) c.requires.room in
+    let entry : c.in-Ok.entry ≡ Wrote name w [] = c.in-Ok.ensures ∙ ap (λ (x : Write). Wrote name x []) c.into_write.ensures in
     let doubted = c.in-Ok-doubt.ensures.ok in
     let new-in : is_told v.tells v.holds v.faults k ≡ true → IsNewIn k.secrets k.power (v.holds k.volume) c.args.dir.now c.args.seen.now.names.items name w =
-    is-new-in v.tells v.holds v.faults k c.self.invariant name settled change ours o stood room c.args.dir.now c.args.seen.now.names.items path_is names in
+    is-new-in v.tells v.holds v.faults k c.self.invariant name settled change c.requires.writes ours o stood room c.args.dir.now
+    c.args.seen.now.names.items path_is names in
     let tells : is_told v.tells v.holds v.faults k ≡ true → v.tells k.volume ≡ true = tells-now v.tells v.holds v.faults k c.self.invariant in
-    let write_is : c.last_doubted-write.result.now ≡ w = c.last_doubted-write.ensures k.journal.doubts name w
+    let write_is : c.last_doubted-write.result.now ≡ w = c.last_doubted-write.ensures k.journal.doubts name w []
     (last k.journal c.doubt.new.self c.in-Ok.entry name w doubted entry ∙ ap (λ (x : ObjEntry). k.journal.doubts ++ x ∷ []) entry) in
-    let in_doubt : c.doubt.new.self ≡ with_doubt k.journal name w = in-doubt k.journal c.doubt.new.self c.in-Ok.entry name w doubted entry in
+    let in_doubt : c.doubt.new.self ≡ with_doubt k.journal (Wrote name w []) = in-doubt k.journal c.doubt.new.self c.in-Ok.entry name w doubted entry in
     rw (sym c.self.view_is) (record {
       may = λ told. subst (λ (d : List ℕ). MaySet (contents (v.holds k.volume)) (contents (v.holds c.write_file.new.volume)) d (name_text (name_of w))
           (Some (file_text name.account name.container name.object w))) path_is
@@ -256,10 +285,13 @@ returns-in-Err-NoMemory-clause-made g c =
     let v = g.V.Volume in let i = c.self.inside in
     let k : Kept _ = record { volume = i.volume; began = i.opening.value; secrets = i.secrets; power = i.power; journal = i.journal } in
     let name = c.args.name.now in let change = c.args.change in let o = c.args.seen.now.outline in let w = write_of change in
-    let entry : c.in-Ok.entry ≡ Wrote name w = c.in-Ok.ensures ∙ ap (λ (x : Write). Wrote name x) c.into_write.ensures in
+    let entry : c.in-Ok.entry ≡ Wrote name w [] = c.in-Ok.ensures ∙ ap (λ (x : Write). Wrote name x []) c.into_write.ensures in
     let back : c.withdraw.new.self ≡ k.journal = withdrawn k.journal c.doubt.new.self c.in-Ok.entry name w c.in-Ok-doubt.ensures.ok entry c.withdraw.new.self
     c.withdraw.ensures in
-    rw (sym c.self.view_is, back) (step-unsettled v.tells v.holds v.faults k (record k { volume = c.write_file.new.volume }) c.self.invariant name
+    rw (sym c.self.view_is, back) (step-unsettled v.tells v.holds v.faults k (record k { volume = c.write_file.new.volume })
+    (values-same v.tells v.holds v.faults k (record k { volume = c.write_file.new.volume }) c.self.invariant
+    (record { began = refl; secrets = refl; power = refl; told = c.write_file.ensures.told })
+    (rw c.in-Err-NoMemory.field-0-is at c.in-Err-NoMemory.ensures.no_memory)) name
     (looks-moved v.tells v.holds v.faults k c.write_file.new.volume c.write_file.ensures.told
     (rw c.in-Err-NoMemory.field-0-is at c.in-Err-NoMemory.ensures.no_memory) c.write_file.ensures.later)
     change answers.NoMemory Wants refl (record { not_made = refl; same = refl })
@@ -271,7 +303,7 @@ returns-in-Err-NoMemory-clause-written g c =
     let v = g.V.Volume in let i = c.self.inside in
     let k : Kept _ = record { volume = i.volume; began = i.opening.value; secrets = i.secrets; power = i.power; journal = i.journal } in
     let name = c.args.name.now in let w = write_of c.args.change in
-    let entry : c.in-Ok.entry ≡ Wrote name w = c.in-Ok.ensures ∙ ap (λ (x : Write). Wrote name x) c.into_write.ensures in
+    let entry : c.in-Ok.entry ≡ Wrote name w [] = c.in-Ok.ensures ∙ ap (λ (x : Write). Wrote name x []) c.into_write.ensures in
     let fine = rw c.in-Err-NoMemory.field-0-is at c.in-Err-NoMemory.ensures.kept in
     rw (sym c.self.view_is) (record {
       same = rw c.in-Err-NoMemory.field-0-is at c.in-Err-NoMemory.ensures.no_memory;
@@ -286,8 +318,8 @@ pub returns-in-Ok-write_file-clause-answered : goal.returns-in-Ok-write_file-cla
 returns-in-Ok-write_file-clause-answered g c =
     let i = c.self.inside in let name = c.args.name.now in let change = c.args.change in let o = c.args.seen.now.outline in let w = write_of change in
     let j : Journal = i.journal in
-    let entry : c.in-Ok.entry ≡ Wrote name w = c.in-Ok.ensures ∙ ap (λ (x : Write). Wrote name x) c.into_write.ensures in
-    let confirms : c.confirm.new.self ≡ with_entry j name w = confirmed j c.doubt.new.self c.in-Ok.entry name w c.in-Ok-doubt.ensures.ok entry
+    let entry : c.in-Ok.entry ≡ Wrote name w [] = c.in-Ok.ensures ∙ ap (λ (x : Write). Wrote name x []) c.into_write.ensures in
+    let confirms : c.confirm.new.self ≡ with_entry j (Wrote name w []) = confirmed j c.doubt.new.self c.in-Ok.entry name w c.in-Ok-doubt.ensures.ok entry
     c.confirm.new.self c.confirm.ensures in
     λ is. c.made_answer-answer.ensures ∙ ap (made_answer o change)
-    (up-from j.entries (Wrote name w) c.front.result c.front.ensures.length ∙ ap (λ (x : Journal). length x.entries) (sym confirms))
+    (up-from j.entries (Wrote name w []) c.front.result c.front.ensures.length ∙ ap (λ (x : Journal). length x.entries) (sym confirms))

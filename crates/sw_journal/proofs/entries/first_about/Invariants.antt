@@ -1,0 +1,7 @@
+use Rattle.std.proofs.Common.{◌≡◌, [], take}
+use Rattle.std.specs.List.{filter}
+use Rattle.sw_journal.specs.Entries.{is_record_of}
+use Rattle.sw_journal.proofs.entries.first_about.Given as goal
+
+abbrev pub invariant-loop-i : goal.invariant-loop-i
+invariant-loop-i l = filter (is_record_of l.key) (take l.i l.entries) ≡ []

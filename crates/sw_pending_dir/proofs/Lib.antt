@@ -1,0 +1,10 @@
+pub mod AllFolders
+pub mod FolderReading
+pub mod Keys
+pub mod Lists
+pub mod Order
+pub mod Results
+pub mod Sorting
+pub mod Standing
+pub mod Stepping
+pub mod Suffixes

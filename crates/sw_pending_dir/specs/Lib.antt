@@ -1,0 +1,5 @@
+pub mod Laws
+pub mod Places
+pub mod Readings
+pub mod Steps
+pub mod Walks
