@@ -42,7 +42,7 @@ fn serve(rt: &HostRuntime, words: &[String]) -> u8 {
     let mut doors = TcpDoors::new(rt, &notes);
     let status = run(rt, words, &mut stores, &mut doors);
     if status == STORE_FAULT || status == DOOR_FAULT {
-        notes.tell();
+        notes.tell_now();
     }
     notes.tell_left_out();
     status

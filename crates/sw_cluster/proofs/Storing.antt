@@ -15,9 +15,9 @@ use Rattle.sw_container_steps.specs.Halves.{ContHalf}
 use Rattle.sw_container_steps.specs.Rules.{ContHistory}
 use Rattle.sw_hashpath.specs.HashParts.{partition_of}
 use Rattle.sw_hashpath.specs.declared.place.Place.{Place}
-use Rattle.sw_hashdir.specs.Places.{holds, in_order}
+use Rattle.sw_hashdir.specs.Places.{holds}
 use Rattle.sw_objdir.proofs.Looking.{held-told}
-use Rattle.sw_objdir.specs.Directories.{Kept, is_told}
+use Rattle.sw_objdir.specs.Directories.{Kept, are_in_order, is_told}
 use Rattle.sw_object_steps.specs.Journals.{Hash}
 use Rattle.sw_peer.specs.Sights.{Nodes as SightNodes, Sight}
 use Rattle.sw_ring.specs.declared.ring.Ring.{Ring}
@@ -196,8 +196,8 @@ module _ {V K : Type 0} (tells : V → Bool) (files : V → Folders) (faults : V
               order = λ told.
                   let is_told : is_told tells files faults there.kept ≡ true =
                   ap (λ (h : ObjHistory). h.told) seen ∙ (hash-stands device hash told).0 in
-                  subst (λ (s : _). (tells there.kept.volume && in_order s ring.power (files there.kept.volume)) ≡ true) there.secrets
-                  (subst (λ (p : ℕ). (tells there.kept.volume && in_order there.kept.secrets p (files there.kept.volume)) ≡ true) there.power
+                  subst (λ (s : _). (tells there.kept.volume && are_in_order s ring.power (files there.kept.volume)) ≡ true) there.secrets
+                  (subst (λ (p : ℕ). (tells there.kept.volume && are_in_order there.kept.secrets p (files there.kept.volume)) ≡ true) there.power
                   (told_on.volumes (lock_of ring.lock_bits ring.power device hash) there.kept there.at is_told));
               counts = sym (ap (λ (h : ObjHistory). h.faults) seen);
             }

@@ -1,7 +1,8 @@
 -- What two runs come to, one after the other, over what the stores got back from the first. (This project's own.)
 use Rattle.std.specs.Prelude.{◌≡◌, ℕ, ◌*◌, ◌^◌, ◌<◌, Bool, true, ◌&&◌, List, ◌++◌, length, Option, Some}
 use Rattle.sw_core.specs.Worlds.{KeeperSeen, lock_of, nodes_of, opened, place_lock, sight_of, stripe_at}
-use Rattle.sw_hashdir.specs.Places.{holds, in_order}
+use Rattle.sw_hashdir.specs.Places.{holds}
+use Rattle.sw_objdir.specs.Directories.{are_in_order}
 use Rattle.sw_hashpath.specs.HashParts.{partition_of}
 use Rattle.sw_hashpath.specs.declared.place.Place.{Place}
 use Rattle.sw_core.specs.declared.trail.Trail.{Trail}
@@ -59,7 +60,7 @@ module _ {V K : Type 0} (tells : V → Bool) (files : V → Folders) (faults : V
     pub resting : rests_now device (stripe_at ring.lock_bits ring.power (partition_of hash ring.power)) ≡ Some part
     pub stands : holds ring.secrets ring.power (files part.0) hash
         ≡ state_of (writes_of ((began one).objects.holds device hash).state ++ (writes_at one.machine device hash ++ writes_at other.machine device hash))
-    pub order : (tells part.0 && in_order ring.secrets ring.power (files part.0)) ≡ true
+    pub order : (tells part.0 && are_in_order ring.secrets ring.power (files part.0)) ≡ true
 
   abbrev pub ObjectsCompose : Type 0
   ObjectsCompose = (bytes more : ℕ) (rests mid rests_now : ℕ → ℕ → Option (V × K)) (one : Leads bytes rests mid) (other : Leads more mid rests_now)

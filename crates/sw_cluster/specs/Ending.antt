@@ -14,7 +14,8 @@ use Rattle.sw_ring.specs.declared.ring.Ring.{Ring}
 use Rattle.sw_machine.specs.Machine.{Machine, RunLine, Runs, came_in, machine_of, writes_at}
 use Rattle.sw_state.specs.States.{state_of, writes_of}
 use Rattle.sw_core.specs.Worlds.{KeeperSeen, AllNodes, lock_of, nodes_of, opened, place_lock, sight_of, stripe_at}
-use Rattle.sw_hashdir.specs.Places.{holds, in_order}
+use Rattle.sw_hashdir.specs.Places.{holds}
+use Rattle.sw_objdir.specs.Directories.{are_in_order}
 use Rattle.sw_hashpath.specs.HashParts.{partition_of}
 use Rattle.sw_outside.specs.Counts.{raised}
 use Rattle.sw_outside.specs.declared.store_error.StoreError.{StoreError}
@@ -60,7 +61,7 @@ module _ {V K : Type 0} (tells : V → Bool) (files : V → Folders) (faults : V
         → holds ring.secrets ring.power (files part.0) hash
         ≡ state_of (writes_of ((sight_of tells files faults keeps began).objects.holds device hash).state ++ writes_at machine device hash)
     pub order : ((sight_of tells files faults keeps began).objects.seen (lock_of ring.lock_bits ring.power device hash)).told ≡ true
-        → (tells part.0 && in_order ring.secrets ring.power (files part.0)) ≡ true
+        → (tells part.0 && are_in_order ring.secrets ring.power (files part.0)) ≡ true
     pub counts : (machine.objects.half.seen (lock_of ring.lock_bits ring.power device hash)).faults ≡ faults part.0
 
   -- Beside it rests the keeper of the container lock, whose count of faults is that lock's in the machine. Where the lock told its tables as the run began,

@@ -12,6 +12,8 @@ use Rattle.sw_object_steps.specs.Steps.{is_entered, step_kind, time_in}
 use Rattle.sw_object_steps.specs.declared.change.StepKind.{StepKind}
 use Rattle.sw_object_steps.specs.declared.change.StepKind.TheVariants as step_kinds
 use Rattle.sw_object_steps.specs.declared.entry.Brief.{Brief}
+use Rattle.sw_object_steps.specs.declared.entry.BriefKind.{BriefKind}
+use Rattle.sw_object_steps.specs.declared.entry.BriefKind.TheVariants as brief_kinds
 use Rattle.sw_peer.specs.declared.line.Event.{Event}
 use Rattle.sw_peer.specs.declared.line.Event.TheVariants as events
 use Rattle.sw_peer.specs.declared.line.Line.{Line}
@@ -37,6 +39,8 @@ step_word step_kinds.Put = codes "put"
 step_word step_kinds.Post = codes "post"
 step_word step_kinds.Delete = codes "delete"
 step_word step_kinds.Receive = codes "receive"
+step_word step_kinds.MarkRecord = codes "mark"
+step_word step_kinds.DropRecord = codes "drop"
 
 -- the word of a write alone: a settled doubt doesn't tell which step asked for it
 abbrev pub write_word : Tag → List ℕ
@@ -44,9 +48,16 @@ write_word tags.Put = codes "put"
 write_word tags.Meta = codes "post"
 write_word tags.Del = codes "delete"
 
--- what is said of a doubt that a step settled
+-- the word of an entry of an object lock's journal
+abbrev pub brief_word : BriefKind → List ℕ
+brief_word (brief_kinds.Wrote tag) = write_word tag
+brief_word brief_kinds.Files = codes "filed"
+brief_word brief_kinds.Marked = codes "mark"
+brief_word brief_kinds.Dropped = codes "drop"
+
+-- what is said of a doubt that a step settled, and of a step at a record
 abbrev pub settled_told : List ℕ → Brief → List ℕ
-settled_told device brief = write_told (write_word brief.tag) device brief.name brief.time
+settled_told device brief = write_told (brief_word brief.kind) device brief.name brief.time
 
 -- what is said of the write that a step entered for an object, and of a restart. Nothing is said of what was refused, read or listed
 abbrev pub own_told : List ℕ → Event → List (List ℕ)

@@ -6,7 +6,7 @@
 //! tells: [`trail_text`] of the lines of its steps (`specs/TrailText.antt`), [`files_text`] of the files of a device, [`outcome_text`] of
 //! what a pass came to (`specs/OutcomeText.antt`); [`text_reply`] makes the reply of a text.
 //!
-//! Nothing here knows the cluster: the next layer up is `sw_cluster`, which does what is asked for.
+//! Nothing here knows the nodes: the next layer up is `sw_nodes`, which does what is asked for.
 #![tactic(auto)]
 
 mod asking;

@@ -2,14 +2,14 @@ ghost use Rattle.std.specs.Prelude.{◌≡◌, ◌≤◌, ◌∷◌, ◌++◌, [
 ghost use Rattle.sw_object_steps.specs.Steps.{is_entered as is_entered_by};
 ghost use Rattle.sw_control.specs.Growth.{Adds};
 ghost use Rattle.sw_control.specs.TrailText.{entry_told, line_told, own_told, path_of, settled_told, step_word, told, trail_text as trail_text_of, write_told};
-ghost use Rattle.sw_control.specs.TrailText.{write_word};
+ghost use Rattle.sw_control.specs.TrailText.{brief_word, write_word};
 
 use itoa::Buffer;
 use std::alloc::Global;
 use sw_container_steps::ContEntry;
 use sw_hashpath::{Name, Place};
 use sw_metafile::push_escaped;
-use sw_object_steps::{Answer, Brief, StepKind};
+use sw_object_steps::{Answer, Brief, BriefKind, StepKind};
 use sw_outside::{Bytes, BytesList, NoMemory};
 use sw_peer::{Event, KeptLine};
 use sw_timestamp::{Tag, Timestamp};
@@ -56,7 +56,7 @@ impl TextLines {
         self.add_entered(alloc, device, kept.entered())
     }
 
-    /// Adds those of settled doubts.
+    /// Adds those of settled doubts, and of a step at a record.
     fn add_settled(
         &mut self,
         alloc: Global,
@@ -69,7 +69,7 @@ impl TextLines {
         for brief in settled {
             self.add_write(
                 alloc,
-                write_kind(brief.tag),
+                brief_kind(brief.kind),
                 device,
                 &brief.name,
                 brief.time,
@@ -194,6 +194,20 @@ fn step_kind(kind: StepKind) -> &'static [u8]
         StepKind::Post => b"post",
         StepKind::Delete => b"delete",
         StepKind::Receive => b"receive",
+        StepKind::MarkRecord => b"mark",
+        StepKind::DropRecord => b"drop",
+    }
+}
+
+/// The word of an entry of an object lock's journal.
+fn brief_kind(kind: BriefKind) -> &'static [u8]
+    ensures { result.now ≡ brief_word kind }
+{
+    match kind {
+        BriefKind::Wrote(tag) => write_kind(tag),
+        BriefKind::Files => b"filed",
+        BriefKind::Marked => b"mark",
+        BriefKind::Dropped => b"drop",
     }
 }
 

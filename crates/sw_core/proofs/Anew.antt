@@ -3,12 +3,10 @@ use Rattle.std.proofs.Common.{◌≡◌, ◌≢◌, ℕ, suc, ◌+◌, ◌*◌, 
 use Rattle.std.proofs.Common.{Option, None, Some, ◌⊎◌, inl, inr}
 use Rattle.std.specs.List.{slice_get}
 use Rattle.std.proofs.lemmas.Nat.{rows}
-use Rattle.sw_hashdir.specs.Places.{holds}
 use Rattle.sw_hashpath.specs.HashParts.{partition_of}
-use Rattle.sw_objdir.proofs.Looking.{held-told}
-use Rattle.sw_objdir.specs.Directories.{Kept, held, is_told, started, steps_of}
+use Rattle.sw_objdir.proofs.Looking.{values-told}
+use Rattle.sw_objdir.specs.Directories.{Kept, is_told, started, steps_of, value_at, values_of}
 use Rattle.sw_object_steps.specs.Rules.{ObjHistory}
-use Rattle.sw_object_steps.specs.Values.{bare}
 use Rattle.sw_object_steps.specs.Journals.{Hash}
 use Rattle.sw_peer.specs.Sights.{Restarts}
 use Rattle.sw_volume.specs.Tree.{Folders}
@@ -86,19 +84,19 @@ module _ {V K : Type 0} (tells : V → Bool) (files : V → Folders) (faults : V
         (powers hash) (tells-on hash told)
 
     -- the same files stand for the same
-    held-begun : (hash : Hash) → is_told tells files faults (there hash).0 ≡ true → held tells files faults (begun hash) hash
-        ≡ held tells files faults (there hash).0 hash
+    held-begun : (hash : Hash) → is_told tells files faults (there hash).0 ≡ true → values_of tells files faults (begun hash) hash
+        ≡ values_of tells files faults (there hash).0 hash
     held-begun hash told =
-        held-told tells files faults (begun hash) hash (told-begun hash told)
-        ∙ (ap (λ (p : ℕ). holds (there hash).0.secrets p (files (there hash).0.volume) hash) (sym (powers hash))
-        ∙ sym (held-told tells files faults (there hash).0 hash told))
+        values-told tells files faults (begun hash) hash (told-begun hash told)
+        ∙ (ap (λ (p : ℕ). value_at (there hash).0.secrets p (files (there hash).0.volume) hash) (sym (powers hash))
+        ∙ sym (values-told tells files faults (there hash).0 hash told))
 
     opening-begun : (hash : Hash) → is_told tells files faults (there hash).0 ≡ true
-        → holds (there hash).0.secrets old.power (files (there hash).0.volume) hash
-        ≡ held tells files faults (there hash).0 hash
+        → value_at (there hash).0.secrets old.power (files (there hash).0.volume) hash
+        ≡ values_of tells files faults (there hash).0 hash
     opening-begun hash told =
-        ap (λ (p : ℕ). holds (there hash).0.secrets p (files (there hash).0.volume) hash) (sym (powers hash))
-        ∙ sym (held-told tells files faults (there hash).0 hash told)
+        ap (λ (p : ℕ). value_at (there hash).0.secrets p (files (there hash).0.volume) hash) (sym (powers hash))
+        ∙ sym (values-told tells files faults (there hash).0 hash told)
 
     seen-old : (hash : Hash) → seen_of tells files faults (slice_get old.slots (locked hash)) ≡ steps_of tells files faults (there hash).0
     seen-old hash = ap (seen_of tells files faults) (there hash).1
@@ -126,14 +124,14 @@ module _ {V K : Type 0} (tells : V → Bool) (files : V → Folders) (faults : V
         others = λ d hash away. ap (seen_of tells files faults) (elsewhere d hash away);
         told = λ hash told. rw (here hash) (told-begun hash (told-old hash told));
         opening = λ alone hash told. rw (here hash)
-            (ap bare (opening-begun hash (told-old hash told)) ∙ ap (λ (o : Option (Slot V)). held_of tells files faults o hash) (sym (there hash).1));
+            (opening-begun hash (told-old hash told) ∙ ap (λ (o : Option (Slot V)). held_of tells files faults o hash) (sym (there hash).1));
         entries = λ hash. rw (here hash) refl;
         doubts = λ hash. rw (here hash) refl;
         max_entries = λ hash. rw (here hash, (there hash).1) (sym (limits hash).0);
         max_bytes = λ hash. rw (here hash, (there hash).1) (sym (limits hash).1);
         faults = λ hash. rw (here hash, (there hash).1) (omega arith);
         holds = λ alone hash told. rw (here hash)
-            (ap bare (held-begun hash (told-old hash told)) ∙ ap (λ (o : Option (Slot V)). held_of tells files faults o hash) (sym (there hash).1));
+            (held-begun hash (told-old hash told) ∙ ap (λ (o : Option (Slot V)). held_of tells files faults o hash) (sym (there hash).1));
         elsewhere = λ alone d hash away. ap (λ (o : Option (Slot V)). held_of tells files faults o hash) (elsewhere d hash away);
       };
       alone = refl;

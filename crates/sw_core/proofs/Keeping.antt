@@ -17,7 +17,6 @@ use Rattle.sw_objdir.specs.Directories.{Kept, started, steps_of}
 use Rattle.sw_outside.specs.Faults.{HasRisen}
 use Rattle.sw_object_steps.specs.Rules.{ObjHistory}
 use Rattle.sw_object_steps.specs.Journals.{Hash}
-use Rattle.sw_object_steps.specs.Values.{bare}
 use Rattle.sw_peer.specs.Sights.{IsListed}
 use Rattle.sw_peer.specs.declared.line.Event.TheVariants.{Listed}
 use Rattle.sw_peer.specs.declared.line.Line.{Line}
@@ -299,7 +298,7 @@ module _ {V K : Type 0} (tells : V → Bool) (files : V → Folders) (faults : V
     | inl within ↦
         let there = open-at w is whole l within in
         let now = looked.within l there.0 there.1 in
-        rw (there.1, now.1) (ap bare (now.2.held hash))
+        rw (there.1, now.1) (now.2.held hash)
     | inr past ↦
         let none = slice_get_past w.slots l past in
         let also = slice_get_past new l (subst (λ (n : ℕ). n ≤ l) (sym looked.count) past) in

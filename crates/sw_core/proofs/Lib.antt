@@ -3,6 +3,7 @@ pub mod Apart
 pub mod Keeping
 pub mod Listed
 pub mod Placed
+pub mod Recording
 pub mod Settling
 pub mod Slots
 pub mod Sound

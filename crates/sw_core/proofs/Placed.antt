@@ -17,7 +17,7 @@ use Rattle.sw_history.specs.Halves.{GrowsOf}
 use Rattle.sw_object_steps.proofs.Hashes.{hash-same, hash-self}
 use Rattle.sw_object_steps.specs.Histories.{ChangesObject, IsGiven, got_look, part_look}
 use Rattle.sw_object_steps.specs.Rules.{ObjHistory, obj_applied, obj_rules}
-use Rattle.sw_object_steps.specs.Values.{ObjValue, bare}
+use Rattle.sw_object_steps.specs.Values.{ObjValue}
 use Rattle.sw_object_steps.specs.declared.entry.ObjEntry.{ObjEntry}
 use Rattle.sw_peer.proofs.Calls.{PartFrame, calls-once, faithful-once, made-step, part-step, read-step}
 use Rattle.sw_step.specs.Rules.{CanStand}
@@ -34,7 +34,8 @@ use Rattle.sw_object_steps.specs.declared.got.Got.{Got}
 use Rattle.sw_peer.specs.declared.line.Event.TheVariants.{Changed, Read, ReadPart}
 use Rattle.sw_peer.specs.declared.line.Line.{Line}
 use Rattle.sw_peer.specs.declared.link.Link.{Link}
-use Rattle.sw_objdir.specs.Directories.{Kept, held, is_told, steps_of, values_of}
+use Rattle.sw_objdir.specs.Directories.{Kept, is_told, steps_of, values_of}
+use Rattle.sw_object_steps.specs.Recorded.{doubts_write}
 use Rattle.sw_core.specs.Making.{IsChangedIn, IsGotIn, IsPartIn}
 use Rattle.sw_volume.specs.Tree.{Folders}
 use Rattle.sw_core.specs.declared.slot.Slot.{Slot}
@@ -113,11 +114,11 @@ module _ {V : Type 0} (tells : V → Bool) (files : V → Folders) (faults : V �
 
   -- a read: of what the device holds it says something at these hashes alone
   module _ {B : Type 0} (at : Hash → Bool) (look : B → Look) (reading : Bool → (Hash → ObjValue) → ℕ → B → Type 0) (got : B)
-      (step : StepReads obj_rules true (steps_of tells files faults d) at (λ doubt. true) look (reading (is_told tells files faults x)) got
+      (step : StepReads obj_rules true (steps_of tells files faults d) at doubts_write look (reading (is_told tells files faults x)) got
       (steps_of tells files faults x) (values_of tells files faults x)) (t : Hash → ObjValue) where
     abbrev ReadAt : Option (Slot V) → Option (Slot V) → Type 0
     ReadAt o u = ((key : Hash) → at key ≡ true → t key ≡ holds u key)
-        → (y : StepReads obj_rules true (seen o) at (λ doubt. true) look (reading (seen u).told) got (seen u) t)
+        → (y : StepReads obj_rules true (seen o) at doubts_write look (reading (seen u).told) got (seen u) t)
         × (step.follows.entries.0 ≡ y.follows.entries.0)
 
     read-here : ReadAt (Some (slots.Open d)) (Some (slots.Open x))
@@ -164,7 +165,7 @@ module _ {V K : Type 0} (tells : V → Bool) (files : V → Folders) (faults : V
       rw (slice_get-set_other w.slots place l (slots.Open x) away) (grows-refl (seen_of tells files faults (slice_get w.slots l)))
 
   -- what a hash stands for, which is the same where it is under this lock
-  pub held_same : (e : ℕ) (h : Hash) → (lock_of w.lock_bits w.power e h ≡ place → held tells files faults x h ≡ held tells files faults d h)
+  pub held_same : (e : ℕ) (h : Hash) → (lock_of w.lock_bits w.power e h ≡ place → values_of tells files faults x h ≡ values_of tells files faults d h)
       → held_of tells files faults (slice_get (slice_set w.slots place (slots.Open x)) (lock_of w.lock_bits w.power e h)) h
       ≡ held_of tells files faults (slice_get w.slots (lock_of w.lock_bits w.power e h)) h
   held_same e h same = by (lock_of w.lock_bits w.power e h == place) refl
@@ -174,7 +175,7 @@ module _ {V K : Type 0} (tells : V → Bool) (files : V → Folders) (faults : V
           ≡ held_of tells files faults (slice_get w.slots (lock_of w.lock_bits w.power e h)) h
       by true is =
           let equal : lock_of w.lock_bits w.power e h ≡ place = eqb-true (lock_of w.lock_bits w.power e h) place is in
-          rw (equal, now, there) (ap bare (same equal))
+          rw (equal, now, there) (same equal)
       by false is =
           let apart : lock_of w.lock_bits w.power e h ≢ place =
           λ equal. absurd (omega (arith, nat_tests, eqb-false (lock_of w.lock_bits w.power e h) place is, equal)) in
@@ -184,7 +185,7 @@ module _ {V K : Type 0} (tells : V → Bool) (files : V → Folders) (faults : V
   -- at these places, one of which is under this lock
   pub moves : (at : ℕ → Hash → Type 0) (e : ℕ) (h : Hash) → at e h → lock_of w.lock_bits w.power e h ≡ place
       → GrowsOf (steps_of tells files faults d) (steps_of tells files faults x)
-      → ((e : ℕ) (h : Hash) → (at e h → ⊥) → lock_of w.lock_bits w.power e h ≡ place → held tells files faults x h ≡ held tells files faults d h)
+      → ((e : ℕ) (h : Hash) → (at e h → ⊥) → lock_of w.lock_bits w.power e h ≡ place → values_of tells files faults x h ≡ values_of tells files faults d h)
       → Moves at (sight_of tells files faults keeps w) (sight_of tells files faults keeps stepped)
   moves at e h is here up same = record {
     nodes = refl;
@@ -216,7 +217,7 @@ module _ {V K : Type 0} (tells : V → Bool) (files : V → Folders) (faults : V
   after_sight = sight_of tells files faults keeps (record w { slots = slice_set w.slots place (slots.Open x); lines = lines })
 
   moved : GrowsOf (steps_of tells files faults d) (steps_of tells files faults x) →
-      ((h : Hash) → h ≢ name.hash → held tells files faults x h ≡ held tells files faults d h)
+      ((h : Hash) → h ≢ name.hash → values_of tells files faults x h ≡ values_of tells files faults d h)
       → Moves (IsAt device name.hash) before_sight after_sight
   moved up same = moves tells files faults keeps w place d x at lines w.asks (IsAt device name.hash) device name.hash (refl, refl) refl up
       (λ e h away equal. same h (λ it. away (device-of w.lock_bits w.power e device (partition_of h w.power) (partition_of name.hash w.power) equal, it)))

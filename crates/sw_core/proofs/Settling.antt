@@ -5,22 +5,21 @@ use Rattle.std.proofs.Math.Seq.{take-length}
 use Rattle.std.proofs.lemmas.Bool.Decides.{nat_tests}
 use Rattle.std.proofs.lemmas.List.{append-nil, append_cancel_left, length-append}
 use Rattle.sw_hashpath.specs.declared.name.Name.{Name}
-use Rattle.sw_journal.specs.Entries.{entry_hash, first_in}
+use Rattle.sw_journal.specs.Entries.{first_in, is_write_of}
 use Rattle.sw_journal.specs.Settling.{SettlesFirst}
-use Rattle.sw_objdir.specs.Calling.{Called, Listed, ReadCalled}
+use Rattle.sw_objdir.specs.Calling.{Called, Listed, ReadCalled, entry_of}
 use Rattle.sw_objdir.specs.Stepping.{AddsBriefs}
 use Rattle.sw_objdir.specs.Directories.{Kept}
 use Rattle.sw_object_steps.proofs.Hashes.{hash-self}
 use Rattle.sw_object_steps.specs.Briefs.{brief_of}
 use Rattle.sw_object_steps.specs.Journals.{Hash, Journal, written}
 use Rattle.sw_object_steps.specs.Outlines.{is_new_to}
-use Rattle.sw_object_steps.specs.Steps.{write_of}
 use Rattle.sw_object_steps.specs.declared.answer.Answer.{Answer}
 use Rattle.sw_object_steps.specs.declared.answer.Answer.TheVariants as answers
 use Rattle.sw_object_steps.specs.declared.change.Change.{Change}
 use Rattle.sw_object_steps.specs.declared.entry.Brief.{Brief}
 use Rattle.sw_object_steps.specs.declared.entry.ObjEntry.{ObjEntry}
-use Rattle.sw_object_steps.specs.declared.entry.ObjEntry.TheVariants.{Wrote}
+use Rattle.sw_object_steps.specs.declared.entry.ObjEntry.TheVariants.{Dropped, Files, Marked, Wrote}
 use Rattle.sw_object_steps.specs.declared.got.Got.{Got}
 use Rattle.sw_object_steps.specs.declared.got.Got.TheVariants as gots
 use Rattle.sw_object_steps.specs.declared.outline.Outline.{Outline}
@@ -29,18 +28,21 @@ use Rattle.sw_volume.specs.Tree.{Folders}
 use Rattle.sw_core.specs.Lines.{briefs_in, settled_briefs}
 use Rattle.sw_peer.specs.Lines.{own_by}
 
--- the first entry of a hash behind entries of others
+-- the first write of a hash behind other entries
 find-past : (hash : Hash) (before : List ObjEntry) (entry : ObjEntry) (behind : List ObjEntry) → written hash before ≡ [] →
-    bytes_eq (entry_hash entry) hash ≡ true
+    is_write_of hash entry ≡ true
     → first_in hash (before ++ entry ∷ behind) ≡ Some entry
 find-past hash [] entry behind none is = ap (λ (b : Bool). if b then Some entry else first_in hash behind) is
-find-past hash (Wrote n v ∷ before) entry behind none is = by (λ rest. find-past hash before entry behind rest is) (bytes_eq n.hash hash) refl
+find-past hash (Files f filed ∷ before) entry behind none is = find-past hash before entry behind none is
+find-past hash (Marked f filed device ∷ before) entry behind none is = find-past hash before entry behind none is
+find-past hash (Dropped f filed ∷ before) entry behind none is = find-past hash before entry behind none is
+find-past hash (Wrote n v records ∷ before) entry behind none is = by (λ rest. find-past hash before entry behind rest is) (bytes_eq n.hash hash) refl
   where
     by : (written hash before ≡ [] → first_in hash (before ++ entry ∷ behind) ≡ Some entry) → (b : Bool) → bytes_eq n.hash hash ≡ b →
-        first_in hash (Wrote n v ∷ before ++ entry ∷ behind) ≡ Some entry
+        first_in hash (Wrote n v records ∷ before ++ entry ∷ behind) ≡ Some entry
     by later true match = let never : v ∷ written hash before ≡ [] = sym (ap (λ (b : Bool). if b then v ∷ written hash before else written hash before) match) ∙
         none in cc
-    by later false other = ap (λ (b : Bool). if b then Some (Wrote n v) else first_in hash (before ++ entry ∷ behind)) other
+    by later false other = ap (λ (b : Bool). if b then Some (Wrote n v records) else first_in hash (before ++ entry ∷ behind)) other
         ∙ later (sym (ap (λ (b : Bool). if b then v ∷ written hash before else written hash before) other) ∙ none)
 
 -- the entries of the settled doubt: none, or one
@@ -52,8 +54,8 @@ settled-one : (hash : Hash) (o : Outline) (j after : Journal) → SettlesFirst h
 settled-one hash o j after (inl none) = ([], ap (λ (x : Journal). x.entries) none.1 ∙ sym (append-nil j.entries), inl refl)
 settled-one hash o j after (inr one) = by (is_new_to o one.write.time (tag_of one.write.kind)) refl
   where
-    first : first_in hash j.doubts ≡ Some (Wrote one.name one.write)
-    first = ap (first_in hash) one.among ∙ find-past hash one.before (Wrote one.name one.write) one.behind one.first
+    first : first_in hash j.doubts ≡ Some (Wrote one.name one.write one.records)
+    first = ap (first_in hash) one.among ∙ find-past hash one.before (Wrote one.name one.write one.records) one.behind one.first
         (subst (λ (h : Hash). bytes_eq h hash ≡ true) (sym one.of_hash) (hash-self hash))
 
     by : (b : Bool) → is_new_to o one.write.time (tag_of one.write.kind) ≡ b →
@@ -62,15 +64,15 @@ settled-one hash o j after (inr one) = by (is_new_to o one.write.time (tag_of on
       [],
       ap (λ (x : Journal). x.entries) one.settled
           ∙ (ap (λ (b : Bool). (if b then record j { doubts = one.before ++ one.behind } else record j
-          { entries = j.entries ++ Wrote one.name one.write ∷ []; doubts = one.before ++ one.behind }).entries) new ∙ sym (append-nil j.entries)),
+          { entries = j.entries ++ Wrote one.name one.write one.records ∷ []; doubts = one.before ++ one.behind }).entries) new ∙ sym (append-nil j.entries)),
       inl refl,
     )
     by false old = (
-      Wrote one.name one.write ∷ [],
+      Wrote one.name one.write one.records ∷ [],
       ap (λ (x : Journal). x.entries) one.settled
           ∙ ap (λ (b : Bool). (if b then record j { doubts = one.before ++ one.behind } else record j
-          { entries = j.entries ++ Wrote one.name one.write ∷ []; doubts = one.before ++ one.behind }).entries) old,
-      inr (Wrote one.name one.write, refl, first),
+          { entries = j.entries ++ Wrote one.name one.write one.records ∷ []; doubts = one.before ++ one.behind }).entries) old,
+      inr (Wrote one.name one.write one.records, refl, first),
     )
 
 -- what a step added: the entry of a settled doubt, and so many of its own
@@ -117,10 +119,11 @@ entries_in j = j.entries
 module _ {V : Type 0} (tells : V → Bool) (files : V → Folders) (faults calls lists : V → ℕ) (k n : Kept V) (name : Name) where
   pub called-adds : (change : Change) (answer : Answer) → Called tells files faults calls lists k name change answer n →
       AddsUp name.hash k.journal (own_by answer) n.journal
-  called-adds change (answers.Done front) c = entered-adds name.hash _ k.journal c.seen.journal n.journal c.seen.settles (Wrote name (write_of change))
+  called-adds change (answers.Done front) c = entered-adds name.hash _ k.journal c.seen.journal n.journal c.seen.settles (entry_of name change)
       (ap entries_in c.entered)
-  called-adds change (answers.Buried front) c = entered-adds name.hash _ k.journal c.seen.journal n.journal c.seen.settles (Wrote name (write_of change))
+  called-adds change (answers.Buried front) c = entered-adds name.hash _ k.journal c.seen.journal n.journal c.seen.settles (entry_of name change)
       (ap entries_in c.entered)
+  called-adds change (answers.Took is) c = absurd c
   called-adds change (answers.Conflict time) c = kept-adds name.hash _ k.journal c.seen.journal n.journal c.seen.settles (ap entries_in c.kept)
   called-adds change (answers.NotFound time) c = kept-adds name.hash _ k.journal c.seen.journal n.journal c.seen.settles (ap entries_in c.kept)
   called-adds change (answers.Mismatch second) c = kept-adds name.hash _ k.journal c.seen.journal n.journal c.seen.settles (ap entries_in c.kept)

@@ -5,7 +5,7 @@ use Rattle.sw_core.specs.Worlds.{AllNodes, first_of, past_of, seen_of}
 use Rattle.sw_core.specs.declared.slot.Slot.{Slot}
 use Rattle.sw_core.specs.declared.slot.Slot.TheVariants as slots
 use Rattle.sw_hashdir.specs.Walks.{IsPathBelow}
-use Rattle.sw_objdir.specs.Directories.{Kept, held}
+use Rattle.sw_objdir.specs.Directories.{Kept, values_of}
 use Rattle.sw_objdir.specs.Stepping.{OnlyLooks}
 use Rattle.sw_object_steps.specs.Journals.{Hash}
 use Rattle.sw_volume.specs.Tree.{Folders, contents}
@@ -39,7 +39,7 @@ module _ {V : Type 0} (tells : V → Bool) (files : V → Folders) (faults : V �
   pub record IsLookedAt (k n : Kept V) : Type 0 where
     pub looks : OnlyLooks tells files faults k n
     pub journal : n.journal ≡ k.journal
-    pub held : (hash : Hash) → held tells files faults n hash ≡ held tells files faults k hash
+    pub held : (hash : Hash) → values_of tells files faults n hash ≡ values_of tells files faults k hash
 
   -- the directories from one lock on, up to another, may have been looked at
   pub record AreLookedAt (first past : ℕ) (old new : List (Slot V)) : Type 0 where

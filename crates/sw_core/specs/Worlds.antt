@@ -20,9 +20,8 @@ use Rattle.sw_hashpath.specs.HashParts.{partition_of}
 use Rattle.sw_hashpath.specs.Paths.{hash_of}
 use Rattle.sw_hashpath.specs.declared.place.Place.{Place}
 use Rattle.sw_hashpath.specs.declared.secrets.Secrets.{Secrets}
-use Rattle.sw_hashdir.specs.Places.{in_order}
 use Rattle.sw_hashdir.specs.Steps.{is_hashed}
-use Rattle.sw_objdir.specs.Directories.{Kept, is_told, started, steps_of, values_of}
+use Rattle.sw_objdir.specs.Directories.{Kept, are_in_order, is_told, started, steps_of, values_of}
 use Rattle.sw_peer.specs.Carriage.{faithful}
 use Rattle.sw_object_steps.specs.Journals.{Hash}
 use Rattle.sw_object_steps.specs.Rules.{ObjHistory, obj_rules}
@@ -257,7 +256,7 @@ pub record AreLifted {V : Type 0} (first past : ℕ) (old new : List (Slot V)) (
 
 -- a directory that told its contents, and was in order, does so still
 abbrev pub TellsOn : {V : Type 0} → (V → Bool) → (V → Folders) → (V → ℕ) → Kept V → Type 0
-TellsOn tells files faults k = is_told tells files faults k ≡ true → (tells k.volume && in_order k.secrets k.power (files k.volume)) ≡ true
+TellsOn tells files faults k = is_told tells files faults k ≡ true → (tells k.volume && are_in_order k.secrets k.power (files k.volume)) ≡ true
 
 -- the directory of a lock does, where it is open
 abbrev pub SlotTellsOn : {V : Type 0} → (V → Bool) → (V → Folders) → (V → ℕ) → Slot V → Type 0

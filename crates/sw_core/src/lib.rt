@@ -11,8 +11,8 @@
 //! calls that fail, full journals and restarts, so that each hash of each device holds what it may stand for by the entries of its lock; and its line
 //! tells the entries that came.
 //!
-//! The next layers up are `sw_cluster`, which answers requests over the world and writes its trail, and `sw_steps`, which makes lists of steps
-//! and passes over it.
+//! The next layers up are `sw_steps`, which makes lists of steps and passes over the world, `sw_quiet`, the same nodes with no trail kept, and `sw_nodes`,
+//! which answers requests over it.
 #![tactic(auto)]
 
 pub mod laws;

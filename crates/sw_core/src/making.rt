@@ -8,6 +8,7 @@ ghost use Rattle.sw_core.specs.Making.{IsChangedIn, IsGotIn, IsPartIn};
 ghost use Rattle.sw_hashdir.specs.Steps.{IsHashed, is_hashed};
 ghost use Rattle.sw_hashpath.specs.HashParts.{partition_of, suffix_of};
 ghost use Rattle.sw_object_steps.specs.Parts.{AreHashes, AreLines, IsFile, IsOfPart};
+ghost use Rattle.sw_object_steps.specs.Recorded.{is_write};
 ghost use Rattle.sw_peer.specs.declared.part_read.PartRead.TheVariants.{Files, Hashes, Write};
 ghost use Rattle.sw_journal.specs.Entries.{first_in};
 
@@ -40,7 +41,7 @@ pub(crate) fn doubted_in<V: Volume + Drop>(
     Ok(briefs)
 }
 
-/// Makes a step that may change the name, and its line. `doubted` is what a trail prints of the name's doubt.
+/// Makes a step that may change the name, and its line. `doubted` is what a trail prints of the doubt of a write of the name.
 pub(crate) fn change_in<V: Volume + Drop>(
     alloc: Global,
     dir: &mut ObjDir<V>,
@@ -56,6 +57,30 @@ pub(crate) fn change_in<V: Volume + Drop>(
     requires doubted { doubted.items ≡ briefs_in (first_in name.now.hash dir.old.journal.doubts) }
     ensures { IsChangedIn V.tells V.holds V.faults dir.old link device name.now change result.0 dir.new result.1 }
 {
+    if change.is_write() {
+        made_in(alloc, dir, link, device, name, line_name, change, doubted)
+    } else {
+        record_in(alloc, dir, link, device, name, line_name, &change)
+    }
+}
+
+/// Makes a write.
+fn made_in<V: Volume + Drop>(
+    alloc: Global,
+    dir: &mut ObjDir<V>,
+    link: Link,
+    device: u8,
+    name: &Name,
+    line_name: Name,
+    change: Change,
+    doubted: Vec<Brief>,
+) -> (Answer, KeptLine)
+    requires hashed { IsHashed dir.old.secrets name.now }
+    requires named { line_name ≡ name.now }
+    requires doubted { doubted.items ≡ briefs_in (first_in name.now.hash dir.old.journal.doubts) }
+    requires writes { is_write change ≡ true }
+    ensures { IsChangedIn V.tells V.holds V.faults dir.old link device name.now change result.0 dir.new result.1 }
+{
     let from = dir.front();
     let seen = ChangeSeen::of(&change);
     let answer = dir.change(alloc, name, change);
@@ -68,6 +93,37 @@ pub(crate) fn change_in<V: Volume + Drop>(
         added,
     };
     (answer, KeptLine::new(line, settled))
+}
+
+/// Makes a step at a record. Its line tells all entries that it added.
+fn record_in<V: Volume + Drop>(
+    alloc: Global,
+    dir: &mut ObjDir<V>,
+    link: Link,
+    device: u8,
+    name: &Name,
+    line_name: Name,
+    change: &Change,
+) -> (Answer, KeptLine)
+    requires hashed { IsHashed dir.old.secrets name.now }
+    requires named { line_name ≡ name.now }
+    requires records { is_write change.now ≡ false }
+    ensures { IsChangedIn V.tells V.holds V.faults dir.old link device name.now change.now result.0 dir.new result.1 }
+{
+    let from = dir.front();
+    let asked = ChangeSeen::of(change);
+    let mut settled = Vec::new(alloc);
+    let answer = dir.record(alloc, name, change, &mut settled);
+    let added = dir.added_since(from);
+    let told = answer;
+    let line = Line {
+        device,
+        link,
+        event: Event::Changed(line_name, asked, told),
+        added,
+    };
+    let kept = KeptLine::new(line, settled);
+    (answer, kept)
 }
 
 /// Reads the name, and makes the line of that.

@@ -6,7 +6,7 @@
 //!
 //! A [`Seen`] value is one that contracts alone see, as those in the lines that a door keeps of what came.
 //!
-//! The next layers up are `sw_container_steps`, the steps at containers, and `sw_peer`, the doors by which servers and daemons reach all nodes.
+//! The next layers up are `sw_step`, one step at a lock over any rules, and `sw_peer`, the doors by which servers and passes reach all nodes.
 #![tactic(auto)]
 
 pub mod laws;

@@ -162,17 +162,18 @@ module _ {K V E : Type 0} (kept : Type 0) where
               makes.step;
         })
 
-    read-along : {B : Type 0} (m : Side K V E N) (device own : ℕ) (at : K → Bool) (look : B → Look) (reading : (K → V) → ℕ → B → Type 0) (got : B)
-        (added : List E) (after : Side K V E N) → SideReads r lock m device own at look reading got added after
+    read-along : {B : Type 0} (m : Side K V E N) (device own : ℕ) (at : K → Bool) (touched : List E → Bool) (look : B → Look)
+        (reading : (K → V) → ℕ → B → Type 0) (got : B) (added : List E) (after : Side K V E N)
+        → SideReads r lock m device own at touched look reading got added after
         → (l : ℕ) → Along (m.half.seen l) (after.half.seen l) (if nat_eq own l then added else []) kept
-    read-along m device own at look reading got added after reads =
+    read-along m device own at touched look reading got added after reads =
         at-lock m after own added reads.elsewhere
         (record {
           grows = λ is. record {
             entries = reads.step.follows.entries.1 ∙ ap (λ (es : List E). (m.half.seen own).journal.entries ++ es) (sym reads.added_is);
             opening = reads.step.follows.opening;
           };
-          calm = read-calm r (m.half.seen own) at (λ doubt. true) look reading got (after.half.seen own) reads.held reads.step;
+          calm = read-calm r (m.half.seen own) at touched look reading got (after.half.seen own) reads.held reads.step;
         })
 
 -- a restart of the device itself isn't kept
@@ -214,22 +215,22 @@ module _ (nodes : Nodes) (device : ℕ) where
     cont-along m d (cont_events.Changed place change answer) entries after step =
         made-along kept cont_rules (cont_lock nodes) m d place change answer entries _ after step
     cont-along m d (cont_events.Timed place got) entries after step =
-        read-along kept cont_rules (cont_lock nodes) m d (cont_lock nodes d place) _ _ _ got entries after step
+        read-along kept cont_rules (cont_lock nodes) m d (cont_lock nodes d place) _ _ _ _ got entries after step
     cont-along m d (cont_events.Informed place got) entries after step =
-        read-along kept cont_rules (cont_lock nodes) m d (cont_lock nodes d place) _ _ _ got entries after step
+        read-along kept cont_rules (cont_lock nodes) m d (cont_lock nodes d place) _ _ _ _ got entries after step
     cont-along m d (cont_events.Listed place query got) entries after step =
-        read-along kept cont_rules (cont_lock nodes) m d (cont_lock nodes d place) _ _ _ got entries after step
+        read-along kept cont_rules (cont_lock nodes) m d (cont_lock nodes d place) _ _ _ _ got entries after step
     cont-along m d (cont_events.Parceled place to got) entries after step =
-        read-along kept cont_rules (cont_lock nodes) m d (cont_lock nodes d place) _ _ _ got entries after step
+        read-along kept cont_rules (cont_lock nodes) m d (cont_lock nodes d place) _ _ _ _ got entries after step
 
     part-along : (m : ObjSide) (d : ℕ) (read : PartRead) (added : List ObjEntry) (after : ObjSide) → ObjReadsPart nodes m d read added after
         → (l : ℕ) → Along (m.half.seen l) (after.half.seen l) (if is_at_lock nodes l d (ReadPart read) then added else []) kept
     part-along m d (Hashes part got) added after step =
-        read-along kept obj_rules nodes.lock m d (nodes.part_lock d part) _ _ _ got added after step.reads
+        read-along kept obj_rules nodes.lock m d (nodes.part_lock d part) _ _ _ _ got added after step.reads
     part-along m d (Files part suffix got) added after step =
-        read-along kept obj_rules nodes.lock m d (nodes.part_lock d part) _ _ _ got added after step.reads
+        read-along kept obj_rules nodes.lock m d (nodes.part_lock d part) _ _ _ _ got added after step.reads
     part-along m d (Write part hash file got) added after step =
-        read-along kept obj_rules nodes.lock m d (nodes.part_lock d part) _ _ _ got added after step.reads
+        read-along kept obj_rules nodes.lock m d (nodes.part_lock d part) _ _ _ _ got added after step.reads
 
   one-along : (m : Machine) (d : ℕ) (event : Event) (added : List ObjEntry) (after : Machine) → Comes nodes m d event added after
       → BothAlong m after (λ l. if is_at_lock nodes l d event then added else []) (λ l. entered_at nodes l d event) (restarts device d event ≡ false)
@@ -239,7 +240,7 @@ module _ (nodes : Nodes) (device : ℕ) where
     containers = λ place. containers-same (false ≡ false) m after step.1 (cont_lock nodes device place);
   }
   one-along m d (Read name got) added after step = record {
-    objects = λ hash. read-along (false ≡ false) obj_rules nodes.lock m.objects d (nodes.lock d name.hash) _ _ _ got added after.objects step.0
+    objects = λ hash. read-along (false ≡ false) obj_rules nodes.lock m.objects d (nodes.lock d name.hash) _ _ _ _ got added after.objects step.0
         (nodes.lock device hash);
     containers = λ place. containers-same (false ≡ false) m after step.1 (cont_lock nodes device place);
   }

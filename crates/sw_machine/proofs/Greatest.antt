@@ -3,28 +3,13 @@ use Rattle.std.proofs.Common.{◌≡◌, ℕ, ◌<◌, zero, suc, Bool, true, fa
 use Rattle.std.proofs.Common.{◌∙◌, ap, subst, arith}
 use Rattle.std.specs.List.{Contains, fold, slice_index_or}
 use Rattle.std.specs.Str.{bytes_eq}
-use Rattle.std.proofs.lemmas.Bool.Decides.{nat_tests}
+use Rattle.sw_rows.proofs.Greater.{at-least-other, at-least-self, at-least-trans}
 use Rattle.sw_rows.proofs.Merging.{keeps-the-greatest}
 use Rattle.sw_rows.proofs.Named.{name_itself, same_name}
 use Rattle.sw_rows.specs.Laws.{greater}
 use Rattle.sw_rows.specs.Rows.{Listed as RowList, find_named, is_at_least, merged}
 use Rattle.sw_rows.specs.declared.row.Row.{Row}
 use Rattle.sw_machine.specs.Laws.{IsGreatest, StandsAtLeast}
-
--- ---- which of two rows counts more
-
-at-least-self : (a : Row) → is_at_least a a ≡ true
-at-least-self a = by a.deleted
-  where
-    by : (b : Bool) → is_at_least (record a { deleted = b }) (record a { deleted = b }) ≡ true
-    by true = grind (arith, nat_tests)
-    by false = grind (arith, nat_tests)
-
-at-least-trans : (a b c : Row) → is_at_least a b ≡ true → is_at_least b c ≡ true → is_at_least a c ≡ true
-at-least-trans a b c first second = grind (arith, nat_tests)
-
-at-least-other : (a b : Row) → is_at_least a b ≡ false → is_at_least b a ≡ true
-at-least-other a b not_so = grind (arith, nat_tests)
 
 -- ---- one merge
 

@@ -6,7 +6,7 @@ use Rattle.sw_hashpath.specs.declared.name.Name.{Name}
 use Rattle.sw_object_steps.specs.Rules.{obj_applied}
 use Rattle.sw_object_steps.specs.Values.{ObjValue}
 use Rattle.sw_object_steps.specs.declared.entry.ObjEntry.{ObjEntry}
-use Rattle.sw_object_steps.specs.declared.entry.ObjEntry.TheVariants.{Wrote}
+use Rattle.sw_object_steps.specs.declared.entry.ObjEntry.TheVariants.{Dropped, Files, Marked, Wrote}
 use Rattle.sw_state.proofs.StateLaws.{joins_one_more, state_of-writes_of}
 use Rattle.sw_state.specs.States.{joined, state_of, writes_of}
 use Rattle.sw_state.specs.declared.state.State.{State}
@@ -16,7 +16,10 @@ use Rattle.sw_machine.specs.Machine.{made_writes}
 pub made-states : (name : Name) (v : ObjValue) (made : List ObjEntry)
     → (fold obj_applied v made).state ≡ fold joined v.state (map (λ n. n.write) (made_writes name made))
 made-states name v [] = refl
-made-states name v (Wrote n w ∷ made) = made-states name (record v { state = joined v.state w }) made
+made-states name v (Wrote n w records ∷ made) = made-states name (obj_applied v (Wrote n w records)) made
+made-states name v (Files by filed ∷ made) = made-states name (obj_applied v (Files by filed)) made
+made-states name v (Marked by filed device ∷ made) = made-states name (obj_applied v (Marked by filed device)) made
+made-states name v (Dropped by filed ∷ made) = made-states name (obj_applied v (Dropped by filed)) made
 
 joins-all : (xs ws : List Write) → fold joined (state_of xs) ws ≡ state_of (xs ++ ws)
 joins-all xs [] = ap state_of (sym (append-nil xs))

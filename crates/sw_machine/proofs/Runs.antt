@@ -20,7 +20,7 @@ use Rattle.sw_object_steps.specs.Values.{ObjValue}
 use Rattle.sw_object_steps.specs.declared.answer.Answer.{Answer}
 use Rattle.sw_object_steps.specs.declared.change.Change.{Change}
 use Rattle.sw_object_steps.specs.declared.entry.ObjEntry.{ObjEntry}
-use Rattle.sw_object_steps.specs.declared.entry.ObjEntry.TheVariants.{Wrote}
+use Rattle.sw_object_steps.specs.declared.entry.ObjEntry.TheVariants as entries
 use Rattle.sw_peer.specs.Sights.{Nodes, cont_lock}
 use Rattle.sw_peer.specs.declared.cont_event.ContEvent.{ContEvent}
 use Rattle.sw_peer.specs.declared.cont_event.ContEvent.TheVariants as cont_events
@@ -95,7 +95,10 @@ module _ (nodes : Nodes) where
 
   writes-all : (name : Name) (made : List ObjEntry) → AllOf objects name.hash (made_writes name made)
   writes-all name [] = tt
-  writes-all name (Wrote n w ∷ made) = (refl, writes-all name made)
+  writes-all name (entries.Wrote n w records ∷ made) = (refl, writes-all name made)
+  writes-all name (entries.Files by filed ∷ made) = writes-all name made
+  writes-all name (entries.Marked by filed marked ∷ made) = writes-all name made
+  writes-all name (entries.Dropped by filed ∷ made) = writes-all name made
 
   obj-made : (m : ObjSide) (device : ℕ) (name : Name) (change : Change) (answer : Answer) (added : List ObjEntry) (after : ObjSide)
       → ObjMakes nodes m device name change answer added after → ObjGoes m after
@@ -108,20 +111,21 @@ module _ (nodes : Nodes) where
       ∙ ap (λ (v : ObjValue). fold obj_applied v makes.step.made) (makes.is_held name.hash refl))
       ∙ made-states name (m.half.holds device name.hash) makes.step.made)
 
-  obj-read : {B : Type 0} (m : ObjSide) (device l : ℕ) (at : Hash → Bool) (look : B → Look) (reading : (Hash → ObjValue) → ℕ → B → Type 0) (got : B)
-      (added : List ObjEntry) (after : ObjSide) → SideReads obj_rules nodes.lock m device l at look reading got added after
+  obj-read : {B : Type 0} (m : ObjSide) (device l : ℕ) (at : Hash → Bool) (touched : List ObjEntry → Bool) (look : B → Look)
+      (reading : (Hash → ObjValue) → ℕ → B → Type 0) (got : B) (added : List ObjEntry) (after : ObjSide)
+      → SideReads obj_rules nodes.lock m device l at touched look reading got added after
       → (LocksAreApart nodes → (d : ℕ) (key : Hash) → nodes.lock d key ≡ l → d ≡ device) → ObjGoes m after
-  obj-read m device l at look reading got added after reads owns =
-      read-goes objects m device l at look reading got added after reads owns
+  obj-read m device l at touched look reading got added after reads owns =
+      read-goes objects m device l at touched look reading got added after reads owns
 
   obj-read-part : (m : ObjSide) (device : ℕ) (read : PartRead) (added : List ObjEntry) (after : ObjSide) → ObjReadsPart nodes m device read added after
       → ObjGoes m after
   obj-read-part m device (Hashes part got) added after step =
-      obj-read m device (nodes.part_lock device part) _ _ _ got added after step.reads (λ apart. own-part apart device part)
+      obj-read m device (nodes.part_lock device part) _ _ _ _ got added after step.reads (λ apart. own-part apart device part)
   obj-read-part m device (Files part suffix got) added after step =
-      obj-read m device (nodes.part_lock device part) _ _ _ got added after step.reads (λ apart. own-part apart device part)
+      obj-read m device (nodes.part_lock device part) _ _ _ _ got added after step.reads (λ apart. own-part apart device part)
   obj-read-part m device (ReadWrite part hash file got) added after step =
-      obj-read m device (nodes.part_lock device part) _ _ _ got added after step.reads (λ apart. own-part apart device part)
+      obj-read m device (nodes.part_lock device part) _ _ _ _ got added after step.reads (λ apart. own-part apart device part)
 
   obj-listed : (m : ObjSide) (device : ℕ) (failed : Bool) (after : ObjSide) → ObjLists nodes m device failed after → ObjGoes m after
   obj-listed m device failed after lists =
@@ -156,8 +160,8 @@ module _ (nodes : Nodes) where
   cont-read : {A : Type 0} (m : ContSide) (device : ℕ) (place : Place) (reading : Option Tables → ℕ → Result A ContAnswer) (got : Result A ContAnswer)
       (added : List ContEntry) (after : ContSide) → ContReads nodes m device place reading got added after → ContGoes m after
   cont-read m device place reading got added after reads =
-      read-goes containers m device (cont_lock nodes device place) (λ key. true) cont_look (λ read front x. x ≡ reading (read place) front) got added after
-      reads
+      read-goes containers m device (cont_lock nodes device place) (λ key. true) (λ doubt. true) cont_look
+      (λ read front x. x ≡ reading (read place) front) got added after reads
       (λ apart d key. own-place apart d device key place)
 
   cont-comes : (m : ContSide) (device : ℕ) (event : ContEvent) (added : List ContEntry) (after : ContSide) → ContComes nodes m device event added after
@@ -186,7 +190,7 @@ module _ (nodes : Nodes) where
       at-objects m after (obj-made m.objects device name change answer added after.objects step.0) step.1
   one-comes m device (Read name got) added after step =
       at-objects m after
-      (obj-read m.objects device (nodes.lock device name.hash) _ _ _ got added after.objects step.0
+      (obj-read m.objects device (nodes.lock device name.hash) _ _ _ _ got added after.objects step.0
       (λ apart d key. own-hash apart d device key name.hash)) step.1
   one-comes m device (ReadPart read) added after step = at-objects m after (obj-read-part m.objects device read added after.objects step.0) step.1
   one-comes m device (Listed failed) added after step = at-objects m after (obj-listed m.objects device failed after.objects step.1.0) step.1.1

@@ -203,8 +203,9 @@ module _ {K V E C A N X W : Type 0} (k : Account K V E C A N X W) where
 
   -- ---- a read
 
-  module _ {B : Type 0} (m : Side K V E N) (device l : ℕ) (tested : K → Bool) (look : B → Look) (reading : (K → V) → ℕ → B → Type 0) (got : B)
-      (added : List E) (after : Side K V E N) (reads : SideReads k.rules k.lock m device l tested look reading got added after) where
+  module _ {B : Type 0} (m : Side K V E N) (device l : ℕ) (tested : K → Bool) (touched : List E → Bool) (look : B → Look)
+      (reading : (K → V) → ℕ → B → Type 0) (got : B) (added : List E) (after : Side K V E N)
+      (reads : SideReads k.rules k.lock m device l tested touched look reading got added after) where
     tells-still : (d : ℕ) (key : K) → Tells m d key → Tells after d key
     tells-still d key told = by (cases_Bool (nat_eq (k.lock d key) l))
       where

@@ -17,6 +17,7 @@ use Rattle.sw_keeper.specs.declared.tables.Tables.{Tables}
 use Rattle.sw_object_steps.specs.Histories.{IsGiven, got_look, part_look}
 use Rattle.sw_object_steps.specs.Journals.{Hash, Shows}
 use Rattle.sw_object_steps.specs.Parts.{AreHashes, AreLines, IsFile}
+use Rattle.sw_object_steps.specs.Recorded.{doubts_write}
 use Rattle.sw_object_steps.specs.Rules.{Writes, obj_rules}
 use Rattle.sw_object_steps.specs.Values.{ObjValue}
 use Rattle.sw_object_steps.specs.declared.answer.Answer.{Answer}
@@ -24,7 +25,7 @@ use Rattle.sw_object_steps.specs.declared.change.Change.{Change}
 use Rattle.sw_object_steps.specs.declared.dir_fault.DirFault.{DirFault}
 use Rattle.sw_object_steps.specs.declared.dir_fault.DirFault.TheVariants.{Damaged}
 use Rattle.sw_object_steps.specs.declared.entry.ObjEntry.{ObjEntry}
-use Rattle.sw_object_steps.specs.declared.entry.ObjEntry.TheVariants.{Wrote}
+use Rattle.sw_object_steps.specs.declared.entry.ObjEntry.TheVariants as entries
 use Rattle.sw_object_steps.specs.declared.got.Got.{Got}
 use Rattle.sw_outside.specs.Faults.{HasRisen}
 use Rattle.sw_peer.specs.Sights.{Nodes, Sight, cont_lock, in_part, in_suffix, is_one}
@@ -61,10 +62,13 @@ ObjSide = Side Hash ObjValue ObjEntry KnownWrite
 abbrev pub ContSide : Type 0
 ContSide = Side Place (Option Tables) ContEntry KnownRow
 
--- the writes that were made of a step
+-- the writes that were made of a step. A change of a record is none
 abbrev pub made_writes : Name → List ObjEntry → List KnownWrite
 made_writes name [] = []
-made_writes name (Wrote n write ∷ made) = record { name = name; write = write } ∷ made_writes name made
+made_writes name (entries.Wrote n write records ∷ made) = record { name = name; write = write } ∷ made_writes name made
+made_writes name (entries.Files by filed ∷ made) = made_writes name made
+made_writes name (entries.Marked by filed device ∷ made) = made_writes name made
+made_writes name (entries.Dropped by filed ∷ made) = made_writes name made
 
 -- the rows that a step merges. A sync point is none
 abbrev pub rows_in : ContChange → List Row
@@ -151,14 +155,14 @@ module _ (nodes : Nodes) where
   -- a read of one name
   abbrev pub ObjReads : ObjSide → ℕ → Name → Got → List ObjEntry → ObjSide → Type 0
   ObjReads m device name got added after =
-      SideReads obj_rules nodes.lock m device (nodes.lock device name.hash) (λ key. bytes_eq key name.hash) got_look
+      SideReads obj_rules nodes.lock m device (nodes.lock device name.hash) (λ key. bytes_eq key name.hash) doubts_write got_look
       (λ read front x. Shows (after.half.seen (nodes.lock device name.hash)).told (read name.hash).state front x) got added after
 
   module _ {A : Type 0} where
     -- a read of some hashes of a partition. Only a read that `damages` may find a file damaged
     pub record PartReads (m : ObjSide) (device part : ℕ) (at : Nodes → Hash → Bool) (damages : Bool) (reading : Nodes → Bool → (Hash → State) → A → Type 0)
         (got : Result A DirFault) (added : List ObjEntry) (after : ObjSide) : Type 0 where
-      pub reads : SideReads obj_rules nodes.lock m device (nodes.part_lock device part) (at nodes) part_look
+      pub reads : SideReads obj_rules nodes.lock m device (nodes.part_lock device part) (at nodes) doubts_write part_look
           (λ read front x. IsGiven (reading nodes (after.half.seen (nodes.part_lock device part)).told) read x) got added after
       pub sound : (bad : BadFile) → got ≡ Err (Damaged bad) → damages ≡ true
 
@@ -190,7 +194,7 @@ module _ (nodes : Nodes) where
   abbrev pub ContReads : {A : Type 0} → ContSide → ℕ → Place → (Option Tables → ℕ → Result A ContAnswer) → Result A ContAnswer → List ContEntry → ContSide
       → Type 0
   ContReads m device place reading got added after =
-      SideReads cont_rules (cont_lock nodes) m device (cont_lock nodes device place) (λ key. true) cont_look
+      SideReads cont_rules (cont_lock nodes) m device (cont_lock nodes device place) (λ key. true) (λ doubt. true) cont_look
       (λ read front x. x ≡ reading (read place) front) got added after
 
   abbrev pub ContComes : ContSide → ℕ → ContEvent → List ContEntry → ContSide → Type 0

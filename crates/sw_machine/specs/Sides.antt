@@ -48,12 +48,13 @@ module _ {K V E C A N : Type 0} (r : RulesOf K V E C A) (lock : ℕ → K → �
     pub added_is : added ≡ added_by r step
     pub known : after.known ≡ m.known ++ map (λ n. (device, n)) (news step.made)
 
-  -- a read of the keys `at` under one lock, of which it settles all doubts: `reading` tells which answers are right. It got this, and added these entries
-  pub record SideReads {B : Type 0} (m : Side K V E N) (device l : ℕ) (at : K → Bool) (look : B → Look) (reading : (K → V) → ℕ → B → Type 0) (got : B)
-      (added : List E) (after : Side K V E N) : Type 0 where
+  -- A read of the keys `at` under one lock: it settles those of their doubts that it touches, and `reading` tells which answers are right. It got this, and
+  -- added these entries
+  pub record SideReads {B : Type 0} (m : Side K V E N) (device l : ℕ) (at : K → Bool) (touched : List E → Bool) (look : B → Look)
+      (reading : (K → V) → ℕ → B → Type 0) (got : B) (added : List E) (after : Side K V E N) : Type 0 where
     pub held : K → V
     pub is_held : IsHeld (lock device) l held (after.half.holds device)
-    pub step : StepReads r true (m.half.seen l) at (λ doubt. true) look reading got (after.half.seen l) held
+    pub step : StepReads r true (m.half.seen l) at touched look reading got (after.half.seen l) held
     pub added_is : added ≡ step.follows.entries.0
     pub elsewhere : (other : ℕ) → other ≢ l → after.half.seen other ≡ m.half.seen other
     pub holds : (d : ℕ) (key : K) → after.half.holds d key ≡ m.half.holds d key

@@ -10,7 +10,7 @@
 //! held what its journals tell, with those of their doubts that were made, it goes on doing so; what came in a message had been sent; and each step and
 //! each call of such a door goes on with a run.
 //!
-//! The next layers up are lists of steps (`sw_steps`), nodes that keep no trail (`sw_quiet`), and the program over them.
+//! The next layers up are lists of steps (`sw_steps`), the nodes of a ring (`sw_nodes`), and the program over them (`sw_cluster`).
 #![tactic(auto)]
 
 pub mod laws;

@@ -6,7 +6,8 @@ use Rattle.sw_hashpath.specs.declared.name.Name.{Name}
 use Rattle.sw_nodes_tests.specs.Sent.{Acknowledged, HeldBy, acknowledges, is_acknowledgement, state_by}
 use Rattle.sw_object_steps.proofs.Answering.{refused-held}
 use Rattle.sw_object_steps.proofs.Lists.{one-list}
-use Rattle.sw_object_steps.proofs.Ruling.{are-rules, none-of}
+use Rattle.sw_object_steps.proofs.Ruling.{are-rules}
+use Rattle.sw_object_steps.proofs.Undoubted.{none-written, state-told}
 use Rattle.sw_object_steps.specs.Histories.{ChangesObject}
 use Rattle.sw_object_steps.specs.Journals.{Hash}
 use Rattle.sw_object_steps.specs.Rules.{ObjChange, ObjHistory, ObjJournal, Writes, obj_applied, obj_ending, obj_rules}
@@ -25,7 +26,6 @@ use Rattle.sw_state.specs.States.{joined}
 use Rattle.sw_state.specs.declared.state.State.{State}
 use Rattle.sw_state.specs.declared.write.Write.{Write}
 use Rattle.sw_step.proofs.Keeping.{about-own, stand-more}
-use Rattle.sw_step.proofs.Settled.{tell}
 use Rattle.sw_step.specs.Journals.{flat}
 use Rattle.sw_step.specs.Rules.{Damages, Ending, Fails, Makes, Overflows, Refuses, Wants, about, doubts_about, stands}
 use Rattle.sw_step.specs.Steps.{Answers, EndsSeen, EndsUnseen, IsDone, IsRefused, Stops}
@@ -36,7 +36,7 @@ module _ (name : Name) (w : Write) where
 
   -- a value with the write, and one that may have it
   abbrev with_write : ObjValue → ObjValue
-  with_write v = obj_applied v (Wrote name w)
+  with_write v = obj_applied v (Wrote name w [])
 
   abbrev MayHave : ObjValue → ObjValue → Type 0
   MayHave was now = (now ≡ was) ⊎ (now ≡ with_write was)
@@ -69,20 +69,20 @@ module _ (name : Name) (w : Write) where
         by a b looked is q = cc
 
     -- the write is made whole, or not at all
-    made_whole : (p.made ≡ []) ⊎ (p.made ≡ Wrote name w ∷ [])
+    made_whole : (p.made ≡ []) ⊎ (p.made ≡ Wrote name w [] ∷ [])
     made_whole = by p.looked p.answered
       where
         stopped : (failed : Bool) → Stops obj_rules failed p.read p.before.journal name.hash own p.made g.journal
-            → (p.made ≡ []) ⊎ (p.made ≡ Wrote name w ∷ [])
-        stopped failed st = cut (one-list (Wrote name w ∷ []) st.first st.here st.behind st.cut) st.is_made
+            → (p.made ≡ []) ⊎ (p.made ≡ Wrote name w [] ∷ [])
+        stopped failed st = cut (one-list (Wrote name w [] ∷ []) st.first st.here st.behind st.cut) st.is_made
           where
-            cut : (st.first ≡ []) × (st.here ≡ Wrote name w ∷ []) × (st.behind ≡ [])
-                → (p.made ≡ flat st.first) ⊎ ((st.doubted ≡ true) × (p.made ≡ flat st.first ++ st.here)) → (p.made ≡ []) ⊎ (p.made ≡ Wrote name w ∷ [])
+            cut : (st.first ≡ []) × (st.here ≡ Wrote name w [] ∷ []) × (st.behind ≡ [])
+                → (p.made ≡ flat st.first) ⊎ ((st.doubted ≡ true) × (p.made ≡ flat st.first ++ st.here)) → (p.made ≡ []) ⊎ (p.made ≡ Wrote name w [] ∷ [])
             cut one (inl none) = inl (none ∙ ap flat one.0)
             cut one (inr both) = inr (both.1 ∙ (ap (λ (xs : List (List ObjEntry)). flat xs ++ st.here) one.0 ∙ one.1))
 
         seen : (e : Ending) → EndsSeen obj_rules e p.read p.before.journal name.hash own answer p.made g.journal
-            → (p.made ≡ []) ⊎ (p.made ≡ Wrote name w ∷ [])
+            → (p.made ≡ []) ⊎ (p.made ≡ Wrote name w [] ∷ [])
         seen Makes q = inr q.is_made
         seen Refuses q = inl q.leaves.not_made
         seen Overflows q = inl q.leaves.not_made
@@ -96,7 +96,7 @@ module _ (name : Name) (w : Write) where
         unseen Damages q = q.not_made
         unseen e q = absurd q
 
-        by : (b : Bool) → Answers obj_rules b p.read p.before.journal name.hash own answer p.made g.journal → (p.made ≡ []) ⊎ (p.made ≡ Wrote name w ∷ [])
+        by : (b : Bool) → Answers obj_rules b p.read p.before.journal name.hash own answer p.made g.journal → (p.made ≡ []) ⊎ (p.made ≡ Wrote name w [] ∷ [])
         by true q = seen (obj_ending answer) q
         by false q = inl (unseen (obj_ending answer) q)
 
@@ -104,9 +104,9 @@ module _ (name : Name) (w : Write) where
     step-has : is_acknowledgement answer ≡ true → joined (state_by g name.hash) w ≡ state_by g name.hash
     step-has is = by (taken is).1
       where
-        stood : p.read ≡ stands obj_rules p.before name.hash
-        stood = tell obj_rules p.before name.hash p.read (p.known told_before (taken is).0)
-            (none-of (doubts_about obj_rules name.hash p.before.journal.doubts) (p.settled (taken is).0))
+        stood : p.read.state ≡ state_by p.before name.hash
+        stood = state-told p.before name.hash p.read (p.known told_before (taken is).0)
+            (none-written (doubts_about obj_rules name.hash p.before.journal.doubts) (p.settled (taken is).0))
 
         more : (es : List ObjEntry) → g.journal.entries ≡ p.before.journal.entries ++ es
             → stands obj_rules g name.hash ≡ fold obj_applied (stands obj_rules p.before name.hash) (about obj_rules name.hash es)
@@ -115,13 +115,13 @@ module _ (name : Name) (w : Write) where
         by : IsTaken answer → joined (state_by g name.hash) w ≡ state_by g name.hash
         by (inl done) =
             let now : stands obj_rules g name.hash ≡ with_write (stands obj_rules p.before name.hash) =
-            more (Wrote name w ∷ []) (ap (λ (j : ObjJournal). j.entries) done.entered)
-            ∙ ap (fold obj_applied (stands obj_rules p.before name.hash)) (about-own obj_rules are-rules name.hash (Wrote name w ∷ []) (refl, tt)) in
+            more (Wrote name w [] ∷ []) (ap (λ (j : ObjJournal). j.entries) done.entered)
+            ∙ ap (fold obj_applied (stands obj_rules p.before name.hash)) (about-own obj_rules are-rules name.hash (Wrote name w [] ∷ []) (refl, tt)) in
             subst (λ (v : ObjValue). joined v.state w ≡ v.state) (sym now) (comes_again (state_by p.before name.hash) w)
         by (inr refused) =
             let same : g.journal.entries ≡ p.before.journal.entries ++ [] =
             ap (λ (j : ObjJournal). j.entries) refused.leaves.same ∙ sym (append-nil p.before.journal.entries) in
-            subst (λ (v : ObjValue). joined v.state w ≡ v.state) (stood ∙ sym (more [] same))
+            subst (λ (v : State). joined v w ≡ v) (stood ∙ ap (λ (v : ObjValue). v.state) (sym (more [] same)))
             (refused-held p.read.state w answer refused.refused)
 
     module _ (is_alone : alone ≡ true) where
@@ -133,7 +133,7 @@ module _ (name : Name) (w : Write) where
       step-holds is = by (taken is).1
         where
           by : IsTaken answer → t ≡ with_write (s name.hash)
-          by (inl done) = left (Wrote name w ∷ []) done.is_made
+          by (inl done) = left (Wrote name w [] ∷ []) done.is_made
           by (inr refused) = left [] refused.leaves.not_made ∙ sym (kept-by (s name.hash)
               (subst (λ (v : ObjValue). joined v.state w ≡ v.state) (p.held is_alone told_before (taken is).0)
               (refused-held p.read.state w answer refused.refused)))
@@ -142,9 +142,9 @@ module _ (name : Name) (w : Write) where
       step-either : MayHave (s name.hash) t
       step-either = by made_whole
         where
-          by : (p.made ≡ []) ⊎ (p.made ≡ Wrote name w ∷ []) → MayHave (s name.hash) t
+          by : (p.made ≡ []) ⊎ (p.made ≡ Wrote name w [] ∷ []) → MayHave (s name.hash) t
           by (inl none) = inl (left [] none)
-          by (inr all) = inr (left (Wrote name w ∷ []) all)
+          by (inr all) = inr (left (Wrote name w [] ∷ []) all)
 
   -- ---- a call, at a device and one of its locks
 

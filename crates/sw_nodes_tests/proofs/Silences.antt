@@ -16,7 +16,7 @@ use Rattle.sw_object_steps.specs.Values.{ObjValue, bare}
 use Rattle.sw_object_steps.specs.declared.answer.Answer.{Answer}
 use Rattle.sw_object_steps.specs.declared.answer.Answer.TheVariants as answers
 use Rattle.sw_object_steps.specs.declared.change.Change.{Change}
-use Rattle.sw_object_steps.specs.declared.change.Change.TheVariants.{Put, Post, Delete, Receive}
+use Rattle.sw_object_steps.specs.declared.change.Change.TheVariants.{Put, Post, Delete, Receive, MarkRecord, DropRecord}
 use Rattle.sw_object_steps.specs.declared.got.Got.TheVariants as gots
 use Rattle.sw_peer.proofs.Calls.{calls-once, faithful-once, made-step, moves-refl, read-step, wanting}
 use Rattle.sw_peer.proofs.ContCalls.{cont-made-step, cont-wanting, look-step, look-wanting, none-alone}
@@ -120,6 +120,10 @@ answered-step link device name (Post time heads) true = wanting link device name
 answered-step link device name (Post time heads) false = wanting link device name (Post time heads) silent (λ alone. no alone)
 answered-step link device name (Delete time second) true = wanting link device name (Delete time second) silent (λ alone. no alone)
 answered-step link device name (Delete time second) false = wanting link device name (Delete time second) silent (λ alone. no alone)
+answered-step link device name (MarkRecord filed told) true = wanting link device name (MarkRecord filed told) silent (λ alone. no alone)
+answered-step link device name (MarkRecord filed told) false = wanting link device name (MarkRecord filed told) silent (λ alone. no alone)
+answered-step link device name (DropRecord filed all) true = wanting link device name (DropRecord filed all) silent (λ alone. no alone)
+answered-step link device name (DropRecord filed all) false = wanting link device name (DropRecord filed all) silent (λ alone. no alone)
 
 pub answered-call : (link : Link) (device : ℕ) (name : Name) (change : Change) (has_writes : Bool)
     → Calls (IsMade link device name change) silent link (Ok (answer_to has_writes change)) silent

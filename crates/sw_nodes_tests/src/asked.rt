@@ -57,7 +57,7 @@ pub fn told_by_answer(answer: &Answer) -> Told {
         Answer::Exists => Told::Exists,
         Answer::JournalFull => Told::Full,
         Answer::Failed => Told::Failed,
-        Answer::Damaged(_) | Answer::NoMemory => Told::Other,
+        Answer::Took(_) | Answer::Damaged(_) | Answer::NoMemory => Told::Other,
     }
 }
 

@@ -13,6 +13,8 @@ mod losing;
 mod obj_dirs;
 #[cfg(test)]
 mod peer;
+#[cfg(test)]
+mod recording;
 mod refusing;
 #[cfg(test)]
 mod runs;

@@ -104,10 +104,13 @@ impl Lock {
     /// What the step is answered, where it is no restart.
     fn told(&mut self, alloc: Global, object: &[u8], asked: Asked) -> Result<Told, Fail> {
         let name = name_under(alloc, &self.secrets, object)?;
-        Ok(match change_of(alloc, asked)? {
-            Some(change) => told_by_answer(&self.dir.change(alloc, &name, change)),
-            None => told_by_got(&self.dir.get(alloc, &name)),
-        })
+        let Some(change) = change_of(alloc, asked)? else {
+            return Ok(told_by_got(&self.dir.get(alloc, &name)));
+        };
+        if !change.is_write() {
+            return Err(Fail::from("no write"));
+        }
+        Ok(told_by_answer(&self.dir.change(alloc, &name, change)))
     }
 
     /// The same of the object `o`, by the call of the step's own name.
@@ -674,6 +677,8 @@ fn change_by_name(alloc: Global, dir: &mut ObjDir<MemVolume>, name: &Name, chang
         Change::Post { time, heads } => dir.post(alloc, name, time, heads),
         Change::Delete { time, if_delete_at } => dir.delete(alloc, name, time, if_delete_at),
         Change::Receive { write } => dir.receive(alloc, name, write),
+        // Those at records have tests of their own.
+        Change::MarkRecord { .. } | Change::DropRecord { .. } => Answer::NoMemory,
     }
 }
 

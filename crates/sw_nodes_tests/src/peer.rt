@@ -2,7 +2,7 @@ use crate::asked::{content, heads, name_under, secrets};
 use std::alloc::Global;
 use std::test::Fail;
 use sw_hashpath::BadFile;
-use sw_object_steps::{Got, ObjEntry};
+use sw_object_steps::{FiledList, Got, ObjEntry};
 use sw_outside::NoMemory;
 use sw_state::{Kind, Write};
 use sw_timestamp::Timestamp;
@@ -69,7 +69,9 @@ fn what_a_read_found_is_copied_whole(rt: HostRuntime) -> Result<(), Fail> {
 
 /// Whether an entry is of the object `o`, at the fifth second.
 fn is_of_o(entry: &ObjEntry) -> bool {
-    let ObjEntry::Wrote(name, write) = entry;
+    let ObjEntry::Wrote(name, write, _) = entry else {
+        return false;
+    };
     name.object.as_slice() == b"o".as_slice()
         && name.hash[0] == 0x06
         && write.time.units() == 500_000
@@ -82,7 +84,11 @@ fn an_entry_is_copied_whole(rt: HostRuntime) -> Result<(), Fail> {
         time: Timestamp::parse(b"5")?,
         kind: Kind::Put(content(alloc, b"abc")?),
     };
-    let entry = ObjEntry::Wrote(name_under(alloc, &secrets(alloc)?, b"o")?, write);
+    let entry = ObjEntry::Wrote(
+        name_under(alloc, &secrets(alloc)?, b"o")?,
+        write,
+        FiledList::new(alloc),
+    );
     assert!(rt; is_of_o(&entry.copy(alloc)?));
     Ok(())
 }

@@ -40,7 +40,11 @@ fn answer(has_writes: bool, change: &Change) -> Answer
     match change {
         Change::Receive { write } if has_writes => Answer::Conflict(write.time),
         Change::Receive { .. } => Answer::JournalFull,
-        Change::Put { .. } | Change::Post { .. } | Change::Delete { .. } => Answer::NoMemory,
+        Change::Put { .. }
+        | Change::Post { .. }
+        | Change::Delete { .. }
+        | Change::MarkRecord { .. }
+        | Change::DropRecord { .. } => Answer::NoMemory,
     }
 }
 

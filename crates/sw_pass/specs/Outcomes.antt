@@ -29,6 +29,7 @@ fault_hindrance faults.NoMemory = None
 abbrev pub answer_hindrance : Answer → Option Hindrance
 answer_hindrance (answers.Done front) = None
 answer_hindrance (answers.Buried front) = None
+answer_hindrance (answers.Took is) = None
 answer_hindrance (answers.Conflict time) = None
 answer_hindrance (answers.NotFound time) = Some Missing
 answer_hindrance (answers.Mismatch second) = Some Missing

@@ -54,6 +54,7 @@ impl Hindrance {
             Answer::Exists => Some(Hindrance::Missing),
             Answer::Done(_) => None,
             Answer::Buried(_) => None,
+            Answer::Took(_) => None,
             Answer::Conflict(_) => None,
             Answer::NoMemory => None,
         }

@@ -1,9 +1,9 @@
 //! What a pass of a daemon came to, and how it is counted.
 //!
-//! An [`Outcome`] tells whether a pass is done, and what is left where it isn't: how many answers were lost, and the first answer that hindered
-//! it, a [`Hindrance`]. So a pass that isn't done always says why. `specs/Outcomes` has what each event counts for.
+//! An [`Outcome`] tells whether a pass is done, how many answers were lost, the first answer that hindered it, a [`Hindrance`], and how much is left.
+//! `specs/Outcomes` has what each event counts for.
 //!
-//! The next layer up is the passes themselves, as `sw_replicator`.
+//! The next layers up are the passes themselves, `sw_replicator` and `sw_cont_replicator`: each promises that a pass which isn't done says why.
 #![tactic(auto)]
 
 mod hindrance;

@@ -1,7 +1,6 @@
 -- Calls of a door, one after another, with messages that come several times or never.
 use Rattle.std.proofs.Common.{◌≡◌, ℕ, suc, ◌+◌, ◌≤◌, Bool, true, false, List, [], ◌∷◌, ◌++◌, length, refl, sym, ◌∙◌, ap, subst, arith, append_assoc, bytes_eq}
 use Rattle.std.proofs.Common.{length-append, inl, inr, Result, Ok, Err}
-use Rattle.std.proofs.lemmas.List.{append-nil}
 use Rattle.sw_object_steps.proofs.Hashes.{hash-same, hash-self}
 use Rattle.sw_diskfile.specs.declared.file_name.FileName.{FileName}
 use Rattle.sw_hashpath.specs.declared.name.Name.{Name}

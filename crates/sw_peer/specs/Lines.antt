@@ -8,7 +8,7 @@ use Rattle.sw_peer.specs.declared.line.Event.{Event}
 use Rattle.sw_peer.specs.declared.line.Event.TheVariants as events
 use Rattle.sw_peer.specs.declared.line.Line.{Line}
 
--- how many entries a step adds for its own write, by its answer
+-- how many entries a step adds for its own write, by its answer. One at a record has none
 abbrev pub own_by : Answer → ℕ
 own_by answer = if is_entered answer then 1 else 0
 
@@ -30,6 +30,6 @@ entered_in (events.Listed failed) = []
 entered_in (events.AtContainer event entries) = entries
 entered_in events.Restarted = []
 
--- the entries of doubts that the step settled
+-- the entries of doubts that the step settled, and behind them those of a step at a record
 abbrev pub settled_in : Line → List ObjEntry
 settled_in line = take (length line.added - own_count line.event) line.added

@@ -9,7 +9,8 @@ use sw_container_steps::{ContEntry, ContEntryList};
 use sw_object_steps::Brief;
 
 /// A line as the keeper of all nodes keeps it. Contracts see the line. Beside it stands what a trail prints of the doubts that its step settled, where
-/// the doubted writes had been made, and the entries that a step at a container added. A step at an object adds its own write last.
+/// what they doubted had been made, and of a step at a record, and the entries that a step at a container added. A step that writes an object adds its
+/// own write last.
 #[derive(Drop)]
 pub struct KeptLine {
     line: Line,
@@ -65,7 +66,7 @@ impl KeptLine {
         &self.line
     }
 
-    /// What a trail prints of the settled doubts whose writes had been made.
+    /// What a trail prints of the settled doubts that had been made, and of a step at a record.
     pub fn settled(&self) -> &[Brief]
         ensures { result.now ≡ map brief_of (settled_in self.now) }
     {

@@ -4,7 +4,8 @@ use Rattle.std.specs.List.{fold}
 use Rattle.sw_peer.proofs.Heard.{last}
 use Rattle.sw_hashpath.specs.declared.name.Name.{Name}
 use Rattle.sw_object_steps.proofs.Answering.{refused-held}
-use Rattle.sw_object_steps.proofs.Ruling.{are-rules, none-of}
+use Rattle.sw_object_steps.proofs.Ruling.{are-rules}
+use Rattle.sw_object_steps.proofs.Undoubted.{none-written, state-told}
 use Rattle.sw_object_steps.proofs.Lists.{one-list}
 use Rattle.sw_object_steps.specs.Histories.{ChangesObject}
 use Rattle.sw_object_steps.specs.Journals.{Hash}
@@ -29,7 +30,6 @@ use Rattle.sw_state.specs.States.{joined}
 use Rattle.sw_state.specs.declared.state.State.{State}
 use Rattle.sw_state.specs.declared.write.Write.{Write}
 use Rattle.sw_step.proofs.Keeping.{about-own, stand-more}
-use Rattle.sw_step.proofs.Settled.{tell}
 use Rattle.sw_step.specs.Journals.{flat}
 use Rattle.sw_step.specs.Rules.{Damages, Ending, Fails, Makes, Overflows, Refuses, Wants, doubts_about, stands}
 use Rattle.sw_step.specs.Steps.{Answers, EndsSeen, EndsUnseen, IsDone, IsRefused, Stops}
@@ -42,7 +42,7 @@ module _ (to : ℕ) (name : Name) (w : Write) where
   own = Writes name (Receive w)
 
   abbrev entry : List ObjEntry
-  entry = Wrote name w ∷ []
+  entry = Wrote name w [] ∷ []
 
   -- the device's lock is that of the partition
   lock_is : (s : Sight) (part : ℕ) → IsOfPart s.nodes.power part name.hash → s.nodes.lock to name.hash ≡ s.nodes.part_lock to part
@@ -110,16 +110,16 @@ module _ (to : ℕ) (name : Name) (w : Write) where
         where
           by : IsTaken answer → joined (state_by g name.hash) w ≡ state_by g name.hash
           by (inl done) =
-              let is : stands obj_rules g name.hash ≡ obj_applied (stands obj_rules p.before name.hash) (Wrote name w) =
+              let is : stands obj_rules g name.hash ≡ obj_applied (stands obj_rules p.before name.hash) (Wrote name w []) =
               stand-more obj_rules are-rules p.before g name.hash entry p.after.opening (ap (λ (j : ObjJournal). j.entries) done.entered)
               ∙ ap (fold obj_applied (stands obj_rules p.before name.hash)) (about-own obj_rules are-rules name.hash entry (refl, tt)) in
               subst (λ (v : ObjValue). joined v.state w ≡ v.state) (sym is) (comes_again (state_by p.before name.hash) w)
           by (inr refused) =
-              let read : p.read ≡ stands obj_rules p.before name.hash =
-              tell obj_rules p.before name.hash p.read (p.known told_before (taken held).0)
-              (none-of (doubts_about obj_rules name.hash p.before.journal.doubts) (p.settled (taken held).0)) in
+              let read : p.read.state ≡ state_by p.before name.hash =
+              state-told p.before name.hash p.read (p.known told_before (taken held).0)
+              (none-written (doubts_about obj_rules name.hash p.before.journal.doubts) (p.settled (taken held).0)) in
               least-keeps (state_by g name.hash) (state_by p.before name.hash) w (grown-least p.before g name.hash p.after)
-              (subst (λ (v : ObjValue). joined v.state w ≡ v.state) read (refused-held p.read.state w answer refused.refused))
+              (subst (λ (v : State). joined v w ≡ v) read (refused-held p.read.state w answer refused.refused))
 
       module _ (is : alone ≡ true) where
         holds : (es : List ObjEntry) → p.made ≡ es → t ≡ fold obj_applied (s name.hash) es

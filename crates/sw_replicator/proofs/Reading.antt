@@ -12,11 +12,11 @@ use Rattle.sw_hashpath.specs.declared.name.Name.{Name}
 use Rattle.sw_history.specs.Halves.{GrowsOf}
 use Rattle.sw_object_steps.proofs.Hashes.{hash-self}
 use Rattle.sw_object_steps.proofs.Parts.{file-as, hashes-as, lines-as}
-use Rattle.sw_object_steps.proofs.Ruling.{none-of}
+use Rattle.sw_object_steps.proofs.Undoubted.{state-told}
 use Rattle.sw_object_steps.specs.Histories.{ReadsPart}
 use Rattle.sw_object_steps.specs.Journals.{Hash}
 use Rattle.sw_object_steps.specs.Parts.{AreHashes, AreLines, IsFile, IsOfPart}
-use Rattle.sw_object_steps.specs.Rules.{ObjHistory, obj_rules}
+use Rattle.sw_object_steps.specs.Rules.{ObjHistory}
 use Rattle.sw_object_steps.specs.Values.{ObjValue}
 use Rattle.sw_object_steps.specs.declared.answer.Answer.{Answer}
 use Rattle.sw_object_steps.specs.declared.change.Change.{Change}
@@ -34,8 +34,6 @@ use Rattle.sw_replicator.proofs.Taking.{grown-least}
 use Rattle.sw_replicator.specs.Meeting.{IsOfPair, PairMoves, known, state_at, state_by}
 use Rattle.sw_state.specs.States.{IsAtLeast}
 use Rattle.sw_state.specs.declared.state.State.{State}
-use Rattle.sw_step.proofs.Settled.{tell}
-use Rattle.sw_step.specs.Rules.{doubts_about}
 use Rattle.sw_suffix.specs.declared.dir_line.DirLine.{DirLine}
 use Rattle.sw_suffix.specs.declared.told.SuffixHash.{SuffixHash}
 
@@ -108,8 +106,8 @@ module _ {A : Type 0} (link : Link) (device part : ℕ) (at : Nodes → Hash →
   read-holds : (s : Sight) (got : Result A DirFault) (t : Sight) → Calls Reads s link (Ok got) t → HoldsAll s t
   read-holds s got t p = came-holds s (p.0 ++ got ∷ []) t p.2
 
-  -- What is answered is right of one state for each hash that was read. No doubt of it is left, so that is what stands by the entries, and where the door
-  -- is alone what the device holds
+  -- What is answered is right of one state for each hash that was read. None of its writes is in doubt, so that is what stands by the entries, and where
+  -- the door is alone what the device holds
   record Tells (nodes : Nodes) (got : A) (alone : Bool) (g : ObjHistory) (holds : Hash → ObjValue) : Type 0 where
     states : Hash → State
     shown : reading nodes g.told states got
@@ -121,9 +119,7 @@ module _ {A : Type 0} (link : Link) (device part : ℕ) (at : Nodes → Hash →
   one-tells nodes alone h g got holds p = record {
     states = λ hash. (p.read hash).state;
     shown = p.shown refl;
-    by = λ told hash is.
-        ap (λ (v : ObjValue). v.state)
-        (tell obj_rules g hash (p.read hash) (p.known told refl hash is) (none-of (doubts_about obj_rules hash g.journal.doubts) (p.settled refl hash is)));
+    by = λ told hash is. state-told g hash (p.read hash) (p.known told refl hash is) (p.settled refl hash is);
     held = λ alone told hash is. ap (λ (v : ObjValue). v.state) (p.held alone told refl hash is);
   }
 

@@ -15,7 +15,7 @@ use Rattle.sw_object_steps.specs.Outlines.{file_mark, is_new_to, mark_of, outlin
 use Rattle.sw_object_steps.specs.Rules.{ObjHistory, obj_applied, obj_rules}
 use Rattle.sw_object_steps.specs.Values.{ObjValue}
 use Rattle.sw_object_steps.specs.declared.entry.ObjEntry.{ObjEntry}
-use Rattle.sw_object_steps.specs.declared.entry.ObjEntry.TheVariants.{Wrote}
+use Rattle.sw_object_steps.specs.declared.entry.ObjEntry.TheVariants.{Dropped, Files, Marked, Wrote}
 use Rattle.sw_object_steps.specs.declared.outline.Outline.{Outline}
 use Rattle.sw_replicator.specs.Meeting.{state_by}
 use Rattle.sw_replicator.specs.Pushing.{is_wanted}
@@ -42,8 +42,11 @@ use Rattle.sw_timestamp.specs.declared.tag.Tag.TheVariants as tags
 -- entries only add
 entries-least : (v : ObjValue) (es : List ObjEntry) → IsAtLeast (fold obj_applied v es).state v.state
 entries-least v [] = idempotent v.state
-entries-least v (Wrote name w ∷ es) =
-    let next : ObjValue = obj_applied v (Wrote name w) in
+entries-least v (Files by filed ∷ es) = entries-least (obj_applied v (Files by filed)) es
+entries-least v (Marked by filed device ∷ es) = entries-least (obj_applied v (Marked by filed device)) es
+entries-least v (Dropped by filed ∷ es) = entries-least (obj_applied v (Dropped by filed)) es
+entries-least v (Wrote name w records ∷ es) =
+    let next : ObjValue = obj_applied v (Wrote name w records) in
     at_least_transitive (fold obj_applied next es).state next.state v.state (entries-least next es)
     (subst (λ (x : State). IsAtLeast x v.state) (sym (joined-together v.state w)) (join_is_at_least v.state (state_of (w ∷ []))).0)
 

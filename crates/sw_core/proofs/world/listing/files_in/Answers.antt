@@ -29,7 +29,7 @@ returns-in_err-add_files-clause-looked g c =
     one-looked g.V.Volume.tells g.V.Volume.holds g.V.Volume.faults c.args.first at c.args.past c.args.places.now.items now c.in-Open.dir c.add_files.new.self
     c.loop-at.auto.at before below
     c.loop-at.invariant.looked (there ∙ ap Some c.in-Open.is)
-    (record { looks = c.add_files.ensures.looks; journal = c.add_files.ensures.journal; held = c.add_files.ensures.held })
+    (record { looks = c.add_files.ensures.looks; journal = c.add_files.ensures.journal; held = c.add_files.ensures.values })
 
 pub returns-in_err-add_files-clause-risen : goal.returns-in_err-add_files-clause-risen
 returns-in_err-add_files-clause-risen g c =
@@ -66,7 +66,7 @@ loop-at-preserved g c =
         looked = rw w.places-is (
             one-looked g.V.Volume.tells g.V.Volume.holds g.V.Volume.faults c.args.first at (at + 1) old now w.in-Open.dir w.add_files.new.self from on below
             looked (there ∙ ap Some w.in-Open.is)
-            (record { looks = w.add_files.ensures.looks; journal = w.add_files.ensures.journal; held = w.add_files.ensures.held })
+            (record { looks = w.add_files.ensures.looks; journal = w.add_files.ensures.journal; held = w.add_files.ensures.values })
             );
         paths = rw w.found-is (
             one-found g.V.Volume.tells g.V.Volume.holds g.V.Volume.faults c.args.first at old w.in-Open.dir c.loop-at.found w.add_files.new.found from

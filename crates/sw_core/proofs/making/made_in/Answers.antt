@@ -4,7 +4,7 @@ use Rattle.sw_object_steps.specs.Rules.{obj_rules}
 use Rattle.sw_peer.specs.Lines.{own_by}
 use Rattle.sw_step.proofs.Settled.{added-is}
 use Rattle.sw_step.specs.Steps.{added_by}
-use Rattle.sw_core.proofs.making.change_in.Goals as goal
+use Rattle.sw_core.proofs.making.made_in.Goals as goal
 
 pub new-requires : goal.new-requires
 new-requires g c =

@@ -1,0 +1,307 @@
+ghost use Rattle.std.specs.Prelude.{◌≡◌, false, IfOk};
+ghost use Rattle.sw_hashdir.specs.Steps.{IsHashed};
+ghost use Rattle.sw_object_steps.specs.Recorded.{is_write};
+
+use crate::asked::{content, failing_calls, name_under, secrets};
+use std::alloc::Global;
+use std::test::Fail;
+use sw_hashpath::{Name, Secrets};
+use sw_objdir::ObjDir;
+use sw_object_steps::{Answer, Brief, BriefKind, Change};
+use sw_outside::NoMemory;
+use sw_pending::{DeviceList, Filed};
+use sw_pending_dir::put_record;
+use sw_timestamp::{Tag, Timestamp};
+use sw_volume::MemVolume;
+
+/// How many bits of the hash tell the partition.
+const POWER: u8 = 8;
+
+/// A step of the object `o`. Its record is that of time 20.
+#[derive(Clone, Copy)]
+enum Asked {
+    Mark(u8),
+    /// Of which all these devices have to be told.
+    Drop(&'static [u8]),
+    Put(u64),
+    Delete(u64),
+    /// The same of a record of another name.
+    MarkOther(u8),
+}
+
+/// What it is answered.
+#[derive(Clone, Copy, PartialEq, Eq)]
+enum Told {
+    Took(bool),
+    Done(u64),
+    Failed,
+    Full,
+    Other,
+}
+
+use Asked::{Delete, Drop, Mark, MarkOther, Put};
+use Told::{Done, Failed, Full, Other, Took};
+
+/// What a trail shows of what came.
+const MARKED: BriefKind = BriefKind::Marked;
+
+const DROPPED: BriefKind = BriefKind::Dropped;
+
+const WROTE: BriefKind = BriefKind::Wrote(Tag::Put);
+
+/// A step, what it is answered, and what it tells of the entries that came, where it is a step at a record.
+type Row = (Asked, Told, &'static [BriefKind]);
+
+/// No call fails.
+const CALM: &[(u64, bool)] = &[];
+
+/// Marks are told once each; a record goes where all were told, or where nothing as late stands.
+const MARKS: &[Row] = &[
+    (Put(20), Done(1), &[]),
+    (Drop(&[1, 2]), Took(false), &[]),
+    (Mark(2), Took(true), &[MARKED]),
+    (Mark(2), Took(true), &[]),
+    (Drop(&[1, 2]), Took(false), &[]),
+    (MarkOther(2), Took(false), &[]),
+    (Mark(1), Took(true), &[MARKED]),
+    (Drop(&[1, 2]), Took(true), &[DROPPED]),
+    (Drop(&[1, 2]), Took(false), &[]),
+    (Mark(1), Took(false), &[]),
+    (Put(30), Done(5), &[]),
+];
+
+/// Nothing stands under the name, or what stands is earlier: there is nothing to tell any more.
+const GONE: &[Row] = &[
+    (Put(10), Done(1), &[]),
+    (Drop(&[1, 2]), Took(true), &[DROPPED]),
+    (Mark(1), Took(false), &[]),
+];
+
+/// The put of a mark fails, and was made: the next step at the record finds it, and tells it first.
+const MARK_IN_DOUBT: &[Row] = &[
+    (Mark(1), Failed, &[]),
+    (Mark(1), Took(true), &[MARKED]),
+    (Mark(2), Took(true), &[MARKED]),
+];
+
+/// It fails, and wasn't made.
+const MARK_UNMADE: &[Row] = &[
+    (Mark(1), Failed, &[]),
+    (Mark(1), Took(true), &[MARKED]),
+    (Mark(1), Took(true), &[]),
+];
+
+/// The put of a write fails, and was made: a drop that lists its directory settles it, and a mark leaves it.
+const WRITE_IN_DOUBT: &[Row] = &[
+    (Put(30), Failed, &[]),
+    (Mark(1), Took(true), &[MARKED]),
+    (Drop(&[1, 2]), Took(false), &[WROTE]),
+    (Drop(&[1]), Took(true), &[DROPPED]),
+];
+
+/// The unlink fails, and was made.
+const DROP_IN_DOUBT: &[Row] = &[
+    (Drop(&[1, 2]), Failed, &[]),
+    (Drop(&[1, 2]), Took(false), &[DROPPED]),
+];
+
+/// A record's file can't be read.
+const UNREAD: &[Row] = &[(Mark(1), Failed, &[]), (Mark(1), Took(true), &[MARKED])];
+
+/// A journal of one entry.
+const ONE_ENTRY: &[Row] = &[
+    (Mark(1), Took(true), &[MARKED]),
+    (Mark(1), Took(true), &[]),
+    (Mark(2), Full, &[]),
+    (Drop(&[1]), Full, &[]),
+];
+
+/// The courses: how many entries the journal takes, the calls that fail, counted from 0, with or without their change, and the steps. The record was put
+/// by the first call.
+const COURSES: &[(u64, &[(u64, bool)], &[Row])] = &[
+    (10, CALM, MARKS),
+    (10, CALM, GONE),
+    (10, &[(2, true)], MARK_IN_DOUBT),
+    (10, &[(2, false)], MARK_UNMADE),
+    (10, &[(2, true)], WRITE_IN_DOUBT),
+    (10, &[(3, true)], DROP_IN_DOUBT),
+    (10, &[(1, false)], UNREAD),
+    (1, CALM, ONE_ENTRY),
+];
+
+/// A directory and the secrets of its ring.
+#[derive(Drop)]
+struct Lock {
+    dir: ObjDir<MemVolume>,
+    secrets: Secrets,
+    ghost ours: { dir.secrets ≡ secrets },
+}
+
+/// A directory over a volume with the record of `o` alone.
+fn begun(alloc: Global, max_entries: u64, failing: &[(u64, bool)]) -> Result<Lock, Fail> {
+    let mut volume = MemVolume::new(alloc, failing_calls(alloc, failing)?);
+    let secrets = secrets(alloc)?;
+    let filed = record_of(alloc, &secrets, b"o")?;
+    put_record(alloc, &mut volume, &filed)?;
+    let given = secrets.copy(alloc)?;
+    let dir = ObjDir::start(alloc, volume, POWER, given, max_entries, 100);
+    Ok(Lock { dir, secrets })
+}
+
+fn record_of(alloc: Global, secrets: &Secrets, object: &[u8]) -> Result<Filed, Fail>
+    ensures { IfOk result (λ filed. IsHashed secrets.now filed.name) }
+{
+    Ok(Filed {
+        name: name_under(alloc, secrets, object)?,
+        time: time(20)?,
+        queue: false,
+        done: DeviceList::new(alloc),
+    })
+}
+
+fn time(units: u64) -> Result<Timestamp, Fail> {
+    match Timestamp::from_units(units) {
+        Some(time) => Ok(time),
+        None => Err(Fail::from("no time")),
+    }
+}
+
+impl Lock {
+    /// Makes a step, and says what it is answered and what it tells of the entries that came.
+    fn step(&mut self, alloc: Global, asked: Asked) -> Result<(Told, Vec<Brief>), Fail> {
+        let name = name_under(alloc, &self.secrets, b"o")?;
+        let change = change_of(alloc, &self.secrets, asked)?;
+        let mut briefs = Vec::new(alloc);
+        let answer = if change.is_write() {
+            self.dir.change(alloc, &name, change)
+        } else {
+            self.dir.record(alloc, &name, &change, &mut briefs)
+        };
+        Ok((told_of(answer), briefs))
+    }
+
+    /// Whether these are the devices that are done of each record, in their order.
+    fn has_records(&mut self, alloc: Global, wanted: &[&[u8]]) -> bool {
+        let mut briefs = Vec::new(alloc);
+        match self.dir.records(alloc, &mut briefs) {
+            Ok(records) => are_done(&records, wanted),
+            Err(_) => false,
+        }
+    }
+
+    /// Whether the row to tell for the record of `o` has this time, size and deletion, or there is none.
+    fn tells(&mut self, alloc: Global, wanted: Option<(u64, u64, bool)>) -> Result<bool, Fail> {
+        let filed = record_of(alloc, &self.secrets, b"o")?;
+        let mut briefs = Vec::new(alloc);
+        match self.dir.base_for(alloc, &filed, &mut briefs) {
+            Ok(row) => Ok(is_told(row, wanted)),
+            Err(_) => Ok(false),
+        }
+    }
+}
+
+fn are_done(records: &[Filed], wanted: &[&[u8]]) -> bool {
+    records.len() == wanted.len()
+        && records
+            .iter()
+            .zip(wanted)
+            .all(|(filed, done)| filed.done.as_slice() == *done)
+}
+
+fn is_told(row: Option<sw_rows::Row>, wanted: Option<(u64, u64, bool)>) -> bool {
+    match (row, wanted) {
+        (Some(row), Some((time, size, deleted))) => {
+            row.created_at.units() == time && row.size == size && row.deleted == deleted
+        }
+        (None, None) => true,
+        _ => false,
+    }
+}
+
+fn change_of(alloc: Global, secrets: &Secrets, asked: Asked) -> Result<Change, Fail> {
+    Ok(match asked {
+        Mark(device) => Change::MarkRecord {
+            filed: record_of(alloc, secrets, b"o")?,
+            device,
+        },
+        MarkOther(device) => Change::MarkRecord {
+            filed: record_of(alloc, secrets, b"p")?,
+            device,
+        },
+        Drop(all) => Change::DropRecord {
+            filed: record_of(alloc, secrets, b"o")?,
+            all: DeviceList::from(Vec::from_slice(alloc, all)?),
+        },
+        Put(units) => Change::Put {
+            time: time(units)?,
+            content: content(alloc, b"old")?,
+            none_match: false,
+        },
+        Delete(units) => Change::Delete {
+            time: time(units)?,
+            if_delete_at: None,
+        },
+    })
+}
+
+fn told_of(answer: Answer) -> Told {
+    match answer {
+        Answer::Took(is) => Took(is),
+        Answer::Done(front) => Done(front),
+        Answer::Failed => Failed,
+        Answer::JournalFull => Full,
+        _ => Other,
+    }
+}
+
+/// Whether these briefs are of the kinds, in their order.
+fn are(briefs: &[Brief], kinds: &[BriefKind]) -> bool {
+    briefs.len() == kinds.len()
+        && briefs
+            .iter()
+            .zip(kinds)
+            .all(|(brief, kind)| brief.kind == *kind)
+}
+
+/// Whether each step of a course is answered so, and tells this.
+fn goes_so(
+    alloc: Global,
+    max_entries: u64,
+    failing: &[(u64, bool)],
+    rows: &[Row],
+) -> Result<bool, Fail> {
+    let mut lock = begun(alloc, max_entries, failing)?;
+    for (asked, wanted, kinds) in rows {
+        let (told, briefs) = lock.step(alloc, *asked)?;
+        if told != *wanted || !are(&briefs, kinds) {
+            return Ok(false);
+        }
+    }
+    Ok(true)
+}
+
+#[test]
+fn records_are_marked_and_dropped(rt: HostRuntime) -> Result<(), Fail> {
+    let alloc = rt.alloc();
+    for (max_entries, failing, rows) in COURSES {
+        assert!(rt; goes_so(alloc, *max_entries, failing, rows)?);
+    }
+    Ok(())
+}
+
+#[test]
+fn what_is_filed_is_read_and_its_row_told(rt: HostRuntime) -> Result<(), Fail> {
+    let alloc = rt.alloc();
+    let mut lock = begun(alloc, 10, CALM)?;
+    assert!(rt; lock.has_records(alloc, &[&[]]));
+    assert!(rt; lock.tells(alloc, None)?);
+    let _ = lock.step(alloc, Put(20))?;
+    assert!(rt; lock.tells(alloc, Some((20, 3, false)))?);
+    let _ = lock.step(alloc, Mark(2))?;
+    assert!(rt; lock.has_records(alloc, &[&[2]]));
+    let _ = lock.step(alloc, Delete(30))?;
+    assert!(rt; lock.tells(alloc, Some((30, 0, true)))?);
+    let _ = lock.step(alloc, Drop(&[2]))?;
+    assert!(rt; lock.has_records(alloc, &[]));
+    Ok(())
+}
