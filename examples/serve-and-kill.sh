@@ -12,10 +12,11 @@ trap '[ -z "$node" ] || kill -9 "$node" 2>/dev/null; rm -rf "$room"' EXIT
 cd "$room"
 
 start() {
+    rm -f said  # that of an earlier start would tell that this one listens
     "$program" serve "$top/examples/two-devices.ring.json" --port "$port" --workers 1 --connections 100 --passes 0 > said &
     node=$!
     disown
-    until grep -q listening said; do sleep 0.1; done
+    until grep -qs listening said; do kill -0 "$node"; sleep 0.1; done
     cat said
 }
 
