@@ -1,30 +1,32 @@
+ghost use Rattle.std.specs.Prelude.{◌≡◌, ℕ, false};
+
 use crate::folders::{end_folder, fresh_folder};
 use crate::stores::{tells, visit};
 use crate::volume::{CALLS, CALLS_LATER};
 use crate::watched::{Failing, Steps, Watched};
+use std::alloc::Global;
 use std::fs;
 use std::io::ErrorKind;
 use std::rc::Rc;
 use std::test::Fail;
 use sw_outside::StoreError;
-use sw_stores::RingStores;
+use sw_stores::{RingStores, Stores};
 
-/// What fails of the one step that a ring takes, and how it is answered then.
-const FAILING: [(Failing, Result<&'static str, StoreError>); 4] = [
-    (Failing::None, Ok("text")),
-    (
-        Failing::One(0, ErrorKind::PermissionDenied),
-        Err(StoreError::Failed),
-    ),
-    (
-        Failing::One(0, ErrorKind::Interrupted),
-        Err(StoreError::Failed),
-    ),
-    (
-        Failing::One(0, ErrorKind::OutOfMemory),
-        Err(StoreError::NoMemory),
-    ),
-];
+/// Whether stores answer so where they are asked for the ring of this name and that step fails, if one does. It is the one step that they take.
+fn tells_by_one_step<S: Stores>(
+    alloc: Global,
+    stores: &mut S,
+    steps: &Steps,
+    name: &str,
+    failing: Failing,
+    wanted: Result<&str, StoreError>,
+) -> bool
+    requires { (d s : ℕ) → S.out stores.old d s ≡ false }
+    ensures { (d s : ℕ) → S.out stores.new d s ≡ false }
+{
+    steps.begin(failing);
+    tells(alloc, stores, name, wanted) && steps.asked() == 1
+}
 
 #[test]
 fn rings_are_files_and_volumes_are_kept_in_memory(rt: HostRuntime) -> Result<(), Fail> {
@@ -41,11 +43,40 @@ fn rings_are_files_and_volumes_are_kept_in_memory(rt: HostRuntime) -> Result<(),
     };
     let host = (watched, alloc);
     let mut stores = RingStores::new(&host);
-    for (failing, wanted) in FAILING {
-        steps.begin(failing);
-        assert!(rt; tells(alloc, &mut stores, &ring, wanted));
-        assert_eq!(rt; steps.asked(), 1);
-    }
+    let refused = Failing::One(0, ErrorKind::PermissionDenied);
+    let stopped = Failing::One(0, ErrorKind::Interrupted);
+    let memory = Failing::One(0, ErrorKind::OutOfMemory);
+    assert!(rt; tells_by_one_step(alloc, &mut stores, &steps, &ring, Failing::None, Ok("text")));
+    assert!(rt;
+        tells_by_one_step(
+            alloc,
+            &mut stores,
+            &steps,
+            &ring,
+            refused,
+            Err(StoreError::Failed)
+        )
+    );
+    assert!(rt;
+        tells_by_one_step(
+            alloc,
+            &mut stores,
+            &steps,
+            &ring,
+            stopped,
+            Err(StoreError::Failed)
+        )
+    );
+    assert!(rt;
+        tells_by_one_step(
+            alloc,
+            &mut stores,
+            &steps,
+            &ring,
+            memory,
+            Err(StoreError::NoMemory)
+        )
+    );
     assert!(rt; tells(alloc, &mut stores, &missing, Err(StoreError::Failed)));
     assert_eq!(rt; visit(alloc, &mut stores, 1, 3, &CALLS)?, None);
     assert_eq!(rt; visit(alloc, &mut stores, 1, 2, &CALLS)?, None);
