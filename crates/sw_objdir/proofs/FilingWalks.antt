@@ -4,17 +4,18 @@ use Rattle.std.proofs.Common.{inl, inr, length, Result, Ok, Err, IfOk, Vec, Glob
 use Rattle.std.specs.List.{All, AllByRecursion, Contains}
 use Rattle.std.specs.Str.{bytes_eq}
 use Rattle.std.proofs.lemmas.Bool.{cases_Bool}
-use Rattle.std.proofs.lemmas.List.Elements.{recursion_from_All}
+use Rattle.std.proofs.lemmas.List.Elements.{All-cons, All-nil, recursion_from_All}
 use Rattle.sw_hashpath.specs.declared.secrets.Secrets.{Secrets}
 use Rattle.sw_objdir.proofs.Looking.{dir-moved, looks-grows, looks-moved, looks-trans, still-values, tells-now, values-same, values-told}
 use Rattle.sw_objdir.proofs.Reading.{risen-once}
 use Rattle.sw_objdir.specs.Comparing.{IfDamagedPart}
 use Rattle.sw_objdir.specs.Directories.{IsDir, IsPlain, Kept, is_told, value_at, values_of}
 use Rattle.sw_objdir.specs.Filings.{EndsSettling, IsDamageIn, least_for}
-use Rattle.sw_objdir.specs.Filings.{AreFiled, FilingsCalled, IsFilingsStep, SettlesFilings, StopsAt, Walks, fault_of_record, filings}
+use Rattle.sw_objdir.specs.Filings.{FilingsCalled, IsFilingsStep, SettlesFilings, StopsAt, Walks, fault_of_record, filings}
 use Rattle.sw_objdir.specs.Stepping.{LooksAt, SameFiles}
 use Rattle.sw_object_steps.proofs.Hashes.{hash-self}
 use Rattle.sw_object_steps.proofs.Singles.{singles}
+use Rattle.sw_object_steps.specs.Filings.{AreFiled}
 use Rattle.sw_object_steps.specs.Histories.{IsRecorded, part_look}
 use Rattle.sw_object_steps.specs.Journals.{Hash}
 use Rattle.sw_object_steps.specs.Recorded.{doubts_records}
@@ -26,12 +27,13 @@ use Rattle.sw_object_steps.specs.declared.entry.ObjEntry.{ObjEntry}
 use Rattle.sw_object_steps.specs.declared.entry.ObjEntry.TheVariants.{Dropped, Files, Marked, Wrote}
 use Rattle.sw_outside.specs.Counts.{raised}
 use Rattle.sw_outside.specs.Faults.{HasRisen}
+use Rattle.sw_pending.specs.Orders.{AreAscending}
 use Rattle.sw_pending.specs.Outcomes.{IsRecord}
 use Rattle.sw_pending.specs.Records.{key_of}
 use Rattle.sw_pending.specs.declared.filed.Filed.{Filed}
 use Rattle.sw_pending_dir.specs.Places.{AllRecordsInOrder, record_at}
 use Rattle.sw_pending_dir.specs.Readings.{IfDamaged, OnFailedRead}
-use Rattle.sw_pending_dir.specs.Walks.{AreAscending, AreRecords, IsCourse, IsFirstDamage}
+use Rattle.sw_pending_dir.specs.Walks.{AreRecords, IsCourse, IsFirstDamage}
 use Rattle.sw_pending_dir.specs.declared.fault.ReadFault.{ReadFault}
 use Rattle.sw_pending_dir.specs.declared.fault.ReadFault.TheVariants as reads
 use Rattle.sw_step.specs.Rules.{NoneOf, doubts_about}
@@ -154,13 +156,18 @@ module _ {V : Type 0} (tells : V → Bool) (files : V → Folders) (faults calls
         ∙ ap (λ (x : ObjValue). x.records (key_of filed)) (sym (values-same tells files faults m moved after
         (record { began = refl; secrets = refl; power = refl; told = told_is }) stay filed.name.hash))
 
+    every-one : (records : List Filed) → All (λ filed. true ≡ true) records
+    every-one [] = All-nil (λ filed. true ≡ true)
+    every-one (filed ∷ more) = All-cons (λ filed. true ≡ true) filed more refl (every-one more)
+
     are-filed : (records : List Filed) → (tells m.volume ≡ true → AreRecords m.secrets (files m.volume) records) → AreAscending records
         → All (IsRecord m.secrets) records
-        → AreFiled k.secrets (is_told tells files faults moved) (λ hash. (values_of tells files faults moved hash).records) records
+        → AreFiled k.secrets (λ hash. true) (is_told tells files faults moved) (λ hash. (values_of tells files faults moved hash).records) records
     are-filed records are ascending sound = record {
       ascending = ascending;
       sound = subst (λ (s : Secrets). All (IsRecord s) records) looks.same.secrets sound;
-      exact = λ told filed. subst (λ (o : Option Filed). Contains records filed ↔ (o ≡ Some filed)) (moved-filed told filed)
+      within = every-one records;
+      exact = λ told filed at. subst (λ (o : Option Filed). Contains records filed ↔ (o ≡ Some filed)) (moved-filed told filed)
           ((are (tells-now tells files faults m after told)).exact filed);
     }
 
@@ -169,23 +176,23 @@ module _ {V : Type 0} (tells : V → Bool) (files : V → Folders) (faults calls
         → IfOk r (λ records. AreAscending records.items) → IfOk r (λ records. All (IsRecord m.secrets) records.items)
         → IfDamaged r (λ bad. tells m.volume ≡ true → ¬ (AllRecordsInOrder m.secrets (files m.volume)))
         → OnFailedRead r (faults v ≡ raised (faults m.volume))
-        → IsFilingsStep tells files faults k (λ told r got. AreFiled k.secrets told r got.items) (walked r) (record m { volume = v })
+        → IsFilingsStep tells files faults k (λ told r got. AreFiled k.secrets (λ hash. true) told r got.items) (walked r) (record m { volume = v })
     walk-step (Ok records) are ascending sound disorder failed =
-        filings-read k moved moved-looks moved-dir (λ told r got. AreFiled k.secrets told r got.items) (Ok records) (λ is. all.none)
+        filings-read k moved moved-looks moved-dir (λ told r got. AreFiled k.secrets (λ hash. true) told r got.items) (Ok records) (λ is. all.none)
         (λ is. are-filed records.items are ascending sound) (λ is. cc) (λ is. cc)
     walk-step (Err (reads.Damaged bad)) are ascending sound disorder failed =
-        filings-read k moved moved-looks moved-dir (λ told r got. AreFiled k.secrets told r got.items) (Err (faulted.Damaged bad)) (λ is. cc) (λ is. cc)
-        (λ is. untold (is_told tells files faults m) refl) (λ is. cc)
+        filings-read k moved moved-looks moved-dir (λ told r got. AreFiled k.secrets (λ hash. true) told r got.items) (Err (faulted.Damaged bad))
+        (λ is. cc) (λ is. cc) (λ is. untold (is_told tells files faults m) refl) (λ is. cc)
       where
         untold : (b : Bool) → is_told tells files faults m ≡ b → b ≡ false
         untold true told = absurd (disorder (tells-now tells files faults m after told) (after.records_order told))
         untold false none_told = refl
     walk-step (Err reads.Failed) are ascending sound disorder failed =
-        filings-read k moved moved-looks moved-dir (λ told r got. AreFiled k.secrets told r got.items) (Err faulted.Failed) (λ is. cc) (λ is. cc)
-        (λ is. cc) (λ is. risen-once (faults k.volume) (faults v) (failed ∙ ap raised all.counts.failed))
+        filings-read k moved moved-looks moved-dir (λ told r got. AreFiled k.secrets (λ hash. true) told r got.items) (Err faulted.Failed)
+        (λ is. cc) (λ is. cc) (λ is. cc) (λ is. risen-once (faults k.volume) (faults v) (failed ∙ ap raised all.counts.failed))
     walk-step (Err reads.NoMemory) are ascending sound disorder failed =
-        filings-read k moved moved-looks moved-dir (λ told r got. AreFiled k.secrets told r got.items) (Err faulted.NoMemory) (λ is. cc) (λ is. cc)
-        (λ is. cc) (λ is. cc)
+        filings-read k moved moved-looks moved-dir (λ told r got. AreFiled k.secrets (λ hash. true) told r got.items) (Err faulted.NoMemory)
+        (λ is. cc) (λ is. cc) (λ is. cc) (λ is. cc)
 
     same-files : tells k.volume ≡ true → contents (files m.volume) ≡ contents (files k.volume)
     same-files told = λ i d f. looks.still told d f i

@@ -16,13 +16,14 @@ use Rattle.sw_journal.specs.Settling.{SettlesFirst}
 use Rattle.sw_objdir.proofs.Doubts.{MayCome, write-came}
 use Rattle.sw_objdir.proofs.Looking.{all-held, looks-trans, looks-wider, part-reads, told-same}
 use Rattle.sw_objdir.proofs.Reading.{damage-before, found-still, risen-once}
-use Rattle.sw_objdir.specs.BaseRows.{BaseCalled, IsBaseFor, IsRowAt, IsRowBy, IsRowIn, IsRowTold, IsRowWith, LooksBase, LooksNone, OnReadFault}
+use Rattle.sw_objdir.specs.BaseRows.{BaseCalled, IsRowAt, IsRowBy, IsRowIn, IsRowTold, IsRowWith, LooksBase, LooksNone, OnReadFault}
 use Rattle.sw_objdir.specs.BaseRows.{ShowsBase, base_to_tell, row_reads}
 use Rattle.sw_objdir.specs.Calling.{Listed}
 use Rattle.sw_objdir.specs.Comparing.{CountsFault, IfDamagedPart, Looks}
 use Rattle.sw_objdir.specs.Directories.{IsDir, Kept, held, is_told}
 use Rattle.sw_objdir.specs.Stepping.{IsPartStep, LooksAt}
 use Rattle.sw_object_steps.proofs.Hashes.{hash-same, hash-self}
+use Rattle.sw_object_steps.specs.BaseRows.{IsBaseFor}
 use Rattle.sw_object_steps.specs.Journals.{Hash, Journal, written}
 use Rattle.sw_object_steps.specs.Outlines.{file_mark, is_before, mark_of, mark_time, outline_of, picked_outline}
 use Rattle.sw_object_steps.specs.Recorded.{is_gone}

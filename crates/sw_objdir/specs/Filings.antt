@@ -1,7 +1,7 @@
 -- What a read of all records of a directory is, which doubts it settles, and which calls of the volume that takes. (This project's own; the files are
 -- those of OpenStack Swift's object server.)
-use Rattle.std.specs.Prelude.{◌≡◌, ◌≢◌, ℕ, suc, ◌+◌, ◌≤◌, ◌↔◌, Bool, true, false, List, [], length, find, Option, None, Some, Result, Ok, Err, ◌⊎◌, ⊤}
-use Rattle.std.specs.List.{All, Contains, filter}
+use Rattle.std.specs.Prelude.{◌≡◌, ◌≢◌, ℕ, suc, ◌+◌, ◌≤◌, Bool, true, false, List, [], length, find, Option, None, Some, Result, Ok, Err, ◌⊎◌, ⊤}
+use Rattle.std.specs.List.{filter}
 use Rattle.std.specs.declared.alloc.Global.{Global}
 use Rattle.std.specs.declared.vec.Vec.{Vec}
 use Rattle.sw_hashpath.specs.declared.decode_error.BadFile.{BadFile}
@@ -17,25 +17,16 @@ use Rattle.sw_object_steps.specs.declared.dir_fault.DirFault.{DirFault}
 use Rattle.sw_object_steps.specs.declared.dir_fault.DirFault.TheVariants as faulted
 use Rattle.sw_object_steps.specs.declared.entry.ObjEntry.{ObjEntry}
 use Rattle.sw_object_steps.specs.declared.entry.ObjEntry.TheVariants.{Dropped, Files, Marked, Wrote}
-use Rattle.sw_pending.specs.Outcomes.{IsRecord}
 use Rattle.sw_pending.specs.Records.{key_of}
 use Rattle.sw_pending.specs.declared.filed.Filed.{Filed}
 use Rattle.sw_pending.specs.declared.key.RecordKey.{RecordKey}
 use Rattle.sw_pending_dir.specs.Places.{bytes_at}
 use Rattle.sw_pending_dir.specs.Readings.{IsDamaged}
-use Rattle.sw_pending_dir.specs.Walks.{AreAscending, IsCourse, IsFirstDamage}
+use Rattle.sw_pending_dir.specs.Walks.{IsCourse, IsFirstDamage}
 use Rattle.sw_pending_dir.specs.declared.fault.ReadFault.{ReadFault}
 use Rattle.sw_pending_dir.specs.declared.fault.ReadFault.TheVariants as reads
 use Rattle.sw_volume.specs.Tree.{Folders, contents}
 use Rattle.sw_volume.specs.Volume.{Contents, raised_by}
-
--- ---- answers
-
--- these are records, in order of folder and name; and where that is told, exactly those that are filed under their hashes
-pub record AreFiled (secrets : Secrets) (told : Bool) (records : Hash → Records) (list : List Filed) : Type 0 where
-  pub ascending : AreAscending list
-  pub sound : All (IsRecord secrets) list
-  pub exact : told ≡ true → (filed : Filed) → Contains list filed ↔ (records filed.name.hash (key_of filed) ≡ Some filed)
 
 -- the fault as which that of a record's file is told
 abbrev pub fault_of_record : ReadFault → DirFault

@@ -1,11 +1,12 @@
-ghost use Rattle.std.specs.Prelude.{◌≡◌, true, length, find, OnOk};
+ghost use Rattle.std.specs.Prelude.{◌≡◌, true, find};
 ghost use Rattle.std.specs.Option.{option_copied};
 ghost use Rattle.sw_objdir.specs.Comparing.{CountsFault, IfDamagedPart};
 ghost use Rattle.sw_objdir.specs.Directories.{IsDir};
-ghost use Rattle.sw_objdir.specs.Filings.{AreFiled, FilingsCalled, IsDamageIn, IsFilingsStep, SettlesAllFilings, SettlesOneFiling, fault_of_record};
+ghost use Rattle.sw_objdir.specs.Filings.{FilingsCalled, IsDamageIn, IsFilingsStep, SettlesAllFilings, SettlesOneFiling, fault_of_record};
 ghost use Rattle.sw_objdir.specs.Filings.{filing_key, first_key, is_filing};
 ghost use Rattle.sw_objdir.specs.Recording.{Finds};
 ghost use Rattle.sw_objdir.specs.Stepping.{AddsBriefs, LooksAt};
+ghost use Rattle.sw_object_steps.specs.Filings.{AreFiled};
 ghost use Rattle.sw_object_steps.specs.Journals.{Hash, written};
 ghost use Rattle.sw_pending.specs.Records.{key_of};
 ghost use Rattle.sw_pending.specs.declared.filed.Filed.{Filed};
@@ -34,7 +35,8 @@ impl<V: Volume + Drop> ObjDir<V> {
         alloc: Global,
         settled: &mut Vec<Brief>,
     ) -> Result<Vec<Filed>, DirFault>
-        ensures read { IsFilingsStep V.tells V.holds V.faults self.old (λ told r got. AreFiled self.old.secrets told r got.items) result self.new }
+        ensures read { IsFilingsStep V.tells V.holds V.faults self.old (λ told r got. AreFiled self.old.secrets (λ hash. true) told r got.items) result
+            self.new }
         ensures briefs { AddsBriefs self.old.journal.entries self.new.journal.entries settled.old.items settled.new.items }
         ensures cause { CountsFault (V.faults self.old.volume) (V.faults self.new.volume) result }
         ensures damaged { IfDamagedPart result (λ bad. V.tells self.old.volume ≡ true

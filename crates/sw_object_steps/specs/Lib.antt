@@ -1,4 +1,6 @@
+pub mod BaseRows
 pub mod Briefs
+pub mod Filings
 pub mod Halves
 pub mod Histories
 pub mod Journals

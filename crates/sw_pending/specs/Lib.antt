@@ -2,6 +2,7 @@ pub mod Decoding
 pub mod InOrder
 pub mod Laws
 pub mod Names
+pub mod Orders
 pub mod Outcomes
 pub mod Reading
 pub mod Records

@@ -25,8 +25,9 @@ use Rattle.sw_volume.proofs.Counting.{raised_by-plus}
 use Rattle.sw_volume.specs.Tree.{Folders, contents}
 use Rattle.sw_volume.specs.Volume.{Contents, IsFolderIn, ListsAll, raised_by}
 use Rattle.sw_pending_dir.specs.Places.{AllRecordsInOrder, bytes_at}
-use Rattle.sw_pending_dir.specs.Walks.{AddsRecords, AreAllIn, AreAscending, AreRecords, IsFirstDamage, IsFolderDamage, IsStanding, IsSuffixIn}
-use Rattle.sw_pending_dir.specs.Walks.{ListsEach, ListsSome, ReadsSome, is_suffix, key_cmp, suffix_folder}
+use Rattle.sw_pending_dir.specs.Walks.{AddsRecords, AreAllIn, AreRecords, IsFirstDamage, IsFolderDamage, IsStanding, IsSuffixIn}
+use Rattle.sw_pending_dir.specs.Walks.{ListsEach, ListsSome, ReadsSome, is_suffix, suffix_folder}
+use Rattle.sw_pending.specs.Orders.{AreAscending, key_cmp}
 use Rattle.sw_pending_dir.proofs.FolderReading.{name_of}
 use Rattle.sw_pending_dir.proofs.Lists.{after-one, from_filter, in_filter, sorted-both, sorted-nil, stands-before}
 use Rattle.sw_pending_dir.proofs.Standing.{at-record, damaged-disorder, key-at, ok_is, record-at}

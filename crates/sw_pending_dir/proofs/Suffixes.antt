@@ -18,10 +18,11 @@ use Rattle.hex.proofs.HexLemmas.{length-encode_with}
 use Rattle.hex.specs.Hex.{encode_lower, encode_with, lower_digits}
 use Rattle.sw_hashpath.specs.HashParts.{IsDigest}
 use Rattle.sw_pending.specs.Names.{IsKey, folder_text, name_text}
+use Rattle.sw_pending.specs.Orders.{key_cmp}
 use Rattle.sw_pending.specs.declared.key.RecordKey.{RecordKey}
 use Rattle.sw_volume.specs.Volume.{Contents, first_segment}
 use Rattle.sw_pending_dir.specs.Places.{bytes_at}
-use Rattle.sw_pending_dir.specs.Walks.{IsSuffixIn, is_digit, is_suffix, key_cmp, suffix_folder}
+use Rattle.sw_pending_dir.specs.Walks.{IsSuffixIn, is_digit, is_suffix, suffix_folder}
 
 -- ---- digits
 

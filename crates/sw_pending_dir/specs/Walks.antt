@@ -5,14 +5,14 @@ use Rattle.std.specs.Cmp.Lexicographic.{slice_cmp}
 use Rattle.std.specs.List.{All, Contains, filter_map, list_all}
 use Rattle.std.specs.List.Sorted.{IsStrictlySortedBy}
 use Rattle.std.specs.Option.{option_to_list}
-use Rattle.std.specs.Ordering.{nat_cmp, ordering_then}
+use Rattle.std.specs.Ordering.{nat_cmp}
 use Rattle.std.specs.declared.alloc.Global.{Global}
-use Rattle.std.specs.declared.cmp.Ordering.{Ordering}
 use Rattle.std.specs.declared.cmp.Ordering.TheVariants.{Less}
 use Rattle.std.specs.declared.vec.Vec.{Vec}
 use Rattle.sw_hashpath.specs.declared.decode_error.BadFile.{BadFile}
 use Rattle.sw_hashpath.specs.declared.secrets.Secrets.{Secrets}
 use Rattle.sw_pending.specs.Names.{IsKey, folder_text, name_text}
+use Rattle.sw_pending.specs.Orders.{AreAscending, key_cmp}
 use Rattle.sw_pending.specs.Outcomes.{IsRecord}
 use Rattle.sw_pending.specs.Records.{key_of}
 use Rattle.sw_pending.specs.declared.filed.Filed.{Filed}
@@ -22,16 +22,6 @@ use Rattle.sw_volume.specs.Volume.{Contents, IsFolderIn, ListsAll}
 use Rattle.sw_pending_dir.specs.Places.{IsRecordOf, bytes_at, key_at, record_at}
 use Rattle.sw_pending_dir.specs.Readings.{IsDamaged, IsFound}
 use Rattle.sw_pending_dir.specs.declared.fault.ReadFault.{ReadFault}
-
--- ---- order
-
--- byte order of the folders, and in one folder that of the names
-abbrev pub key_cmp : RecordKey → RecordKey → Ordering
-key_cmp key other = ordering_then (slice_cmp nat_cmp (folder_text key.hash) (folder_text other.hash)) (slice_cmp nat_cmp (name_text key) (name_text other))
-
--- the records are in order of folder and name, each key once
-abbrev pub AreAscending : List Filed → Type 0
-AreAscending records = IsStrictlySortedBy key_cmp (map key_of records)
 
 -- ---- folders
 

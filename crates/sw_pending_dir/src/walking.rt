@@ -6,8 +6,9 @@ ghost use Rattle.sw_volume.specs.Tree.{contents};
 ghost use Rattle.sw_volume.specs.Volume.{IsSame, raised_by};
 ghost use Rattle.sw_pending_dir.specs.Places.{AllRecordsInOrder, bytes_at};
 ghost use Rattle.sw_pending_dir.specs.Readings.{IfDamaged, IsDamaged, OnFailedRead, UnlessFailedRead};
-ghost use Rattle.sw_pending_dir.specs.Walks.{AddsRead, AddsRecords, AreAllIn, AreAscending, AreRecords, IsCourse, IsFirstDamage, IsFolderCourse};
+ghost use Rattle.sw_pending_dir.specs.Walks.{AddsRead, AddsRecords, AreAllIn, AreRecords, IsCourse, IsFirstDamage, IsFolderCourse};
 ghost use Rattle.sw_pending_dir.specs.Walks.{IsFolderDamage};
+ghost use Rattle.sw_pending.specs.Orders.{AreAscending};
 
 use crate::fault::ReadFault;
 use crate::names::{in_order, key_at, suffix_folder};

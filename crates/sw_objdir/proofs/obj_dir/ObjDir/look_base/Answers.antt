@@ -4,7 +4,7 @@ use Rattle.sw_hashdir.specs.Places.{dir_text}
 use Rattle.sw_objdir.proofs.Looking.{looks-refl}
 use Rattle.sw_objdir.proofs.PartReads.{cause-as, part-told}
 use Rattle.sw_objdir.proofs.RowTelling.{base-step, none-called, none-step, own-looks, some-called, some-step}
-use Rattle.sw_objdir.specs.BaseRows.{IsBaseFor}
+use Rattle.sw_object_steps.specs.BaseRows.{IsBaseFor}
 use Rattle.sw_objdir.specs.Directories.{IsDir, Kept, held}
 use Rattle.sw_object_steps.specs.declared.dir_fault.DirFault.{DirFault}
 use Rattle.sw_object_steps.specs.declared.dir_fault.DirFault.TheVariants as faulted

@@ -2,7 +2,8 @@ use Rattle.std.proofs.Common.{◌≡◌, Err, Vec, Global, true, sym, ◌∙◌,
 use Rattle.sw_objdir.proofs.FilingWalks.{stopped-called, stopped-damage, stopped-step, walk-called, walk-damage, walk-step, walked}
 use Rattle.sw_objdir.proofs.Looking.{dir-moved}
 use Rattle.sw_objdir.specs.Directories.{Kept}
-use Rattle.sw_objdir.specs.Filings.{AreFiled, IsFilingsStep, SettlesFilings}
+use Rattle.sw_objdir.specs.Filings.{IsFilingsStep, SettlesFilings}
+use Rattle.sw_object_steps.specs.Filings.{AreFiled}
 use Rattle.sw_objdir.specs.Stepping.{LooksAt}
 use Rattle.sw_object_steps.specs.declared.dir_fault.DirFault.{DirFault}
 use Rattle.sw_pending.specs.declared.filed.Filed.{Filed}
@@ -18,10 +19,10 @@ invariant_of-self g c =
 pub returns-in-Err-clause-read : goal.returns-in-Err-clause-read
 returns-in-Err-clause-read g c =
     let v = g.V.Volume in let k = c.args.self.now in let n = c.settle_records.new.self in
-    subst (λ (x : DirFault). IsFilingsStep v.tells v.holds v.faults k (λ told r (got : Vec Filed Global). AreFiled k.secrets told r got.items) (Err x) n)
-    (sym c.fault_of_record.ensures)
+    subst (λ (x : DirFault). IsFilingsStep v.tells v.holds v.faults k (λ told r (got : Vec Filed Global). AreFiled k.secrets (λ hash. true) told r got.items)
+    (Err x) n) (sym c.fault_of_record.ensures)
     (stopped-step v.tells v.holds v.faults v.calls v.lists _ k n c.settle_records.ensures.looks c.settle_records.ensures.dir
-    (λ told r (got : Vec Filed Global). AreFiled k.secrets told r got.items) c.in-Err.fault c.in-Err.ensures.all)
+    (λ told r (got : Vec Filed Global). AreFiled k.secrets (λ hash. true) told r got.items) c.in-Err.fault c.in-Err.ensures.all)
 
 pub returns-clause-read : goal.returns-clause-read
 returns-clause-read g c =
