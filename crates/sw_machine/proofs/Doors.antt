@@ -1,10 +1,13 @@
 -- Why a door that is alone goes on with a run by each of its steps.
 use Rattle.std.proofs.Common.{◌≡◌, ℕ, Bool, true, List, [], ◌∷◌, ◌++◌, map, refl, sym, ◌∙◌, ap, subst, inl, inr, Option, Result}
 use Rattle.std.specs.Option.{option_map}
+use Rattle.std.specs.declared.alloc.Global.{Global}
+use Rattle.std.specs.declared.vec.Vec.{Vec}
 use Rattle.sw_container_steps.specs.Reads.{info_of, listing_of, parcel_of, times_of}
 use Rattle.sw_container_steps.specs.Rules.{cont_rules}
 use Rattle.sw_container_steps.specs.declared.cont_answer.ContAnswer.{ContAnswer}
 use Rattle.sw_container_steps.specs.declared.cont_entry.ContEntry.{ContEntry}
+use Rattle.sw_hashpath.specs.HashParts.{partition_of}
 use Rattle.sw_hashpath.specs.declared.place.Place.{Place}
 use Rattle.sw_keeper.specs.declared.tables.Tables.{Tables}
 use Rattle.sw_object_steps.specs.Journals.{Hash}
@@ -14,7 +17,7 @@ use Rattle.sw_object_steps.specs.declared.dir_fault.DirFault.{DirFault}
 use Rattle.sw_object_steps.specs.declared.entry.ObjEntry.{ObjEntry}
 use Rattle.sw_object_steps.specs.declared.got.Got.{Got}
 use Rattle.sw_peer.specs.ContSights.{IsContMade, IsLooked, is_wanting_cont, is_wanting_look}
-use Rattle.sw_peer.specs.Sights.{IsMade, IsPartRead, IsRead, Nodes, Restarts, Sight, Trails, cont_lock}
+use Rattle.sw_peer.specs.Sights.{IsBaseRead, IsMade, IsPartRead, IsRead, IsRecordsRead, Nodes, Restarts, Sight, Trails, cont_lock}
 use Rattle.sw_peer.specs.Sights.{is_wanting, is_wanting_part, is_wanting_read}
 use Rattle.sw_peer.specs.declared.cont_event.ContEvent.{ContEvent}
 use Rattle.sw_peer.specs.declared.cont_event.ContEvent.TheVariants as cont_events
@@ -23,13 +26,15 @@ use Rattle.sw_peer.specs.declared.line.Line.{Line}
 use Rattle.sw_peer.specs.declared.link.Link.{Link}
 use Rattle.sw_peer.specs.declared.link.Link.TheVariants.{Local}
 use Rattle.sw_peer.specs.declared.part_read.PartRead.{PartRead}
+use Rattle.sw_peer.specs.declared.part_read.PartRead.TheVariants.{Base, Records}
+use Rattle.sw_pending.specs.declared.filed.Filed.{Filed}
+use Rattle.sw_rows.specs.declared.row.Row.{Row}
 use Rattle.sw_state.specs.declared.state.State.{State}
 use Rattle.sw_step.specs.Steps.{added_by}
 use Rattle.sw_machine.proofs.Going.{changes-go-on, reads-go-on, same-goes}
-use Rattle.sw_machine.specs.Doors.{ContainerChangesGoOn, DeviceListingsGoOn, FilesReadsGoOn, GoesOn, GoesOnBy, HashesReadsGoOn, InfosGoOn, ListingsGoOn}
-use Rattle.sw_machine.specs.Doors.{LooksGoOn, ObjectChangesGoOn, ObjectReadsGoOn, ParcelsGoOn, ReadsGoOn, RestartsGoOn, StandsFor, TimesGoOn, WriteReadsGoOn}
-use Rattle.sw_machine.specs.Doors.{cont_line}
-use Rattle.sw_machine.specs.Doors.{obj_line}
+use Rattle.sw_machine.specs.Doors.{BaseReadsGoOn, ContainerChangesGoOn, DeviceListingsGoOn, FilesReadsGoOn, GoesOn, GoesOnBy, HashesReadsGoOn, InfosGoOn}
+use Rattle.sw_machine.specs.Doors.{ListingsGoOn, LooksGoOn, ObjectChangesGoOn, ObjectReadsGoOn, ParcelsGoOn, ReadsGoOn, RecordsReadsGoOn, RestartsGoOn}
+use Rattle.sw_machine.specs.Doors.{StandsFor, TimesGoOn, WriteReadsGoOn, cont_line, obj_line}
 use Rattle.sw_machine.specs.Machine.{Came, ContComes, ContReads, ContSide, KnownRow, KnownWrite, Machine, ObjReadsPart, ObjSide, PartReads, Runs}
 use Rattle.sw_machine.specs.Machine.{Steps, made_rows, made_writes}
 use Rattle.sw_machine.specs.Messages.{MayChange, Message, WasSent}
@@ -155,21 +160,23 @@ object-reads device name =
 
 -- a read of hashes of a partition, as its line tells of it
 module _ {A : Type 0} (device part : ℕ) (at : Nodes → Hash → Bool) (damages : Bool) (reading : Nodes → Bool → (Hash → State) → A → Type 0)
-    (read_as : Result A DirFault → PartRead)
-    (comes : (nodes : Nodes) (m : ObjSide) (got : Result A DirFault) (added : List ObjEntry) (after : ObjSide)
-    → PartReads nodes m device part at damages reading got added after → ObjReadsPart nodes m device (read_as got) added after) where
+    (read_as : Result A DirFault → PartRead) where
   abbrev line_as : Link → Result A DirFault → List ObjEntry → Line
   line_as link got = obj_line device link (ReadPart (read_as got))
 
-  one-part : (link : Link) (s : Sight) (got : Result A DirFault) (t : Sight) (m : Machine) → StandsFor s m
-      → IsPartRead link device part at damages reading read_as s got (said t true) → GoesOnBy s m (line_as link got) (is_wanting_part got) (said t true)
-  one-part link s got t m stands read =
+  -- that the line tells of such a read is asked of these nodes alone, since the partition may be one that they tell
+  one-part : (link : Link) (s : Sight) (got : Result A DirFault) (t : Sight) (m : Machine)
+      → ((from : ObjSide) (added : List ObjEntry) (after : ObjSide) → PartReads s.nodes from device part at damages reading got added after
+      → ObjReadsPart s.nodes from device (read_as got) added after)
+      → StandsFor s m → IsPartRead link device part at damages reading read_as s got (said t true)
+      → GoesOnBy s m (line_as link got) (is_wanting_part got) (said t true)
+  one-part link s got t m comes stands read =
       by-trail s (said t true) m stands read.moves.nodes (at_objects s t m m.objects.known)
       (record { objects = refl; containers = read.moves.containers })
       (line_as link got) read.step.follows.entries.0 (
         still m.sent (line_as link got read.step.follows.entries.0) (λ may. may),
         (
-          comes s.nodes (over s m).objects got read.step.follows.entries.0 (at_objects s t m m.objects.known).objects
+          comes (over s m).objects read.step.follows.entries.0 (at_objects s t m m.objects.known).objects
               (record {
                 reads = record {
                   held = t.objects.holds device;
@@ -191,12 +198,15 @@ module _ {A : Type 0} (device part : ℕ) (at : Nodes → Hash → Bool) (damage
       )
       (is_wanting_part got) read.trail
 
-  part-reads : ReadsGoOn (λ link. IsPartRead link device part at damages reading read_as) line_as is_wanting_part
-  part-reads =
+  part-reads : ((nodes : Nodes) (m : ObjSide) (got : Result A DirFault) (added : List ObjEntry) (after : ObjSide)
+      → PartReads nodes m device part at damages reading got added after → ObjReadsPart nodes m device (read_as got) added after)
+      → ReadsGoOn (λ link. IsPartRead link device part at damages reading read_as) line_as is_wanting_part
+  part-reads comes =
       reads-go-on (λ link. IsPartRead link device part at damages reading read_as) line_as is_wanting_part (λ link s x t read. read.moves.alone)
       (λ link s got t m stands alone read.
       subst (λ (a : Bool). IsPartRead link device part at damages reading read_as s got (said t a)
-      → GoesOnBy s m (line_as link got) (is_wanting_part got) (said t a)) (sym alone) (one-part link s got t m stands) read)
+      → GoesOnBy s m (line_as link got) (is_wanting_part got) (said t a)) (sym alone)
+      (one-part link s got t m (λ from added after reads. comes s.nodes from got added after reads) stands) read)
 
 pub hashes-reads : HashesReadsGoOn
 hashes-reads device part = part-reads device part _ _ _ _ (λ nodes m got added after reads. reads)
@@ -206,6 +216,59 @@ files-reads device part suffix = part-reads device part _ _ _ _ (λ nodes m got 
 
 pub write-reads : WriteReadsGoOn
 write-reads device part hash file = part-reads device part _ _ _ _ (λ nodes m got added after reads. reads)
+
+-- ---- reads that records ask for
+
+pub records-reads : RecordsReadsGoOn
+records-reads device stripe =
+    reads-go-on (λ link. IsRecordsRead link device stripe) line is_wanting_part (λ link s x t read. read.moves.alone)
+    (λ link s got t m stands alone read.
+    subst (λ (a : Bool). IsRecordsRead link device stripe s got (said t a) → GoesOnBy s m (line link got) (is_wanting_part got) (said t a))
+    (sym alone) (at link s got t m stands) read)
+  where
+    line : Link → Result (Vec Filed Global) DirFault → List ObjEntry → Line
+    line link got = obj_line device link (ReadPart (Records stripe got))
+
+    at : (link : Link) (s : Sight) (got : Result (Vec Filed Global) DirFault) (t : Sight) (m : Machine) → StandsFor s m
+        → IsRecordsRead link device stripe s got (said t true) → GoesOnBy s m (line link got) (is_wanting_part got) (said t true)
+    at link s got t m stands read =
+        by-trail s (said t true) m stands read.moves.nodes (at_objects s t m m.objects.known)
+        (record { objects = refl; containers = read.moves.containers })
+        (line link got) read.step.follows.entries.0 (
+          still m.sent (line link got read.step.follows.entries.0) (λ may. may),
+          (
+            record {
+              some = read.some;
+              reads = record {
+                held = read.held;
+                is_held = read.is_held refl;
+                step = read.step;
+                added_is = refl;
+                elsewhere = λ other away.
+                    read.moves.objects.elsewhere other
+                    (λ d key is equal. away (equal
+                    ∙ (ap (λ (e : ℕ). s.nodes.lock e key) is.0 ∙ (s.nodes.one_stripe device key ∙ ap (s.nodes.stripe_lock device) is.1))));
+                holds = read.holds_all refl;
+                known = refl;
+              };
+            },
+            refl,
+          ),
+          refl,
+        )
+        (is_wanting_part got) read.trail
+
+-- the row is read in the partition that the nodes of each door tell
+pub base-reads : BaseReadsGoOn
+base-reads device filed =
+    reads-go-on (λ link. IsBaseRead link device filed) line is_wanting_part (λ link s x t read. read.moves.alone)
+    (λ link s row t m stands alone read.
+    subst (λ (a : Bool). IsBaseRead link device filed s row (said t a) → GoesOnBy s m (line link row) (is_wanting_part row) (said t a))
+    (sym alone)
+    (one-part device (partition_of filed.name.hash s.nodes.power) _ _ _ (λ row. Base filed row) link s row t m (λ from added after reads. reads) stands) read)
+  where
+    line : Link → Result (Option Row) DirFault → List ObjEntry → Line
+    line link row = obj_line device link (ReadPart (Base filed row))
 
 -- ---- steps at containers
 

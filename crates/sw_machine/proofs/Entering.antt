@@ -18,7 +18,7 @@ use Rattle.sw_peer.specs.declared.cont_event.ContEvent.TheVariants as cont_event
 use Rattle.sw_peer.specs.declared.line.Event.{Event}
 use Rattle.sw_peer.specs.declared.line.Event.TheVariants.{AtContainer, Changed, Listed, Read, ReadPart, Restarted}
 use Rattle.sw_peer.specs.declared.part_read.PartRead.{PartRead}
-use Rattle.sw_peer.specs.declared.part_read.PartRead.TheVariants.{Files, Hashes, Write}
+use Rattle.sw_peer.specs.declared.part_read.PartRead.TheVariants.{Base, Files, Hashes, Records, Write}
 use Rattle.sw_step.proofs.Keeping.{stand-more}
 use Rattle.sw_step.proofs.Settled.{added-is, can-tell, tell, nothing}
 use Rattle.sw_step.specs.Journals.{StepHistory, StepJournal}
@@ -26,7 +26,7 @@ use Rattle.sw_step.specs.Rules.{AreRules, CanStand, RulesOf, about, doubts_about
 use Rattle.sw_step.specs.Steps.{Look, Answers, EndsSeen, EndsUnseen, StepChanges, StepReads}
 use Rattle.sw_machine.proofs.Runs.{hashes-may-stand, places-may-stand}
 use Rattle.sw_machine.specs.Entering.{GrowsBy, IsNotRestarted, JournalsGrow, LinesTellHashes, LinesTellPlaces, cont_entered, entered_at, is_at_lock}
-use Rattle.sw_machine.specs.Entering.{obj_entered, restarts, HashesCalm, PlacesCalm}
+use Rattle.sw_machine.specs.Entering.{lock_in, obj_entered, restarts, HashesCalm, PlacesCalm}
 use Rattle.sw_machine.specs.Machine.{Came, Comes, ContComes, ContSide, Machine, ObjReadsPart, ObjSide, RunLine, Runs, Went}
 use Rattle.sw_machine.specs.Sides.{Side, SideMakes, SideReads, SideRestarts}
 use Rattle.sw_outside.specs.Faults.{HasRisen}
@@ -226,11 +226,15 @@ module _ (nodes : Nodes) (device : ℕ) where
     part-along : (m : ObjSide) (d : ℕ) (read : PartRead) (added : List ObjEntry) (after : ObjSide) → ObjReadsPart nodes m d read added after
         → (l : ℕ) → Along (m.half.seen l) (after.half.seen l) (if is_at_lock nodes l d (ReadPart read) then added else []) kept
     part-along m d (Hashes part got) added after step =
-        read-along kept obj_rules nodes.lock m d (nodes.part_lock d part) _ _ _ _ got added after step.reads
+        read-along kept obj_rules nodes.lock m d (lock_in nodes d (Hashes part got)) _ _ _ _ got added after step.reads
     part-along m d (Files part suffix got) added after step =
-        read-along kept obj_rules nodes.lock m d (nodes.part_lock d part) _ _ _ _ got added after step.reads
+        read-along kept obj_rules nodes.lock m d (lock_in nodes d (Files part suffix got)) _ _ _ _ got added after step.reads
     part-along m d (Write part hash file got) added after step =
-        read-along kept obj_rules nodes.lock m d (nodes.part_lock d part) _ _ _ _ got added after step.reads
+        read-along kept obj_rules nodes.lock m d (lock_in nodes d (Write part hash file got)) _ _ _ _ got added after step.reads
+    part-along m d (Records stripe got) added after step =
+        read-along kept obj_rules nodes.lock m d (lock_in nodes d (Records stripe got)) _ _ _ _ got added after step.reads
+    part-along m d (Base filed row) added after step =
+        read-along kept obj_rules nodes.lock m d (lock_in nodes d (Base filed row)) _ _ _ _ row added after step.reads
 
   one-along : (m : Machine) (d : ℕ) (event : Event) (added : List ObjEntry) (after : Machine) → Comes nodes m d event added after
       → BothAlong m after (λ l. if is_at_lock nodes l d event then added else []) (λ l. entered_at nodes l d event) (restarts device d event ≡ false)

@@ -27,7 +27,7 @@ use Rattle.sw_peer.specs.declared.cont_event.ContEvent.TheVariants as cont_event
 use Rattle.sw_peer.specs.declared.line.Event.{Event}
 use Rattle.sw_peer.specs.declared.line.Event.TheVariants.{AtContainer, Changed, Listed, Read, ReadPart, Restarted}
 use Rattle.sw_peer.specs.declared.part_read.PartRead.{PartRead}
-use Rattle.sw_peer.specs.declared.part_read.PartRead.TheVariants.{Files, Hashes, Write as ReadWrite}
+use Rattle.sw_peer.specs.declared.part_read.PartRead.TheVariants.{Base, Files, Hashes, Records, Write as ReadWrite}
 use Rattle.sw_rows.specs.Rows.{Listed as RowList, find_named, merged}
 use Rattle.sw_rows.specs.declared.row.Row.{Row}
 use Rattle.sw_state.specs.States.{joined}
@@ -55,6 +55,12 @@ module _ (nodes : Nodes) where
 
   own-part : LocksAreApart nodes → (device part : ℕ) (d : ℕ) (key : Hash) → nodes.lock d key ≡ nodes.part_lock device part → d ≡ device
   own-part apart device part d key same = apart d device (partition_of key nodes.power) part (sym (nodes.one_lock d key) ∙ same)
+
+  -- the lock of a stripe is one of its device too, where a hash is under it
+  own-stripe : LocksAreApart nodes → (device stripe : ℕ) → ((hash : Hash) × (nodes.stripe hash ≡ stripe)) → (d : ℕ) (key : Hash)
+      → nodes.lock d key ≡ nodes.stripe_lock device stripe → d ≡ device
+  own-stripe apart device stripe some d key same =
+      own-hash apart d device key some.0 (same ∙ (ap (nodes.stripe_lock device) (sym some.1) ∙ sym (nodes.one_stripe device some.0)))
 
   own-place : LocksAreApart nodes → (d e : ℕ) (key other : Place) → cont_lock nodes d key ≡ cont_lock nodes e other → d ≡ e
   own-place apart d e key other same = own-hash apart d e key.hash other.hash same
@@ -126,6 +132,11 @@ module _ (nodes : Nodes) where
       obj-read m device (nodes.part_lock device part) _ _ _ _ got added after step.reads (λ apart. own-part apart device part)
   obj-read-part m device (ReadWrite part hash file got) added after step =
       obj-read m device (nodes.part_lock device part) _ _ _ _ got added after step.reads (λ apart. own-part apart device part)
+  obj-read-part m device (Records stripe got) added after step =
+      obj-read m device (nodes.stripe_lock device stripe) _ _ _ _ got added after step.reads (λ apart. own-stripe apart device stripe step.some)
+  obj-read-part m device (Base filed row) added after step =
+      let part = partition_of filed.name.hash nodes.power in
+      obj-read m device (nodes.part_lock device part) _ _ _ _ row added after step.reads (λ apart. own-part apart device part)
 
   obj-listed : (m : ObjSide) (device : ℕ) (failed : Bool) (after : ObjSide) → ObjLists nodes m device failed after → ObjGoes m after
   obj-listed m device failed after lists =

@@ -13,8 +13,9 @@ use Rattle.sw_listing.specs.declared.query.Query.{Query}
 use Rattle.sw_object_steps.specs.Journals.{Hash}
 use Rattle.sw_object_steps.specs.declared.change.Change.{Change}
 use Rattle.sw_object_steps.specs.declared.entry.ObjEntry.{ObjEntry}
+use Rattle.sw_pending.specs.declared.filed.Filed.{Filed}
 use Rattle.sw_peer.specs.ContSights.{IsContMade, IsLooked, is_wanting_cont, is_wanting_look}
-use Rattle.sw_peer.specs.Sights.{Calls, IsFilesRead, IsHashesRead, IsListed, IsMade, IsRead, IsSame, IsWriteRead, Restarts, Sight}
+use Rattle.sw_peer.specs.Sights.{Calls, IsBaseRead, IsFilesRead, IsHashesRead, IsListed, IsMade, IsRead, IsRecordsRead, IsSame, IsWriteRead, Restarts, Sight}
 use Rattle.sw_peer.specs.Sights.{is_wanting, is_wanting_part, is_wanting_read}
 use Rattle.sw_peer.specs.declared.cont_event.ContEvent.{ContEvent}
 use Rattle.sw_peer.specs.declared.cont_event.ContEvent.TheVariants as cont_events
@@ -24,7 +25,7 @@ use Rattle.sw_peer.specs.declared.line.Line.{Line}
 use Rattle.sw_peer.specs.declared.link.Link.{Link}
 use Rattle.sw_peer.specs.declared.link.Link.TheVariants.{Local}
 use Rattle.sw_peer.specs.declared.link.Lost.{Lost}
-use Rattle.sw_peer.specs.declared.part_read.PartRead.TheVariants.{Files, Hashes, Write}
+use Rattle.sw_peer.specs.declared.part_read.PartRead.TheVariants.{Base, Files, Hashes, Records, Write}
 use Rattle.sw_machine.specs.Machine.{Came, Carries, Machine, RunLine, Runs, Went, came_in, went_in}
 use Rattle.sw_machine.specs.Messages.{Message, WasSent}
 
@@ -125,6 +126,15 @@ FilesReadsGoOn = (device part suffix : ℕ)
 abbrev pub WriteReadsGoOn : Type 0
 WriteReadsGoOn = (device part : ℕ) (hash : Hash) (file : FileName)
     → ReadsGoOn (λ link. IsWriteRead link device part hash file) (λ link got. obj_line device link (ReadPart (Write part hash file got))) is_wanting_part
+
+-- reads that records ask for: of all those of a stripe, and of the row to tell for one
+abbrev pub RecordsReadsGoOn : Type 0
+RecordsReadsGoOn = (device stripe : ℕ)
+    → ReadsGoOn (λ link. IsRecordsRead link device stripe) (λ link got. obj_line device link (ReadPart (Records stripe got))) is_wanting_part
+
+abbrev pub BaseReadsGoOn : Type 0
+BaseReadsGoOn = (device : ℕ) (filed : Filed)
+    → ReadsGoOn (λ link. IsBaseRead link device filed) (λ link row. obj_line device link (ReadPart (Base filed row))) is_wanting_part
 
 -- ---- at containers
 

@@ -4,6 +4,7 @@ use Rattle.std.specs.List.{fold}
 use Rattle.sw_container_steps.specs.Entries.{entered}
 use Rattle.sw_container_steps.specs.Rules.{cont_rules}
 use Rattle.sw_container_steps.specs.declared.cont_entry.ContEntry.{ContEntry}
+use Rattle.sw_hashpath.specs.HashParts.{partition_of}
 use Rattle.sw_hashpath.specs.declared.place.Place.{Place}
 use Rattle.sw_object_steps.specs.Journals.{Hash}
 use Rattle.sw_object_steps.specs.Rules.{obj_applied, obj_rules}
@@ -14,24 +15,26 @@ use Rattle.sw_peer.specs.declared.cont_event.ContEvent.TheVariants as cont_event
 use Rattle.sw_peer.specs.declared.line.Event.{Event}
 use Rattle.sw_peer.specs.declared.line.Event.TheVariants.{AtContainer, Changed, Read, ReadPart, Restarted}
 use Rattle.sw_peer.specs.declared.part_read.PartRead.{PartRead}
-use Rattle.sw_peer.specs.declared.part_read.PartRead.TheVariants.{Files, Hashes, Write}
+use Rattle.sw_peer.specs.declared.part_read.PartRead.TheVariants.{Base, Files, Hashes, Records, Write}
 use Rattle.sw_step.specs.Journals.{StepHistory}
 use Rattle.sw_step.specs.Rules.{about, doubts_about, stands}
 use Rattle.sw_machine.specs.Laws.{LocksAreApart}
 use Rattle.sw_machine.specs.Machine.{Came, Machine, RunLine, Runs, Went}
 use Rattle.sw_machine.specs.Sides.{TellsAt}
 
--- the partition that is read
-abbrev pub part_in : PartRead → ℕ
-part_in (Hashes part got) = part
-part_in (Files part suffix got) = part
-part_in (Write part hash file got) = part
+-- the object lock of a device that is read
+abbrev pub lock_in : Nodes → ℕ → PartRead → ℕ
+lock_in nodes device (Hashes part got) = nodes.part_lock device part
+lock_in nodes device (Files part suffix got) = nodes.part_lock device part
+lock_in nodes device (Write part hash file got) = nodes.part_lock device part
+lock_in nodes device (Records stripe got) = nodes.stripe_lock device stripe
+lock_in nodes device (Base filed row) = nodes.part_lock device (partition_of filed.name.hash nodes.power)
 
 -- whether an event at a device is one at this object lock
 abbrev pub is_at_lock : Nodes → ℕ → ℕ → Event → Bool
 is_at_lock nodes l device (Changed name change answer) = nat_eq (nodes.lock device name.hash) l
 is_at_lock nodes l device (Read name got) = nat_eq (nodes.lock device name.hash) l
-is_at_lock nodes l device (ReadPart read) = nat_eq (nodes.part_lock device (part_in read)) l
+is_at_lock nodes l device (ReadPart read) = nat_eq (lock_in nodes device read) l
 is_at_lock nodes l device event = false
 
 -- the entries that the lines added to its journal

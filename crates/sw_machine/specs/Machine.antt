@@ -3,6 +3,8 @@
 use Rattle.std.specs.Prelude.{◌≡◌, ◌≢◌, ℕ, ◌≤◌, Bool, true, false, List, [], ◌∷◌, ◌++◌, map, Contains, Option, Result, Err, if◌then◌else◌}
 use Rattle.std.specs.List.{All}
 use Rattle.std.specs.Str.{bytes_eq}
+use Rattle.std.specs.declared.alloc.Global.{Global}
+use Rattle.std.specs.declared.vec.Vec.{Vec}
 use Rattle.sw_container_steps.specs.Entries.{is_same_place, rows_of}
 use Rattle.sw_container_steps.specs.Reads.{info_of, listing_of, parcel_of, times_of}
 use Rattle.sw_container_steps.specs.Rules.{cont_ending, cont_look, cont_rules}
@@ -10,14 +12,17 @@ use Rattle.sw_container_steps.specs.declared.cont_answer.ContAnswer.{ContAnswer}
 use Rattle.sw_container_steps.specs.declared.cont_change.ContChange.{ContChange}
 use Rattle.sw_container_steps.specs.declared.cont_change.ContChange.TheVariants.{Create, Remove, MergeRow, MergeRows, SetSync}
 use Rattle.sw_container_steps.specs.declared.cont_entry.ContEntry.{ContEntry}
+use Rattle.sw_hashpath.specs.HashParts.{partition_of}
 use Rattle.sw_hashpath.specs.declared.decode_error.BadFile.{BadFile}
 use Rattle.sw_hashpath.specs.declared.name.Name.{Name}
 use Rattle.sw_hashpath.specs.declared.place.Place.{Place}
 use Rattle.sw_keeper.specs.declared.tables.Tables.{Tables}
-use Rattle.sw_object_steps.specs.Histories.{IsGiven, got_look, part_look}
+use Rattle.sw_object_steps.specs.BaseRows.{IsBaseFor}
+use Rattle.sw_object_steps.specs.Filings.{AreFiled}
+use Rattle.sw_object_steps.specs.Histories.{IsGiven, IsRecorded, got_look, part_look}
 use Rattle.sw_object_steps.specs.Journals.{Hash, Shows}
 use Rattle.sw_object_steps.specs.Parts.{AreHashes, AreLines, IsFile}
-use Rattle.sw_object_steps.specs.Recorded.{doubts_write}
+use Rattle.sw_object_steps.specs.Recorded.{doubts_records, doubts_write}
 use Rattle.sw_object_steps.specs.Rules.{Writes, obj_rules}
 use Rattle.sw_object_steps.specs.Values.{ObjValue}
 use Rattle.sw_object_steps.specs.declared.answer.Answer.{Answer}
@@ -28,14 +33,15 @@ use Rattle.sw_object_steps.specs.declared.entry.ObjEntry.{ObjEntry}
 use Rattle.sw_object_steps.specs.declared.entry.ObjEntry.TheVariants as entries
 use Rattle.sw_object_steps.specs.declared.got.Got.{Got}
 use Rattle.sw_outside.specs.Faults.{HasRisen}
-use Rattle.sw_peer.specs.Sights.{Nodes, Sight, cont_lock, in_part, in_suffix, is_one}
+use Rattle.sw_peer.specs.Sights.{Nodes, Sight, cont_lock, in_part, in_stripe, in_suffix, is_one}
 use Rattle.sw_peer.specs.declared.cont_event.ContEvent.{ContEvent}
 use Rattle.sw_peer.specs.declared.cont_event.ContEvent.TheVariants as cont_events
 use Rattle.sw_peer.specs.declared.line.Event.{Event}
 use Rattle.sw_peer.specs.declared.line.Event.TheVariants.{AtContainer, Changed, Listed, Read, ReadPart, Restarted}
 use Rattle.sw_peer.specs.declared.line.Line.{Line}
 use Rattle.sw_peer.specs.declared.part_read.PartRead.{PartRead}
-use Rattle.sw_peer.specs.declared.part_read.PartRead.TheVariants.{Files, Hashes, Write as ReadWrite}
+use Rattle.sw_peer.specs.declared.part_read.PartRead.TheVariants.{Base, Files, Hashes, Records, Write as ReadWrite}
+use Rattle.sw_pending.specs.declared.filed.Filed.{Filed}
 use Rattle.sw_rows.specs.declared.row.Row.{Row}
 use Rattle.sw_state.specs.States.{writes_of}
 use Rattle.sw_state.specs.declared.state.State.{State}
@@ -166,6 +172,14 @@ module _ (nodes : Nodes) where
           (λ read front x. IsGiven (reading nodes (after.half.seen (nodes.part_lock device part)).told) read x) got added after
       pub sound : (bad : BadFile) → got ≡ Err (Damaged bad) → damages ≡ true
 
+  -- a read of all records that are filed under the hashes of a stripe, which has one
+  pub record RecordsReads (m : ObjSide) (device stripe : ℕ) (got : Result (Vec Filed Global) DirFault) (added : List ObjEntry) (after : ObjSide)
+      : Type 0 where
+    pub some : (hash : Hash) × (nodes.stripe hash ≡ stripe)
+    pub reads : SideReads obj_rules nodes.lock m device (nodes.stripe_lock device stripe) (λ hash. true) doubts_records part_look
+        (λ read front x. IsRecorded (λ records list. AreFiled nodes.secrets (in_stripe stripe nodes) (after.half.seen (nodes.stripe_lock device stripe)).told
+        records list.items) read x) got added after
+
   abbrev pub ObjReadsPart : ObjSide → ℕ → PartRead → List ObjEntry → ObjSide → Type 0
   ObjReadsPart m device (Hashes part got) added after =
       PartReads m device part (in_part part) false (λ nodes told s got. AreHashes nodes.power part told s got.items) got added after
@@ -173,6 +187,10 @@ module _ (nodes : Nodes) where
       PartReads m device part (in_suffix part suffix) false (λ nodes told s got. AreLines nodes.power part suffix told s got.items) got added after
   ObjReadsPart m device (ReadWrite part hash file got) added after =
       PartReads m device part (is_one hash) true (λ nodes told s got. IsFile nodes.fits hash file told s got) got added after
+  ObjReadsPart m device (Records stripe got) added after = RecordsReads m device stripe got added after
+  ObjReadsPart m device (Base filed row) added after =
+      PartReads m device (partition_of filed.name.hash nodes.power) (is_one filed.name.hash) true
+      (λ nodes told s x. told ≡ true → IsBaseFor filed (s filed.name.hash) x) row added after
 
   -- all its files were listed: nothing changed but counts of faults, one of which has risen where that failed
   pub record ObjLists (m : ObjSide) (device : ℕ) (failed : Bool) (after : ObjSide) : Type 0 where

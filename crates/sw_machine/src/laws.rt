@@ -1,8 +1,8 @@
 //! Laws of runs. Each function does nothing: its clause is the law.
 
-ghost use Rattle.sw_machine.specs.Doors.{ContainerChangesGoOn, DeviceListingsGoOn, FilesReadsGoOn, GoingOnJoins, HashesReadsGoOn, InfosGoOn, ListingsGoOn};
-ghost use Rattle.sw_machine.specs.Doors.{ObjectChangesGoOn, ObjectReadsGoOn, ParcelsGoOn, RestartsGoOn, RunsOnJoin, SameGoesOn, SendingGoesOn};
-ghost use Rattle.sw_machine.specs.Doors.{TimesGoOn, WriteReadsGoOn};
+ghost use Rattle.sw_machine.specs.Doors.{BaseReadsGoOn, ContainerChangesGoOn, DeviceListingsGoOn, FilesReadsGoOn, GoingOnJoins, HashesReadsGoOn, InfosGoOn};
+ghost use Rattle.sw_machine.specs.Doors.{ListingsGoOn, ObjectChangesGoOn, ObjectReadsGoOn, ParcelsGoOn, RecordsReadsGoOn, RestartsGoOn, RunsOnJoin};
+ghost use Rattle.sw_machine.specs.Doors.{SameGoesOn, SendingGoesOn, TimesGoOn, WriteReadsGoOn};
 ghost use Rattle.sw_machine.specs.Entering.{HashesCalm, JournalsGrow, LinesTellHashes, LinesTellPlaces, PlacesCalm};
 ghost use Rattle.sw_machine.specs.Laws.{HashesAreTold, HashesMayStand, HashesStand, MessagesWereSent, PlacesAreTold, PlacesMayStand, RowsAreMerged};
 ghost use Rattle.sw_machine.specs.Laws.{RunKeepsTheGreatest, RunSends, RunsJoin};
@@ -90,6 +90,12 @@ pub fn objects_go_on()
     ensures hashes { HashesReadsGoOn }
     ensures files { FilesReadsGoOn }
     ensures write { WriteReadsGoOn }
+{}
+
+/// By each read that records of updates ask for: of all those of a stripe, and of the row to tell for one.
+pub fn records_go_on()
+    ensures records { RecordsReadsGoOn }
+    ensures base { BaseReadsGoOn }
 {}
 
 /// By each at a container: one that may change it, a read of its times or of what is told of it, a listing, and a read of rows above a sync point.

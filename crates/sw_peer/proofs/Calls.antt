@@ -10,7 +10,8 @@ use Rattle.sw_history.proofs.Growing.{grows-refl, half-refl, half-trans, half-wi
 use Rattle.sw_object_steps.specs.Journals.{Hash}
 use Rattle.sw_object_steps.specs.Parts.{AreHashes, AreLines, IsFile}
 use Rattle.sw_object_steps.specs.Rules.{ObjHistory, obj_rules}
-use Rattle.sw_peer.specs.Sights.{Calls, Comes, IsAt, IsFilesRead, IsHashesRead, IsInPart, IsMade, IsPartRead, IsRead, IsSame, IsWriteRead, Moves, Nodes}
+use Rattle.sw_peer.specs.Sights.{Calls, Comes, IsAt, IsBaseRead, IsFilesRead, IsHashesRead, IsInPart, IsInStripe, IsMade, IsPartRead, IsRead, IsRecordsRead}
+use Rattle.sw_peer.specs.Sights.{IsSame, IsWriteRead, Moves, Nodes}
 use Rattle.sw_peer.specs.Sights.{MayStand, PartMoves, Sight, Trails, in_part, in_suffix, is_one, is_wanting, is_wanting_part, is_wanting_read}
 use Rattle.sw_step.specs.Rules.{CanStand, Damages, Fails, Wants}
 use Rattle.sw_step.specs.Steps.{added_by}
@@ -23,7 +24,10 @@ use Rattle.sw_peer.specs.declared.link.Link.TheVariants.{Local, Sent}
 use Rattle.sw_peer.specs.declared.link.Lost.{Lost}
 use Rattle.sw_object_steps.specs.declared.dir_fault.DirFault.{DirFault}
 use Rattle.sw_peer.specs.declared.part_read.PartRead.{PartRead}
-use Rattle.sw_peer.specs.declared.part_read.PartRead.TheVariants.{Files, Hashes, Write}
+use Rattle.sw_peer.specs.declared.part_read.PartRead.TheVariants.{Base, Files, Hashes, Records, Write}
+use Rattle.sw_object_steps.specs.BaseRows.{IsBaseFor}
+use Rattle.sw_hashpath.specs.HashParts.{partition_of}
+use Rattle.sw_pending.specs.declared.filed.Filed.{Filed}
 use Rattle.sw_state.specs.declared.state.State.{State}
 
 pub moves-trans : (at : ℕ → Hash → Type 0) (a b c : Sight) → Moves at a b → Moves at b c → Moves at a c
@@ -220,6 +224,55 @@ pub write-step : (link : Link) (device part : ℕ) (hash : Hash) (file : FileNam
     IsStep (PartFrame device part (is_one hash)) (IsWriteRead link device part hash file)
 write-step link device part hash file = part-step link device part (is_one hash) true (λ nodes told s got. IsFile nodes.fits hash file told s got)
     (λ got. Write part hash file got)
+
+-- the same of the row to tell for a record
+abbrev pub BaseFrame : ℕ → Filed → Sight → Sight → Type 0
+BaseFrame device filed s t = PartMoves device (partition_of filed.name.hash s.nodes.power) (is_one filed.name.hash s.nodes) s t
+
+pub base-step : (link : Link) (device : ℕ) (filed : Filed) → IsStep (BaseFrame device filed) (IsBaseRead link device filed)
+base-step link device filed = record {
+  frames = record {
+    same = λ s t p. (part-frame device (partition_of filed.name.hash s.nodes.power) (is_one filed.name.hash)).same s t p;
+    join = λ a b c p q. moves-trans (IsInPart a.nodes.power device (partition_of filed.name.hash a.nodes.power) (is_one filed.name.hash a.nodes)) a b c p
+        (subst (λ (n : Nodes). Moves (IsInPart n.power device (partition_of filed.name.hash n.power) (is_one filed.name.hash n)) b c) p.nodes q);
+    recounts = λ s t f f' k k' c c' later p.
+        (part-frame device (partition_of filed.name.hash s.nodes.power) (is_one filed.name.hash)).recounts s t f f' k k' c c' later p;
+    faults = λ s t p. p.faults;
+  };
+  moves = λ s t x step. step.moves;
+  recounts = λ s t x f f' k k' c c' later step.
+      (part-step link device (partition_of filed.name.hash s.nodes.power) (is_one filed.name.hash) true
+      (λ nodes told held row. told ≡ true → IsBaseFor filed (held filed.name.hash) row) (λ row. Base filed row)).recounts
+      s t x f f' k k' c c' later step;
+}
+
+-- what a read of the records of a stripe keeps
+abbrev pub StripeFrame : ℕ → ℕ → Sight → Sight → Type 0
+StripeFrame device stripe s t = Moves (IsInStripe s.nodes device stripe) s t
+
+pub stripe-frame : (device stripe : ℕ) → IsFrame (StripeFrame device stripe)
+stripe-frame device stripe = record {
+  same = λ s t p. (frame-of (IsInStripe s.nodes device stripe)).same s t p;
+  join = λ a b c p q. moves-trans (IsInStripe a.nodes device stripe) a b c p (subst (λ (n : Nodes). Moves (IsInStripe n device stripe) b c) p.nodes q);
+  recounts = λ s t f f' k k' c c' later p. moves-counted (IsInStripe s.nodes device stripe) s t f f' k k' c c' later p;
+  faults = λ s t p. p.faults;
+}
+
+pub records-step : (link : Link) (device stripe : ℕ) → IsStep (StripeFrame device stripe) (IsRecordsRead link device stripe)
+records-step link device stripe = record {
+  frames = stripe-frame device stripe;
+  moves = λ s t x step. step.moves;
+  recounts = λ s t x f f' k k' c c' later step. record {
+    moves = moves-counted (IsInStripe s.nodes device stripe) s t f f' k k' c c' later step.moves;
+    some = step.some;
+    holds_all = step.holds_all;
+    held = step.held;
+    is_held = step.is_held;
+    step = step.step;
+    trail = trails-counted s t (record { device = device; link = link; event = ReadPart (Records stripe x); added = step.step.follows.entries.0 })
+        (is_wanting_part x) f f' k k' c c' later step.trail;
+  };
+}
 
 -- a door that delivers each message once delivers this one so, and the next ones
 pub faithful-once : (link : Link) → Carries faithful link 1 true faithful

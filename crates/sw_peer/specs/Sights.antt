@@ -2,7 +2,7 @@
 --
 -- What was seen of a lock only grows, and is known over every door: by one that is alone, one that loses and repeats messages, and one
 -- that shares the nodes with others. What the devices hold is known only where the door is alone.
-use Rattle.std.specs.Prelude.{◌≡◌, ◌≢◌, ℕ, ◌≤◌, ◌==◌, Bool, true, false, ◌&&◌, List, [], ◌∷◌, ◌++◌, length, suc, Option, ◌⊎◌, Result, Ok, Err}
+use Rattle.std.specs.Prelude.{◌≡◌, ◌≢◌, ℕ, ◌^◌, ◌<◌, ◌≤◌, ◌==◌, Bool, true, false, ◌&&◌, List, [], ◌∷◌, ◌++◌, length, suc, Option, ◌⊎◌, Result, Ok, Err}
 use Rattle.std.specs.Option.{option_map}
 use Rattle.std.specs.Str.{bytes_eq}
 use Rattle.std.specs.declared.alloc.Global.{Global}
@@ -16,10 +16,13 @@ use Rattle.sw_hashpath.specs.declared.place.Place.{Place}
 use Rattle.sw_hashpath.specs.declared.secrets.Secrets.{Secrets}
 use Rattle.sw_history.specs.Halves.{HalfMoves, HalfRestarts}
 use Rattle.sw_object_steps.specs.Halves.{ObjHalf}
-use Rattle.sw_object_steps.specs.Histories.{ChangesObject, ReadsObject, ReadsPart, got_look, is_wanting_by, part_look}
+use Rattle.sw_object_steps.specs.BaseRows.{IsBaseFor}
+use Rattle.sw_object_steps.specs.Filings.{AreFiled}
+use Rattle.sw_object_steps.specs.Histories.{ChangesObject, ReadsObject, ReadsPart, ReadsRecords, got_look, is_wanting_by, part_look}
 use Rattle.sw_object_steps.specs.Journals.{Hash}
 use Rattle.sw_object_steps.specs.Parts.{AreHashes, AreLines, IsFile, IsOfPart}
 use Rattle.sw_object_steps.specs.Rules.{obj_ending, obj_rules}
+use Rattle.sw_object_steps.specs.Values.{ObjValue}
 use Rattle.sw_object_steps.specs.declared.answer.Answer.{Answer}
 use Rattle.sw_object_steps.specs.declared.change.Change.{Change}
 use Rattle.sw_object_steps.specs.declared.dir_fault.DirFault.{DirFault}
@@ -28,6 +31,8 @@ use Rattle.sw_object_steps.specs.declared.got.Got.{Got}
 use Rattle.sw_object_steps.specs.declared.stored.Stored.{Stored}
 use Rattle.sw_outside.specs.Counts.{raised}
 use Rattle.sw_outside.specs.Faults.{HasRisen}
+use Rattle.sw_pending.specs.declared.filed.Filed.{Filed}
+use Rattle.sw_rows.specs.declared.row.Row.{Row}
 use Rattle.sw_state.specs.declared.state.State.{State}
 use Rattle.sw_step.specs.Rules.{CanStand, has_wanted}
 use Rattle.sw_step.specs.Steps.{added_by}
@@ -40,7 +45,7 @@ use Rattle.sw_peer.specs.declared.link.Link.{Link}
 use Rattle.sw_peer.specs.declared.link.Link.TheVariants.{Local, Sent}
 use Rattle.sw_peer.specs.declared.link.Lost.{Lost}
 use Rattle.sw_peer.specs.declared.part_read.PartRead.{PartRead}
-use Rattle.sw_peer.specs.declared.part_read.PartRead.TheVariants.{Files, Hashes, Write}
+use Rattle.sw_peer.specs.declared.part_read.PartRead.TheVariants.{Base, Files, Hashes, Records, Write}
 
 -- what never changes
 pub record Nodes : Type 0 where
@@ -53,6 +58,10 @@ pub record Nodes : Type 0 where
   pub lock : ℕ → Hash → ℕ  -- which lock of a device the hash is under: a number for objects, and one for containers
   pub part_lock : ℕ → ℕ → ℕ  -- which lock of a device the partition is under: each is under one
   pub one_lock : (device : ℕ) (hash : Hash) → lock device hash ≡ part_lock device (partition_of hash power)
+  pub stripe : Hash → ℕ  -- which of the locks of its device the hash is under, from 0 on
+  pub stripe_lock : ℕ → ℕ → ℕ  -- that lock among those of all devices
+  pub one_stripe : (device : ℕ) (hash : Hash) → lock device hash ≡ stripe_lock device (stripe hash)
+  pub within : (hash : Hash) → stripe hash < 2 ^ lock_bits
 
 pub record Sight : Type 0 where
   pub nodes : Nodes
@@ -173,6 +182,36 @@ IsFilesRead link device part suffix = IsPartRead link device part (in_suffix par
 abbrev pub IsWriteRead : Link → ℕ → ℕ → Hash → FileName → Sight → Result (Option Stored) DirFault → Sight → Type 0
 IsWriteRead link device part hash file = IsPartRead link device part (is_one hash) true (λ nodes told s got. IsFile nodes.fits hash file told s got)
     (λ got. Write part hash file got)
+
+-- of the row that tells what stands under the name of a record
+abbrev pub IsBaseRead : Link → ℕ → Filed → Sight → Result (Option Row) DirFault → Sight → Type 0
+IsBaseRead link device filed old got new =
+    IsPartRead link device (partition_of filed.name.hash old.nodes.power) (is_one filed.name.hash) true
+    (λ nodes told s row. told ≡ true → IsBaseFor filed (s filed.name.hash) row) (λ row. Base filed row) old got new
+
+-- ---- one read of all records under a lock
+
+-- the hashes of a stripe of one device
+abbrev pub IsInStripe : Nodes → ℕ → ℕ → ℕ → Hash → Type 0
+IsInStripe nodes device stripe d hash = (d ≡ device) × (nodes.stripe hash ≡ stripe)
+
+abbrev pub in_stripe : ℕ → Nodes → Hash → Bool
+in_stripe stripe nodes hash = nodes.stripe hash == stripe
+
+-- The records that are filed under the hashes of a stripe. Every doubt of a change of a record is settled first, where its lock is known to be of no other hash
+-- too. `held` is what the lock holds under each hash
+pub record IsRecordsRead (link : Link) (device stripe : ℕ) (old : Sight) (got : Result (Vec Filed Global) DirFault) (new : Sight) : Type 0 where
+  pub moves : Moves (IsInStripe old.nodes device stripe) old new
+  pub some : (hash : Hash) × (old.nodes.stripe hash ≡ stripe)  -- the stripe has a hash
+  pub holds_all : HoldsAll old new
+  pub held : Hash → ObjValue
+  pub is_held : new.alone ≡ true → (hash : Hash) → old.nodes.lock device hash ≡ old.nodes.stripe_lock device stripe
+      → held hash ≡ new.objects.holds device hash
+  pub step : ReadsRecords new.alone (old.objects.seen (old.nodes.stripe_lock device stripe)) (λ hash. true)
+      (λ records list. AreFiled old.nodes.secrets (in_stripe stripe old.nodes) (new.objects.seen (old.nodes.stripe_lock device stripe)).told records list.items)
+      got (new.objects.seen (old.nodes.stripe_lock device stripe)) held
+  pub trail : Trails old (record { device = device; link = link; event = ReadPart (Records stripe got); added = step.follows.entries.0 })
+      (is_wanting_part got) new
 
 -- how many messages asked for hashes or files, after a call that does
 abbrev pub asked : ℕ → Link → ℕ

@@ -6,6 +6,8 @@
 //! A [`ReplicaDoor`] answers the reads by which replicas are compared as well: the hashes of a partition's suffixes, the files of a suffix,
 //! and the write of a file. A write that was read so is sent on as a change like the others.
 //!
+//! A [`PendingDoor`] tells which records of updates are filed, and what has to be told for each.
+//!
 //! A [`ContainerDoor`] is all container nodes in the same way. Its steps are those of `sw_container_steps`, and one value can be both doors: what is
 //! known of the nodes has a half for each kind, and a step at one leaves the other as it is.
 //!
@@ -23,6 +25,7 @@ mod kept_line;
 mod line;
 mod link;
 mod part_read;
+mod pending_door;
 
 pub use cont_event::ContEvent;
 pub use container_door::ContainerDoor;
@@ -31,4 +34,5 @@ pub use kept_line::KeptLine;
 pub use line::{Event, Line};
 pub use link::{Link, Lost};
 pub use part_read::PartRead;
+pub use pending_door::PendingDoor;
 pub use sw_history::Seen;

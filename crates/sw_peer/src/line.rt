@@ -13,7 +13,7 @@ pub enum Event {
     Changed(Name, ChangeSeen, Answer),
     /// A read of this name.
     Read(Seen<Name>, Seen<Got>),
-    /// A read of a partition, as replicas are compared by.
+    /// A read of several hashes, as replicas are compared by, or one that records ask for.
     ReadPart(PartRead),
     /// A listing of the files of all locks of the device, and whether a call of a volume failed in it.
     Listed(bool),
