@@ -6,6 +6,7 @@ ghost use Rattle.sw_peer.specs.Sights.{Calls, IsFilesRead, IsHashesRead, IsMade,
 ghost use Rattle.sw_lossy.specs.Losses.{Happens, IsUncopied, around, asked_inside, fate_of, faults_after, is_loss, messages_after};
 
 mod containers;
+mod pending;
 
 use crate::acts::{Acts, Fate};
 use std::alloc::Global;
@@ -18,7 +19,8 @@ use sw_suffix::{DirLine, SuffixHash};
 
 /// A door around another, which loses and repeats messages. A step that is said at the device itself goes through.
 ///
-/// It is each kind of door that the one inside is. Messages to objects and to containers are numbered together, in the order in which they are sent.
+/// It is each kind of door that the one inside is. Messages to objects and to containers, and those that read records, are numbered together, in the order
+/// in which they are sent.
 #[derive(Drop)]
 pub struct Lossy<D: Drop> {
     /// The door inside.
