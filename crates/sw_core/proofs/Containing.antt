@@ -9,7 +9,7 @@ use Rattle.std.proofs.Math.Nat.{mul-le-mul_right, suc-mul}
 use Rattle.std.specs.List.{slice_get}
 use Rattle.sw_container_db.specs.ContDirs.{ContKept}
 use Rattle.sw_container_locks.proofs.Placed.{change-moves, lifting-restarts, read-moves}
-use Rattle.sw_container_locks.specs.Halves.{MayStand, cont_held_of, cont_seen_of}
+use Rattle.sw_container_locks.specs.Halves.{MayStand, cont_held_of}
 use Rattle.sw_container_locks.specs.Laws.{HasLocks, IsOfDevice}
 use Rattle.sw_container_locks.specs.Making.{IsChangedAt, IsReadAt}
 use Rattle.sw_container_locks.specs.Slots.{AreLifted as AreLiftedLocks, AreSetDown as LocksAreSetDown, IsOpen, Lifts as LiftsLocks, begun}

@@ -8,6 +8,7 @@ pub mod Settling
 pub mod Slots
 pub mod Sound
 pub mod Stopped
+pub mod Striped
 pub mod Stripes
 pub mod Wanting
 pub mod Wholes

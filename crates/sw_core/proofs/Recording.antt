@@ -1,17 +1,16 @@
 -- A step at a record has no entry of its own write.
-use Rattle.std.proofs.Common.{◌≡◌, Bool, true, false, if◌then◌else◌, List, length, refl, ◌∙◌, ap}
+use Rattle.std.proofs.Common.{◌≡◌, Bool, true, false, if◌then◌else◌, length, refl, ◌∙◌, ap}
 use Rattle.sw_hashpath.specs.declared.name.Name.{Name}
 use Rattle.sw_object_steps.specs.Histories.{ChangesObject}
 use Rattle.sw_object_steps.specs.Journals.{Hash}
 use Rattle.sw_object_steps.specs.Outlines.{outline_of}
 use Rattle.sw_object_steps.specs.Recorded.{is_taken, is_write}
-use Rattle.sw_object_steps.specs.Rules.{ObjHistory, ObjJournal, Writes, obj_rules}
+use Rattle.sw_object_steps.specs.Rules.{ObjHistory, Writes, obj_rules}
 use Rattle.sw_object_steps.specs.Steps.{is_entered, made_answer}
 use Rattle.sw_object_steps.specs.Values.{ObjValue}
 use Rattle.sw_object_steps.specs.declared.answer.Answer.{Answer}
 use Rattle.sw_object_steps.specs.declared.answer.Answer.TheVariants as answers
 use Rattle.sw_object_steps.specs.declared.change.Change.{Change}
-use Rattle.sw_object_steps.specs.declared.entry.ObjEntry.{ObjEntry}
 use Rattle.sw_peer.specs.Lines.{own_by}
 use Rattle.sw_step.specs.Steps.{Answers, IsDone}
 

@@ -6,14 +6,13 @@ use Rattle.std.proofs.Math.Nat.{min-eq_left}
 use Rattle.std.proofs.lemmas.Grind.{flat_map-append}
 use Rattle.std.proofs.lemmas.List.{length-append, length-take, take-append-drop}
 use Rattle.std.proofs.lemmas.Nat.{rows}
-use Rattle.std.proofs.lemmas.Option.{slice_get_within}
 use Rattle.sw_container_db.specs.ContDirs.{ContKept}
 use Rattle.sw_container_locks.specs.Slots.{keeper_in, keepers_of}
 use Rattle.sw_container_locks.specs.declared.cont_slot.ContSlot.{ContSlot}
 use Rattle.sw_container_locks.specs.declared.cont_slot.ContSlot.TheVariants as cont_slots
 use Rattle.sw_hashpath.specs.declared.secrets.Secrets.{Secrets}
 use Rattle.sw_objdir.specs.Directories.{Kept}
-use Rattle.sw_core.proofs.Keeping.{out-cases, there-is}
+use Rattle.sw_core.proofs.Keeping.{out-cases}
 use Rattle.sw_core.proofs.Wholes.{some-same}
 use Rattle.sw_core.specs.Stopping.{Gives, gap_first, gap_past}
 use Rattle.sw_core.specs.Worlds.{AllNodes, AreContainers, IsContSlot, IsSlot, IsWorld, first_of, is_out, parts_of, past_of, volume_in}

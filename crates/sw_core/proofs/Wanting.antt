@@ -7,16 +7,22 @@ use Rattle.std.specs.Str.{bytes_eq}
 use Rattle.sw_hashpath.specs.HashParts.{partition_of}
 use Rattle.sw_hashpath.specs.declared.name.Name.{Name}
 use Rattle.sw_history.proofs.Growing.{grows-refl}
-use Rattle.sw_peer.proofs.Calls.{PartFrame, calls-once, faithful-once, made-step, moves-counted, moves-refl, part-step, read-step, same-refl, wanting}
-use Rattle.sw_peer.specs.Sights.{Calls, IsAt, IsInPart, IsMade, IsPartRead, IsRead, MayStand, Moves, Nodes, Sight}
+use Rattle.sw_peer.proofs.Calls.{BaseFrame, PartFrame, StripeFrame, base-step, calls-once, faithful-once, made-step, moves-counted, moves-refl, part-step}
+use Rattle.sw_peer.proofs.Calls.{read-step, records-step, same-refl, wanting}
+use Rattle.sw_peer.specs.Sights.{Calls, IsAt, IsBaseRead, IsInPart, IsInStripe, IsMade, IsPartRead, IsRead, IsRecordsRead, MayStand, Moves, Nodes, Sight}
+use Rattle.sw_peer.specs.Sights.{is_one}
 use Rattle.sw_object_steps.proofs.Hashes.{hash-same}
+use Rattle.sw_object_steps.specs.BaseRows.{IsBaseFor}
 use Rattle.sw_object_steps.specs.Journals.{Hash}
 use Rattle.sw_object_steps.specs.Rules.{ObjHistory, obj_rules}
+use Rattle.sw_object_steps.specs.Values.{ObjValue}
+use Rattle.sw_pending.specs.declared.filed.Filed.{Filed}
 use Rattle.sw_step.specs.Rules.{CanStand}
 use Rattle.sw_step.specs.Steps.{IsDamaged, IsLost, IsWanting, Tells}
 use Rattle.sw_object_steps.specs.declared.dir_fault.DirFault.{DirFault}
 use Rattle.sw_object_steps.specs.declared.dir_fault.DirFault.TheVariants as dir_faults
 use Rattle.sw_peer.specs.declared.part_read.PartRead.{PartRead}
+use Rattle.sw_peer.specs.declared.part_read.PartRead.TheVariants.{Base}
 use Rattle.sw_state.specs.declared.state.State.{State}
 use Rattle.sw_object_steps.specs.declared.answer.Answer.TheVariants as answers
 use Rattle.sw_object_steps.specs.declared.change.Change.{Change}
@@ -26,7 +32,7 @@ use Rattle.sw_peer.specs.declared.link.Link.{Link}
 use Rattle.sw_volume.specs.Tree.{Folders}
 use Rattle.sw_core.proofs.Wholes.{found}
 use Rattle.sw_core.specs.declared.slot.Slot.{Slot}
-use Rattle.sw_core.specs.Worlds.{AllMayStand, AllNodes, KeeperSeen, held_of, lock_of, part_lock_of, seen_of, sight_of}
+use Rattle.sw_core.specs.Worlds.{AllMayStand, AllNodes, KeeperSeen, held_of, lock_of, part_lock_of, seen_of, sight_of, stripe_in, stripe_lock_of}
 
 tells : IsWanting ≡ Tells → ⊥
 tells is = cc
@@ -89,6 +95,33 @@ wanting-part link device part at damages reading read s asks may = record {
   trail = inr (refl, record { same = refl; faults = omega arith });
 }
 
+-- a read of the records of a stripe that wants memory before it is made: `held` is what its lock holds under each hash
+wanting-records : (link : Link) (device stripe : ℕ) (s : Sight) (hash : Hash) → s.nodes.stripe hash ≡ stripe → (held : Hash → ObjValue)
+    → ((key : Hash) → s.nodes.lock device key ≡ s.nodes.stripe_lock device stripe → held key ≡ s.objects.holds device key)
+    → ((s.objects.seen (s.nodes.stripe_lock device stripe)).told ≡ true → (key : Hash)
+    → CanStand obj_rules (s.objects.seen (s.nodes.stripe_lock device stripe)) key (held key))
+    → IsRecordsRead link device stripe s (Err dir_faults.NoMemory) s
+wanting-records link device stripe s hash is held same may = record {
+  moves = moves-refl (IsInStripe s.nodes device stripe) s;
+  some = (hash, is);
+  holds_all = λ alone d key. refl;
+  held = held;
+  is_held = λ alone. same;
+  step = record {
+    read = held;
+    follows = grows-refl (s.objects.seen (s.nodes.stripe_lock device stripe));
+    settles = λ alone. (0, refl);
+    settled = λ is. absurd (tells is);
+    shown = λ is. absurd (tells is);
+    orderly = λ is. absurd (damaged is);
+    failed = λ is. absurd (lost is);
+    known = λ told is. absurd (tells is);
+    kept = λ alone told key is. may told key;
+    held = λ alone told is. absurd (tells is);
+  };
+  trail = inr (refl, same-refl s);
+}
+
 -- what a lock tells of each hash, its device holds
 pub own-stands : {V K : Type 0} (tells : V → Bool) (files : V → Folders) (faults : V → ℕ) (keeps : KeeperSeen K) (w : AllNodes V K) (device : ℕ) (hash : Hash)
     → AllMayStand tells files faults (slice_get w.slots (lock_of w.lock_bits w.power device hash)) → MayStand device hash (sight_of tells files faults keeps w)
@@ -123,6 +156,30 @@ module _ {V K : Type 0} (tells : V → Bool) (files : V → Folders) (faults : V
         (faithful-once link) (wanting-part link device part at damages reading read (sight_of tells files faults keeps w) asks
         (λ told key is. subst (λ (p : ℕ). CanStand obj_rules (seen_of tells files faults (slice_get w.slots (part_lock_of w.lock_bits w.power device part))) key
         (held_of tells files faults (slice_get w.slots (part_lock_of w.lock_bits w.power device p)) key)) (sym (inside key is)) (may told key))))
+
+  -- a read of the row to tell for a record that wants memory for its line
+  pub wants-base : (filed : Filed) → AllMayStand tells files faults (slice_get w.slots (lock_of w.lock_bits w.power device filed.name.hash))
+      → Calls (IsBaseRead link device filed) (sight_of tells files faults keeps w) link (Ok (Err dir_faults.NoMemory))
+      (sight_of tells files faults keeps (record w { lines = lines }))
+  wants-base filed may = rw same (calls-once (BaseFrame device filed) (IsBaseRead link device filed) (base-step link device filed)
+      (sight_of tells files faults keeps w) (sight_of tells files faults keeps w) link (Err dir_faults.NoMemory) (faithful-once link)
+      (wanting-part link device (partition_of filed.name.hash w.power) (is_one filed.name.hash) true
+      (λ nodes told s row. told ≡ true → IsBaseFor filed (s filed.name.hash) row) (λ row. Base filed row) (sight_of tells files faults keeps w) w.asks
+      (λ told key is. subst (λ (k : Hash).
+      CanStand obj_rules (seen_of tells files faults (slice_get w.slots (lock_of w.lock_bits w.power device filed.name.hash))) k
+      (held_of tells files faults (slice_get w.slots (lock_of w.lock_bits w.power device k)) k)) (hash-same filed.name.hash key is)
+      (may told filed.name.hash))))
+
+  -- and one of the records of a stripe, which has a hash
+  pub wants-records : (stripe : ℕ) (hash : Hash) → stripe_in w.lock_bits w.power hash ≡ stripe
+      → AllMayStand tells files faults (slice_get w.slots (stripe_lock_of w.lock_bits device stripe))
+      → Calls (IsRecordsRead link device stripe) (sight_of tells files faults keeps w) link (Ok (Err dir_faults.NoMemory))
+      (sight_of tells files faults keeps (record w { lines = lines }))
+  wants-records stripe hash is may = rw same (calls-once (StripeFrame device stripe) (IsRecordsRead link device stripe) (records-step link device stripe)
+      (sight_of tells files faults keeps w) (sight_of tells files faults keeps w) link (Err dir_faults.NoMemory) (faithful-once link)
+      (wanting-records link device stripe (sight_of tells files faults keeps w) hash is
+      (λ key. held_of tells files faults (slice_get w.slots (stripe_lock_of w.lock_bits device stripe)) key)
+      (λ key equal. ap (λ (l : ℕ). held_of tells files faults (slice_get w.slots l) key) (sym equal)) may))
 
 -- what is told of one place is told of the lock that it is
 pub lock-stands : {V : Type 0} (tells : V → Bool) (files : V → Folders) (faults : V → ℕ) (all : List (Slot V)) (l place : ℕ) (s : Slot V) → place ≡ l

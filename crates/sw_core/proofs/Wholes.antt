@@ -9,13 +9,15 @@ use Rattle.std.proofs.lemmas.Option.{slice_get-get_or, slice_get_within}
 use borrow.Author.Tests.{eqb-true, eqb-false}
 use Rattle.sw_hashdir.specs.Steps.{IsHashed}
 use Rattle.sw_hashpath.specs.BadNames.{bad_name}
-use Rattle.sw_hashpath.specs.Paths.{hash_of}
+use Rattle.sw_hashpath.specs.HashParts.{IsDigest}
+use Rattle.sw_hashpath.specs.Paths.{hash_of, path_text}
 use Rattle.sw_hashpath.specs.declared.bad_name.BadName.{BadName}
 use Rattle.sw_hashpath.specs.declared.name.Name.{Name}
 use Rattle.sw_hashpath.specs.declared.secrets.Secrets.{Secrets}
 use Rattle.sw_container_locks.specs.declared.cont_slot.ContSlot.{ContSlot}
 use Rattle.sw_objdir.specs.Directories.{Kept}
 use Rattle.sw_object_steps.proofs.Hashes.{hash-same}
+use Rattle.sw_pending_dir.proofs.Keys.{digest-md5}
 use Rattle.sw_peer.specs.declared.line.Line.{Line}
 use Rattle.sw_core.proofs.Placed.{slice_get-set_other, slice_get-set_same}
 use Rattle.sw_core.specs.Worlds.{AllNodes, HasLimits, HasRoom, IsSlot, IsWorld, is_out, shown}
@@ -60,6 +62,10 @@ hashed secrets name is =
       hashed = hash-same (hash_of secrets name.account (Some name.container) (Some name.object)) name.hash both.0;
       good = no-bad (bad_name name.account (Some name.container) (Some name.object)) both.1;
     }
+
+-- whose hash is the MD5 of a path
+pub digest-of : (secrets : Secrets) (name : Name) → IsHashed secrets name → IsDigest name.hash
+digest-of secrets name is = subst IsDigest is.hashed (digest-md5 (path_text secrets name.account (Some name.container) (Some name.object)))
 
 pub none-some : {P : Type 0} (o : Option ℕ) → o ≡ None → IsSome o → P
 none-some None is some = cc

@@ -2,7 +2,8 @@
 use Rattle.std.specs.Prelude.{◌≡◌, refl, ℕ, ◌+◌, ◌-◌, ◌*◌, ◌/◌, ◌%◌, ◌^◌, ◌<◌, ◌≤◌, ◌⊎◌, Bool, true, false, ◌&&◌, nat_le, nat_lt, List, [], ◌∷◌, ◌++◌, length}
 use Rattle.std.specs.Prelude.{map, zip, Option, ⊤}
 use Rattle.std.specs.Prelude.{Some, None, is_none, IsSome}
-use Rattle.std.specs.List.{All, flat_map, slice_get}
+use Rattle.std.specs.List.{flat_map, slice_get}
+use Rattle.std.proofs.lemmas.Nat.{mod_below, pow_pos}
 use Rattle.std.specs.Str.{bytes_eq}
 use Rattle.std.specs.declared.alloc.Global.{Global}
 use Rattle.std.specs.declared.vec.Vec.{Vec}
@@ -54,9 +55,17 @@ pub record AllNodes (V K : Type 0) : Type 0 where
 abbrev pub stripe_at : ℕ → ℕ → ℕ → ℕ
 stripe_at lock_bits power part = part / 2 ^ (power - lock_bits) % 2 ^ lock_bits
 
--- the lock of a partition at a device: those of a device stand together, one a stripe
+-- that of a hash: the one of its partition
+abbrev pub stripe_in : ℕ → ℕ → Hash → ℕ
+stripe_in lock_bits power hash = stripe_at lock_bits power (partition_of hash power)
+
+-- the lock of a stripe of a device: those of a device stand together
+abbrev pub stripe_lock_of : ℕ → ℕ → ℕ → ℕ
+stripe_lock_of lock_bits device stripe = device * 2 ^ lock_bits + stripe
+
+-- the lock of a partition at a device
 abbrev pub part_lock_of : ℕ → ℕ → ℕ → ℕ → ℕ
-part_lock_of lock_bits power device part = device * 2 ^ lock_bits + stripe_at lock_bits power part
+part_lock_of lock_bits power device part = stripe_lock_of lock_bits device (stripe_at lock_bits power part)
 
 -- the lock of a hash at a device: that of its partition
 abbrev pub lock_of : ℕ → ℕ → ℕ → Hash → ℕ
@@ -114,6 +123,10 @@ nodes_of devices lock_bits power secrets =
       lock = lock_of lock_bits power;
       part_lock = part_lock_of lock_bits power;
       one_lock = λ device hash. refl;
+      stripe = stripe_in lock_bits power;
+      stripe_lock = stripe_lock_of lock_bits;
+      one_stripe = λ device hash. refl;
+      within = λ hash. mod_below (partition_of hash power / 2 ^ (power - lock_bits)) (2 ^ lock_bits) (pow_pos lock_bits);
     }
 
 -- how many devices may be asked: none while one is out

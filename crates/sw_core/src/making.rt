@@ -1,25 +1,29 @@
 //! A step at one lock, with its line.
 
-ghost use Rattle.std.specs.Prelude.{◌≡◌, ◌<◌, ◌==◌, ◌^◌, ◌&&◌, true, false, IfOk};
+ghost use Rattle.std.specs.Prelude.{◌≡◌, ◌<◌, ◌≤◌, ◌==◌, ◌^◌, ◌&&◌, true, false, IfOk};
 ghost use Rattle.std.specs.Str.{bytes_eq};
 ghost use Rattle.sw_core.specs.Lines.{briefs_in, doubt_in, settled_briefs};
 ghost use Rattle.sw_peer.specs.Lines.{own_by};
-ghost use Rattle.sw_core.specs.Making.{IsChangedIn, IsGotIn, IsPartIn};
+ghost use Rattle.sw_core.specs.Making.{IsChangedIn, IsGotIn, IsPartIn, IsRecordsIn};
+ghost use Rattle.sw_core.specs.Worlds.{stripe_in};
 ghost use Rattle.sw_hashdir.specs.Steps.{IsHashed, is_hashed};
 ghost use Rattle.sw_hashpath.specs.HashParts.{partition_of, suffix_of};
 ghost use Rattle.sw_object_steps.specs.Parts.{AreHashes, AreLines, IsFile, IsOfPart};
 ghost use Rattle.sw_object_steps.specs.Recorded.{is_write};
-ghost use Rattle.sw_peer.specs.declared.part_read.PartRead.TheVariants.{Files, Hashes, Write};
+ghost use Rattle.sw_object_steps.specs.BaseRows.{IsBaseFor};
+ghost use Rattle.sw_peer.specs.declared.part_read.PartRead.TheVariants.{Base, Files, Hashes, Write};
 ghost use Rattle.sw_journal.specs.Entries.{first_in};
 
 use crate::slot::Slot;
 use std::alloc::Global;
 use sw_diskfile::FileName;
-use sw_hashpath::Name;
+use sw_hashpath::{Name, partition};
 use sw_objdir::ObjDir;
 use sw_object_steps::{Answer, Brief, Change, ChangeSeen, DirFault, Got, Stored};
 use sw_outside::NoMemory;
 use sw_peer::{Event, KeptLine, Line, Link, PartRead, Seen};
+use sw_pending::Filed;
+use sw_rows::Row;
 use sw_suffix::{DirLine, SuffixHash};
 use sw_volume::Volume;
 
@@ -224,6 +228,72 @@ pub(crate) fn write_in<V: Volume + Drop>(
         device,
         link,
         event: Event::ReadPart(PartRead::Write(part, *hash, *file, Seen::of(&got))),
+        added: dir.added_since(from),
+    };
+    (got, KeptLine::new(line, settled))
+}
+
+/// Reads the records that are filed under the hashes of a stripe, and makes the line of that. Those of other stripes that the volume has are left out.
+pub(crate) fn records_in<V: Volume + Drop>(
+    alloc: Global,
+    dir: &mut ObjDir<V>,
+    link: Link,
+    device: u8,
+    lock_bits: u8,
+    power: u8,
+    stripe: u8,
+) -> (Result<Vec<Filed>, DirFault>, KeptLine)
+    requires few { lock_bits ≤ 4 }
+    requires fine { lock_bits ≤ power }
+    requires least { 1 ≤ power }
+    requires greatest { power ≤ 32 }
+    ensures { IsRecordsIn V.tells V.holds V.faults dir.old link device (λ hash. stripe_in lock_bits power hash == stripe) stripe result.0 dir.new result.1 }
+{
+    let from = dir.front();
+    let mut settled = Vec::new(alloc);
+    let mut got = dir.records(alloc, &mut settled);
+    if let Ok(records) = &mut got {
+        records.retain(|filed| stripe_in(&filed.name.hash, lock_bits, power) == stripe);
+    }
+    let line = Line {
+        device,
+        link,
+        event: Event::ReadPart(PartRead::Records(stripe, Seen::of(&got))),
+        added: dir.added_since(from),
+    };
+    (got, KeptLine::new(line, settled))
+}
+
+/// The stripe of a hash: that of its partition.
+fn stripe_in(hash: &[u8; 16], lock_bits: u8, power: u8) -> u8
+    requires few { lock_bits ≤ 4 }
+    requires fine { lock_bits ≤ power }
+    requires least { 1 ≤ power }
+    requires greatest { power ≤ 32 }
+    ensures { result ≡ stripe_in lock_bits power hash.now }
+{
+    (u64::from(partition(hash, power)) >> (power - lock_bits)) as u8
+}
+
+/// Reads the row that tells what stands under the name of a record, and makes the line of that.
+pub(crate) fn base_in<V: Volume + Drop>(
+    alloc: Global,
+    dir: &mut ObjDir<V>,
+    link: Link,
+    device: u8,
+    filed: &Filed,
+) -> (Result<Option<Row>, DirFault>, KeptLine)
+    requires hashed { IsHashed dir.old.secrets filed.now.name }
+    ensures { IsPartIn V.tells V.holds V.faults dir.old link device (bytes_eq filed.now.name.hash) true
+        (λ told s row. told ≡ true → IsBaseFor filed.now (s filed.now.name.hash) row) (λ row. Base filed.now row) result.0 dir.new result.1 }
+{
+    let from = dir.front();
+    let mut settled = Vec::new(alloc);
+    let got = dir.base_for(alloc, filed, &mut settled);
+    let line = Line {
+        device,
+        link,
+        event: Event::ReadPart(PartRead::Base(Seen::of(filed), Seen::of(&got))),
         added: dir.added_since(from),
     };
     (got, KeptLine::new(line, settled))

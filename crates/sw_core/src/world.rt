@@ -3,6 +3,7 @@ ghost use Rattle.sw_container_locks.specs.Slots.{AreLocks};
 ghost use Rattle.sw_core.specs.Listing.{AreCalm, ListsFiles, is_failed};
 ghost use Rattle.sw_core.specs.Stopping.{Gives};
 ghost use Rattle.sw_core.specs.Worlds.{AreContainers, IsWorld, IsSameWorld, Lifts, SetsDown, SlotTellsOn, keeper_seen, lock_of, opened, part_lock_of, parts_of};
+ghost use Rattle.sw_core.specs.Worlds.{stripe_lock_of};
 ghost use Rattle.sw_core.specs.Worlds.{sight_of, without_lines};
 ghost use Rattle.sw_peer.specs.Sights.{IsListed};
 ghost use Rattle.sw_volume.specs.declared.errors.VolumeError.TheVariants.{NoMemory as Wanting};
@@ -10,6 +11,7 @@ ghost use Rattle.sw_volume.specs.declared.errors.VolumeError.TheVariants.{NoMemo
 mod containers;
 mod door;
 mod listing;
+mod pending;
 mod slots;
 
 use crate::slot::Slot;
@@ -261,6 +263,16 @@ impl<V: Volume + Drop, K: Keeper + Drop> World<V, K> {
     {
         let stripe = u64::from(part) >> (self.power - self.lock_bits);
         usize::from(device) * stripes(self.lock_bits) + stripe as usize
+    }
+
+    /// The place of the lock of a stripe at a device.
+    pub(crate) fn lock_of_stripe(&self, device: u8, stripe: u8) -> usize
+        requires device { device < self.now.devices }
+        requires stripe { stripe < 2 ^ self.now.lock_bits }
+        ensures lock { result ≡ stripe_lock_of self.now.lock_bits device stripe }
+        ensures within { result < length self.now.slots }
+    {
+        usize::from(device) * stripes(self.lock_bits) + usize::from(stripe)
     }
 }
 

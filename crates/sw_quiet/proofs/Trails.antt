@@ -5,21 +5,24 @@ use Rattle.sw_core.specs.Worlds.{KeeperSeen, AllNodes, SetsDown, restart_line, s
 use Rattle.sw_container_steps.specs.declared.cont_answer.ContAnswer.{ContAnswer}
 use Rattle.sw_container_steps.specs.declared.cont_change.ContChange.{ContChange}
 use Rattle.sw_diskfile.specs.declared.file_name.FileName.{FileName}
+use Rattle.sw_hashpath.specs.HashParts.{partition_of}
 use Rattle.sw_hashpath.specs.declared.name.Name.{Name}
 use Rattle.sw_hashpath.specs.declared.place.Place.{Place}
 use Rattle.sw_keeper.specs.declared.tables.Tables.{Tables}
+use Rattle.sw_object_steps.specs.BaseRows.{IsBaseFor}
 use Rattle.sw_object_steps.specs.Journals.{Hash}
 use Rattle.sw_object_steps.specs.Parts.{AreHashes, AreLines, IsFile}
 use Rattle.sw_peer.specs.ContSights.{ContMoves, IsContMade, IsIn, IsLooked}
 use Rattle.sw_peer.specs.declared.cont_event.ContEvent.{ContEvent}
-use Rattle.sw_peer.specs.Sights.{Calls, Comes, IsAt, IsFilesRead, IsHashesRead, IsInPart, IsMade, IsPartRead, IsRead, IsSame, IsWriteRead}
-use Rattle.sw_peer.specs.Sights.{Moves, Nodes, Restarts, Sight, in_part, in_suffix, is_one}
+use Rattle.sw_peer.specs.Sights.{Calls, Comes, IsAt, IsBaseRead, IsFilesRead, IsHashesRead, IsInPart, IsInStripe, IsMade, IsPartRead, IsRead, IsRecordsRead}
+use Rattle.sw_peer.specs.Sights.{IsSame, IsWriteRead, Moves, Nodes, Restarts, Sight, in_part, in_suffix, is_one}
 use Rattle.sw_object_steps.specs.declared.change.Change.{Change}
 use Rattle.sw_object_steps.specs.declared.dir_fault.DirFault.{DirFault}
 use Rattle.sw_peer.specs.declared.link.Link.{Link}
 use Rattle.sw_peer.specs.declared.link.Lost.{Lost}
 use Rattle.sw_peer.specs.declared.part_read.PartRead.{PartRead}
-use Rattle.sw_peer.specs.declared.part_read.PartRead.TheVariants.{Files, Hashes, Write}
+use Rattle.sw_peer.specs.declared.part_read.PartRead.TheVariants.{Base, Files, Hashes, Write}
+use Rattle.sw_pending.specs.declared.filed.Filed.{Filed}
 use Rattle.sw_state.specs.declared.state.State.{State}
 use Rattle.sw_volume.specs.Tree.{Folders}
 use Rattle.sw_quiet.specs.Laws.{LiftingRestartsQuietly}
@@ -69,6 +72,22 @@ files-blind link device part suffix =
 pub write-blind : (link : Link) (device part : ℕ) (hash : Hash) (file : FileName) → IsBlind (IsWriteRead link device part hash file)
 write-blind link device part hash file =
     part-blind link device part (is_one hash) true (λ nodes told s got. IsFile nodes.fits hash file told s got) (λ got. Write part hash file got)
+
+pub base-blind : (link : Link) (device : ℕ) (filed : Filed) → IsBlind (IsBaseRead link device filed)
+base-blind link device filed s t x step =
+    part-blind link device (partition_of filed.name.hash s.nodes.power) (is_one filed.name.hash) true
+    (λ nodes told held row. told ≡ true → IsBaseFor filed (held filed.name.hash) row) (λ row. Base filed row) s t x step
+
+pub records-blind : (link : Link) (device stripe : ℕ) → IsBlind (IsRecordsRead link device stripe)
+records-blind link device stripe s t x step = record {
+  moves = moves-quiet (IsInStripe s.nodes device stripe) s t step.moves;
+  some = step.some;
+  holds_all = step.holds_all;
+  held = step.held;
+  is_held = step.is_held;
+  step = step.step;
+  trail = inl refl;
+}
 
 module _ {A : Type 0} (step : Sight → A → Sight → Type 0) (blind : IsBlind step) where
   comes-quiet : (s : Sight) (xs : List A) (t : Sight) → Comes step s xs t → Comes step (without_trail s) xs (without_trail t)

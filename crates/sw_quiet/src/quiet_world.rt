@@ -6,6 +6,7 @@ ghost use Rattle.sw_quiet.specs.Quiet.{SetsDownQuietly};
 
 mod containers;
 mod door;
+mod pending;
 
 use std::alloc::Global;
 use std::marker::Model;

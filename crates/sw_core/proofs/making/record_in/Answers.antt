@@ -1,4 +1,4 @@
-use Rattle.std.proofs.Common.{◌≡◌, refl, ◌∙◌, ap}
+use Rattle.std.proofs.Common.{◌≡◌, refl, ◌∙◌}
 use Rattle.sw_core.proofs.Recording.{none-own}
 use Rattle.sw_core.proofs.Settling.{all-briefed}
 use Rattle.sw_object_steps.specs.Rules.{obj_rules}

@@ -1,4 +1,4 @@
-use Rattle.std.proofs.Common.{◌≡◌, ◌∙◌, ◌*◌, ◌^◌, ◌≤◌, List, length, map, None, refl, sym, subst, arith, All}
+use Rattle.std.proofs.Common.{◌≡◌, ◌∙◌, ◌*◌, ◌^◌, ◌≤◌, List, length, None, refl, sym, subst, arith, All}
 use Rattle.std.proofs.lemmas.List.{length-map}
 use Rattle.sw_container_locks.specs.declared.cont_slot.ContSlot.{ContSlot}
 use Rattle.sw_core.proofs.Containing.{begun-containers}

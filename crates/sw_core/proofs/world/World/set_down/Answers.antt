@@ -1,4 +1,4 @@
-use Rattle.std.proofs.Common.{◌≡◌, ◌^◌, ◌<◌, [], ◌∷◌, ◌++◌, length, Some, refl, sym, ◌∙◌}
+use Rattle.std.proofs.Common.{◌≡◌, ◌^◌, [], ◌∷◌, ◌++◌, length, Some, refl, sym, ◌∙◌}
 use Rattle.std.proofs.lemmas.List.{length-map}
 use Rattle.sw_core.proofs.Containing.{set-there}
 use Rattle.sw_core.proofs.Keeping.{roomy-in, set-world}
