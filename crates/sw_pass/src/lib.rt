@@ -3,7 +3,8 @@
 //! An [`Outcome`] tells whether a pass is done, how many answers were lost, the first answer that hindered it, a [`Hindrance`], and how much is left.
 //! `specs/Outcomes` has what each event counts for.
 //!
-//! The next layers up are the passes themselves, `sw_replicator` and `sw_cont_replicator`: each promises that a pass which isn't done says why.
+//! The next layers up are the passes themselves, `sw_replicator`, `sw_cont_replicator` and `sw_updater`: each promises that a pass which isn't done says
+//! why.
 #![tactic(auto)]
 
 mod hindrance;

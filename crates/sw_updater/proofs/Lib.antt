@@ -1,0 +1,10 @@
+mod Afterwards
+mod Calling
+mod Causing
+mod Goodness
+mod Keys
+mod Naming
+mod Passing
+mod Stripes
+mod Told
+mod Wanting

@@ -1,0 +1,22 @@
+//! The object updater: tells the containers of a device's objects what records of updates have for them, over any door.
+//!
+//! [`update`] reads the records of all stripes of its device, and goes over them in order of folder and name. For each it reads the row that tells what
+//! now stands under the record's name, and sends it to every device of the container that isn't marked there, in a message of its own; a device is marked
+//! once it acknowledged the row. Then the record is dropped, which its lock does where all devices are marked, or where nothing stands any more that they
+//! would have to be told. So a lost message or an answer that refuses leaves the record, and a later pass goes on with the devices that aren't marked.
+//!
+//! `specs/Updating` has the calls of a pass in their order and what each counts for, `specs/Reading` which records it goes over, `specs/Places` which
+//! container a record tells, and `specs/Causes` why a pass isn't done.
+//!
+//! No command makes a pass yet. The next layer up will be `sw_steps`, which makes passes among the steps of all nodes.
+#![tactic(auto)]
+
+mod counting;
+mod ordering;
+mod reading;
+mod settling;
+mod task;
+mod telling;
+mod updating;
+
+pub use updating::update;
