@@ -1,5 +1,6 @@
 -- A door over nodes of which nothing is known. (This project's own.)
 use Rattle.std.specs.Prelude.{Bool, true, false, [], None, refl}
+use Rattle.std.proofs.lemmas.Nat.{pow_pos}
 use Rattle.sw_history.specs.Halves.{HistoryOf}
 use Rattle.sw_object_steps.specs.Values.{bare}
 use Rattle.sw_object_steps.specs.declared.answer.Answer.{Answer}
@@ -36,6 +37,10 @@ silent_nodes = record {
   lock = λ device hash. 0;
   part_lock = λ device part. 0;
   one_lock = λ device hash. refl;
+  stripe = λ hash. 0;
+  stripe_lock = λ device stripe. 0;
+  one_stripe = λ device hash. refl;
+  within = λ hash. pow_pos 0;
 }
 
 abbrev pub silent : Sight

@@ -8,6 +8,8 @@
 mod asked;
 mod between;
 #[cfg(test)]
+mod filings;
+#[cfg(test)]
 mod losing;
 #[cfg(test)]
 mod obj_dirs;

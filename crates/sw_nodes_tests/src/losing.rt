@@ -22,7 +22,7 @@ const NONE: Acts = Acts {
 };
 
 /// The first message comes twice, the second is lost, and the answer to the third is.
-const EACH: Acts = Acts {
+pub const EACH: Acts = Acts {
     lose: Some(2),
     lose_reply: Some(3),
     repeat: Some(1),

@@ -19,7 +19,7 @@ const POWER: u8 = 8;
 
 /// A step of the object `o`. Its record is that of time 20.
 #[derive(Clone, Copy)]
-enum Asked {
+pub enum Asked {
     Mark(u8),
     /// Of which all these devices have to be told.
     Drop(&'static [u8]),
@@ -31,7 +31,7 @@ enum Asked {
 
 /// What it is answered.
 #[derive(Clone, Copy, PartialEq, Eq)]
-enum Told {
+pub enum Told {
     Took(bool),
     Done(u64),
     Failed,
@@ -148,7 +148,8 @@ fn begun(alloc: Global, max_entries: u64, failing: &[(u64, bool)]) -> Result<Loc
     Ok(Lock { dir, secrets })
 }
 
-fn record_of(alloc: Global, secrets: &Secrets, object: &[u8]) -> Result<Filed, Fail>
+/// The record of this object at time 20, of which no device is told yet.
+pub fn record_of(alloc: Global, secrets: &Secrets, object: &[u8]) -> Result<Filed, Fail>
     ensures { IfOk result (λ filed. IsHashed secrets.now filed.name) }
 {
     Ok(Filed {
@@ -200,7 +201,8 @@ impl Lock {
     }
 }
 
-fn are_done(records: &[Filed], wanted: &[&[u8]]) -> bool {
+/// Whether these are the devices that are done of each record, in their order.
+pub fn are_done(records: &[Filed], wanted: &[&[u8]]) -> bool {
     records.len() == wanted.len()
         && records
             .iter()
@@ -208,7 +210,8 @@ fn are_done(records: &[Filed], wanted: &[&[u8]]) -> bool {
             .all(|(filed, done)| filed.done.as_slice() == *done)
 }
 
-fn is_told(row: Option<sw_rows::Row>, wanted: Option<(u64, u64, bool)>) -> bool {
+/// Whether the row has this time, size and deletion, or there is none.
+pub fn is_told(row: Option<sw_rows::Row>, wanted: Option<(u64, u64, bool)>) -> bool {
     match (row, wanted) {
         (Some(row), Some((time, size, deleted))) => {
             row.created_at.units() == time && row.size == size && row.deleted == deleted
@@ -218,7 +221,8 @@ fn is_told(row: Option<sw_rows::Row>, wanted: Option<(u64, u64, bool)>) -> bool 
     }
 }
 
-fn change_of(alloc: Global, secrets: &Secrets, asked: Asked) -> Result<Change, Fail> {
+/// The change that is asked for.
+pub fn change_of(alloc: Global, secrets: &Secrets, asked: Asked) -> Result<Change, Fail> {
     Ok(match asked {
         Mark(device) => Change::MarkRecord {
             filed: record_of(alloc, secrets, b"o")?,
@@ -244,7 +248,8 @@ fn change_of(alloc: Global, secrets: &Secrets, asked: Asked) -> Result<Change, F
     })
 }
 
-fn told_of(answer: Answer) -> Told {
+/// What an answer tells.
+pub fn told_of(answer: Answer) -> Told {
     match answer {
         Answer::Took(is) => Took(is),
         Answer::Done(front) => Done(front),

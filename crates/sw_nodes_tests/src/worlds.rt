@@ -19,15 +19,15 @@ use sw_stores::{MemStores, PartShelf, Parts};
 use sw_volume::MemVolume;
 
 /// A ring of two devices, each of two locks.
-const RING: &[u8] =
+pub const RING: &[u8] =
     br#"{"devices":["sda","sdb"],"part_power":2,"lock_bits":1,"replicas":2,"hash_prefix":"","hash_suffix":"endcap","object":[[0,1],[1,0],[0,1],[1,0]],
         "container":[[0,1],[1,0],[0,1],[1,0]]}"#;
 
 /// How many bytes the bodies in the journal of a lock have together at most.
-const JOURNAL_BYTES: u64 = 33_554_432;
+pub const JOURNAL_BYTES: u64 = 33_554_432;
 
 /// Each message comes once.
-const FAITHFUL: Acts = Acts {
+pub const FAITHFUL: Acts = Acts {
     lose: None,
     lose_reply: None,
     repeat: None,
@@ -42,11 +42,13 @@ const LOSES_FIRST: Acts = Acts {
 
 /// What came to a device, and how it was said.
 #[derive(Clone, Copy, Debug, PartialEq, Eq)]
-enum Came {
+pub enum Came {
     Changes(u8, Link),
     Hashes(u8, Link),
     Files(u8, Link),
     Write(u8, Link),
+    Records(u8, Link),
+    Base(u8, Link),
     Listing(u8),
     Restart(u8),
     Other,
@@ -87,12 +89,15 @@ const OUTCOMES: &[Outcome] = &[
     },
 ];
 
-fn told(line: &Line) -> Came {
+/// What came, by the line that tells it.
+pub fn told(line: &Line) -> Came {
     match &line.event {
         Event::Changed(_, _, _) => Came::Changes(line.device, line.link),
         Event::ReadPart(PartRead::Hashes(_, _)) => Came::Hashes(line.device, line.link),
         Event::ReadPart(PartRead::Files(_, _, _)) => Came::Files(line.device, line.link),
         Event::ReadPart(PartRead::Write(_, _, _, _)) => Came::Write(line.device, line.link),
+        Event::ReadPart(PartRead::Records(_, _)) => Came::Records(line.device, line.link),
+        Event::ReadPart(PartRead::Base(_, _)) => Came::Base(line.device, line.link),
         Event::Listed(false) => Came::Listing(line.device),
         Event::Restarted => Came::Restart(line.device),
         Event::Listed(true) | Event::Read(_, _) | Event::AtContainer(_, _) => Came::Other,
@@ -118,7 +123,7 @@ fn are_outcomes(outcomes: &[Outcome], wanted: &[Outcome]) -> bool {
 }
 
 /// Empty volumes and keepers for both locks of both devices.
-fn four_parts(alloc: Global) -> Result<Parts<MemVolume, MemKeeper>, Fail>
+pub fn four_parts(alloc: Global) -> Result<Parts<MemVolume, MemKeeper>, Fail>
     ensures { IfOk result (λ parts. length parts ≡ 4) }
 {
     let shelf = PartShelf::new(alloc);
