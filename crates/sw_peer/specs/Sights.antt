@@ -198,8 +198,8 @@ IsInStripe nodes device stripe d hash = (d ≡ device) × (nodes.stripe hash ≡
 abbrev pub in_stripe : ℕ → Nodes → Hash → Bool
 in_stripe stripe nodes hash = nodes.stripe hash == stripe
 
--- The records that are filed under the hashes of a stripe. Every doubt of a change of a record is settled first, where its lock is known to be of no other hash
--- too. `held` is what the lock holds under each hash
+-- The records that are filed under the hashes of a stripe. Every doubt of a change of a record under that lock is settled first, whichever hash it is of.
+-- `held` is what the lock holds under each hash
 pub record IsRecordsRead (link : Link) (device stripe : ℕ) (old : Sight) (got : Result (Vec Filed Global) DirFault) (new : Sight) : Type 0 where
   pub moves : Moves (IsInStripe old.nodes device stripe) old new
   pub some : (hash : Hash) × (old.nodes.stripe hash ≡ stripe)  -- the stripe has a hash
