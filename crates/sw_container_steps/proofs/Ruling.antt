@@ -38,8 +38,8 @@ are-rules = record {
   reached = λ place. refl;
   own = λ t place change is. entries-at t place change;
   own_changes = λ t place change is. batch-at place (entries_for t place change) (entries-at t place change);
-  apart = λ v w place change d is. absurd (never is);
-  apart_first = λ v w place change d first behind is cut. absurd (never is);
+  apart = λ v w place change d allowed is. absurd (never is);
+  apart_first = λ v w place change d first behind allowed is cut. absurd (never is);
 }
 
 -- ---- how answers end

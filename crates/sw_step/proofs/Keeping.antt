@@ -1,6 +1,6 @@
 -- Why a step keeps what the journal tells of the keys.
 use Rattle.std.proofs.Common.{◌≡◌, ◌≢◌, ℕ, zero, suc, Bool, true, false, ◌||◌, if◌then◌else◌, List, [], ◌∷◌, ◌++◌, append_assoc}
-use Rattle.std.proofs.Common.{refl, sym, ◌∙◌, ap, subst, inl, inr, ◌⊎◌}
+use Rattle.std.proofs.Common.{refl, sym, ◌∙◌, ap, subst, inl, inr, ◌⊎◌, None}
 use Rattle.std.specs.List.{fold}
 use Rattle.std.proofs.lemmas.Bool.{cases_Bool}
 use Rattle.std.proofs.lemmas.List.{append-nil}
@@ -180,7 +180,8 @@ module _ {K V E C A : Type 0} (r : RulesOf K V E C A) (are : AreRules r) where
         );
       }
 
-      module _ (first : List (List E)) (here : List E) (behind : List (List E)) (cut : r.changes_for read key change ≡ first ++ here ∷ behind) where
+      module _ (allowed : r.refusal read key change ≡ None) (first : List (List E)) (here : List E) (behind : List (List E))
+          (cut : r.changes_for read key change ≡ first ++ here ∷ behind) where
         all : AreOf r key (first ++ here ∷ behind)
         all = subst (AreOf r key) cut (are.own_changes read key change own_is)
 
@@ -189,7 +190,7 @@ module _ {K V E C A : Type 0} (r : RulesOf K V E C A) (are : AreRules r) where
 
         free-first : (w : V) (d : List E) → r.touches read key change d ≡ false
             → fold r.applied (fold r.applied w d) (flat first) ≡ fold r.applied (fold r.applied w (flat first)) d
-        free-first w d free = are.apart_first read w key change d first (here ∷ behind) free cut
+        free-first w d free = are.apart_first read w key change d first (here ∷ behind) allowed free cut
 
         undoubted : made ≡ flat first → g.journal ≡ record h.journal { entries = h.journal.entries ++ flat first; doubts = h.journal.doubts ++ [] }
             → Ended h s key g t
@@ -246,14 +247,17 @@ module _ {K V E C A : Type 0} (r : RulesOf K V E C A) (are : AreRules r) where
       stopped failed st = by st.doubted refl st.is_made
         where
           by : (b : Bool) → st.doubted ≡ b → (made ≡ flat st.first) ⊎ ((st.doubted ≡ true) × (made ≡ flat st.first ++ st.here)) → Ended h s key g t
-          by true is (inl same) = in-doubt st.first st.here st.behind st.cut (inl same) (st.entered ∙ ap (stop_shape h.journal (flat st.first) st.here) is)
-          by true is (inr both) = in-doubt st.first st.here st.behind st.cut (inr both.1) (st.entered ∙ ap (stop_shape h.journal (flat st.first) st.here) is)
-          by false is (inl same) = undoubted st.first st.here st.behind st.cut same (st.entered ∙ ap (stop_shape h.journal (flat st.first) st.here) is)
+          by true is (inl same) =
+              in-doubt st.not_refused st.first st.here st.behind st.cut (inl same) (st.entered ∙ ap (stop_shape h.journal (flat st.first) st.here) is)
+          by true is (inr both) =
+              in-doubt st.not_refused st.first st.here st.behind st.cut (inr both.1) (st.entered ∙ ap (stop_shape h.journal (flat st.first) st.here) is)
+          by false is (inl same) =
+              undoubted st.not_refused st.first st.here st.behind st.cut same (st.entered ∙ ap (stop_shape h.journal (flat st.first) st.here) is)
           by false is (inr both) = let yes_doubt : st.doubted ≡ true = both.0 in cc
 
       seen : (e : Ending) → EndsSeen r e read h.journal key change answer made g.journal → Ended h s key g t
       seen Makes so = more (r.entries_for read key change) (are.own read key change own_is) so.is_made
-          (λ w d free. are.apart read w key change d free) so.entered
+          (λ w d free. are.apart read w key change d so.not_refused free) so.entered
       seen Refuses so = left so.leaves
       seen Overflows so = left so.leaves
       seen Fails so = stopped true so

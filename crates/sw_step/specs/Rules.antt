@@ -1,5 +1,5 @@
 -- The rules by which the steps at a lock go, whatever it keeps, and what a key stands for by them. (This project's own.)
-use Rattle.std.specs.Prelude.{◌≡◌, ⊤, ℕ, Bool, true, false, List, [], ◌∷◌, ◌++◌, ◌||◌, Option, ◌⊎◌}
+use Rattle.std.specs.Prelude.{◌≡◌, ⊤, ℕ, Bool, true, false, List, [], ◌∷◌, ◌++◌, ◌||◌, Option, None, ◌⊎◌}
 use Rattle.std.specs.List.{filter, fold}
 use Rattle.sw_step.specs.Journals.{StepHistory, StepJournal, flat}
 
@@ -91,9 +91,9 @@ module _ {K V E C A : Type 0} (r : RulesOf K V E C A) where
     pub reached : (a : K) → r.reaches a a ≡ true
     pub own : (v : V) (key : K) (change : C) → r.is_for key change ≡ true → AllAt key (r.entries_for v key change)
     pub own_changes : (v : V) (key : K) (change : C) → r.is_for key change ≡ true → AreOf key (r.changes_for v key change)
-    -- a doubt that the step needn't settle first may as well have been made behind it: behind all of it, or behind its first changes
-    pub apart : (v w : V) (key : K) (change : C) (d : List E) → r.touches v key change d ≡ false
+    -- a doubt that a step which nothing refuses needn't settle first may as well have been made behind it: behind all of it, or behind its first changes
+    pub apart : (v w : V) (key : K) (change : C) (d : List E) → r.refusal v key change ≡ None → r.touches v key change d ≡ false
         → fold r.applied (fold r.applied w d) (r.entries_for v key change) ≡ fold r.applied (fold r.applied w (r.entries_for v key change)) d
-    pub apart_first : (v w : V) (key : K) (change : C) (d : List E) (first behind : List (List E)) → r.touches v key change d ≡ false
-        → r.changes_for v key change ≡ first ++ behind
+    pub apart_first : (v w : V) (key : K) (change : C) (d : List E) (first behind : List (List E)) → r.refusal v key change ≡ None
+        → r.touches v key change d ≡ false → r.changes_for v key change ≡ first ++ behind
         → fold r.applied (fold r.applied w d) (flat first) ≡ fold r.applied (fold r.applied w (flat first)) d
