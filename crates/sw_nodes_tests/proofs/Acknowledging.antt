@@ -106,7 +106,7 @@ module _ (name : Name) (w : Write) where
       where
         stood : p.read.state ≡ state_by p.before name.hash
         stood = state-told p.before name.hash p.read (p.known told_before (taken is).0)
-            (none-written (doubts_about obj_rules name.hash p.before.journal.doubts) (p.settled (taken is).0))
+            (none-written p.read name.hash name (Receive w) (doubts_about obj_rules name.hash p.before.journal.doubts) refl (p.settled (taken is).0))
 
         more : (es : List ObjEntry) → g.journal.entries ≡ p.before.journal.entries ++ es
             → stands obj_rules g name.hash ≡ fold obj_applied (stands obj_rules p.before name.hash) (about obj_rules name.hash es)

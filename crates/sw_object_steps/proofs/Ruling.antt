@@ -1,5 +1,5 @@
 -- The rules of objects are rules.
-use Rattle.std.proofs.Common.{◌≡◌, true, false, Bool, ◌&&◌, ◌||◌, List, [], ◌∷◌, ◌++◌, map, if◌then◌else◌, refl, sym, ◌∙◌, ap, subst}
+use Rattle.std.proofs.Common.{◌≡◌, true, false, Bool, ◌&&◌, ◌||◌, List, [], ◌∷◌, ◌++◌, map, Option, None, Some, if◌then◌else◌, refl, sym, ◌∙◌, ap, subst}
 use Rattle.std.specs.List.{fold, list_any}
 use Rattle.std.specs.Str.{bytes_eq}
 use Rattle.std.proofs.Math.Bool.{or-false}
@@ -13,9 +13,10 @@ use Rattle.sw_object_steps.specs.Journals.{Hash}
 use Rattle.sw_object_steps.specs.Laws.{ObjectsAreRules}
 use Rattle.sw_object_steps.specs.Recorded.{doubts_record, doubts_write, dropping_entries, filings, found, is_gone, is_write, lists, marking_entries, may_go}
 use Rattle.sw_object_steps.specs.Recorded.{record_entries, records_for, step_files}
-use Rattle.sw_object_steps.specs.Rules.{ObjChange, Writes, at_once, obj_applied, obj_key, obj_rules}
-use Rattle.sw_object_steps.specs.Steps.{write_of}
+use Rattle.sw_object_steps.specs.Rules.{ObjChange, Writes, at_once, obj_applied, obj_key, obj_rules, touched_files}
+use Rattle.sw_object_steps.specs.Steps.{refusal_of, write_of}
 use Rattle.sw_object_steps.specs.Values.{ObjValue, is_same_key}
+use Rattle.sw_object_steps.specs.declared.answer.Answer.{Answer}
 use Rattle.sw_object_steps.specs.declared.change.Change.{Change}
 use Rattle.sw_object_steps.specs.declared.change.Change.TheVariants.{Put, Post, Delete, Receive, MarkRecord, DropRecord}
 use Rattle.sw_object_steps.specs.declared.entry.ObjEntry.{ObjEntry}
@@ -78,9 +79,23 @@ module _ (name : Name) (w : Write) (records : List Filed) (d : List ObjEntry) (w
   changes-apart = apart-from (flat (write_changes name w records)) d (map key_of records) (λ is. write)
       (λ key is. sym (changes-within name w records key) ∙ is) none
 
+-- a step that nothing refuses comes to all its files
+all-files : (refused : Option Answer) (hash : Hash) (name : Name) (change : Change) → refused ≡ None
+    → touched_files refused hash name change ≡ step_files hash name change
+all-files None hash name change allowed = refl
+all-files (Some answer) hash name change allowed = cc
+
+allowed-touch : (v : ObjValue) (hash : Hash) (name : Name) (change : Change) (d : List ObjEntry) → refusal_of v.state change ≡ None
+    → obj_rules.touches v hash (Writes name change) d
+    ≡ ((lists v hash change && doubts_write d) || list_any (λ key. doubts_record key d) (step_files hash name change))
+allowed-touch v hash name change d allowed =
+    ap (λ (keys : List RecordKey). (lists v hash change && doubts_write d) || list_any (λ key. doubts_record key d) keys)
+    (all-files (refusal_of v.state change) hash name change allowed)
+
 -- a write lists, and files its records
 writes-touch : (v : ObjValue) (hash : Hash) (name : Name) (change : Change) (d : List ObjEntry) → is_write change ≡ true
-    → obj_rules.touches v hash (Writes name change) d ≡ (doubts_write d || list_any (λ key. doubts_record key d) (map key_of (records_for name change)))
+    → ((lists v hash change && doubts_write d) || list_any (λ key. doubts_record key d) (step_files hash name change))
+    ≡ (doubts_write d || list_any (λ key. doubts_record key d) (map key_of (records_for name change)))
 writes-touch v hash name (Put time content none_match) d is = refl
 writes-touch v hash name (Post time heads) d is = refl
 writes-touch v hash name (Delete time if_delete_at) d is = refl
@@ -92,7 +107,11 @@ flat-once : (es : List ObjEntry) → flat (at_once es) ≡ es
 flat-once [] = refl
 flat-once (e ∷ es) = append-nil (e ∷ es)
 
-module _ (v : ObjValue) (key : Hash) (name : Name) (change : Change) (d : List ObjEntry) (none : obj_rules.touches v key (Writes name change) d ≡ false) where
+module _ (v : ObjValue) (key : Hash) (name : Name) (change : Change) (d : List ObjEntry) (allowed : refusal_of v.state change ≡ None)
+    (untouched : obj_rules.touches v key (Writes name change) d ≡ false) where
+  none : ((lists v key change && doubts_write d) || list_any (λ other. doubts_record other d) (step_files key name change)) ≡ false
+  none = sym (allowed-touch v key name change d allowed) ∙ untouched
+
   at-record : AreApart (record_entries v key change) d
   at-record = record-apart v key name change d
       (or_parts (lists v key change && doubts_write d) (list_any (λ other. doubts_record other d) (step_files key name change)) none).1
@@ -161,14 +180,16 @@ are-rules = record {
         by true = changes-own key name (write_of change) (records_for name change) is
         by false = once-own key (record_entries v key change) (record-own v key change)
 
-    apart : (v w : ObjValue) (key : Hash) (change : ObjChange) (d : List ObjEntry) → obj_rules.touches v key change d ≡ false
+    apart : (v w : ObjValue) (key : Hash) (change : ObjChange) (d : List ObjEntry) → obj_rules.refusal v key change ≡ None
+        → obj_rules.touches v key change d ≡ false
         → fold obj_applied (fold obj_applied w d) (obj_rules.entries_for v key change)
         ≡ fold obj_applied (fold obj_applied w (obj_rules.entries_for v key change)) d
-    apart v w key (Writes name change) d none = apart-swap (obj_rules.entries_for v key (Writes name change)) d (entries-apart v key name change d none) w
+    apart v w key (Writes name change) d allowed none =
+        apart-swap (obj_rules.entries_for v key (Writes name change)) d (entries-apart v key name change d allowed none) w
 
     apart_first : (v w : ObjValue) (key : Hash) (change : ObjChange) (d : List ObjEntry) (first behind : List (List ObjEntry))
-        → obj_rules.touches v key change d ≡ false → obj_rules.changes_for v key change ≡ first ++ behind
+        → obj_rules.refusal v key change ≡ None → obj_rules.touches v key change d ≡ false → obj_rules.changes_for v key change ≡ first ++ behind
         → fold obj_applied (fold obj_applied w d) (flat first) ≡ fold obj_applied (fold obj_applied w (flat first)) d
-    apart_first v w key (Writes name change) d first behind none cut = apart-swap (flat first) d
+    apart_first v w key (Writes name change) d first behind allowed none cut = apart-swap (flat first) d
         (front-apart (flat first) (flat behind) d (subst (λ (es : List ObjEntry). AreApart es d) (ap flat cut ∙ flat-append first behind)
-        (all-apart v key name change d none))) w
+        (all-apart v key name change d allowed none))) w

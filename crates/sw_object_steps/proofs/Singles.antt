@@ -1,5 +1,5 @@
 -- A history whose doubts are each one entry, by the rules.
-use Rattle.std.proofs.Common.{◌≡◌, true, false, Bool, List, [], ◌∷◌, ◌++◌, bytes_eq, Option, refl, sym, ◌∙◌, ap, append_assoc, inl, inr, ◌⊎◌, map}
+use Rattle.std.proofs.Common.{◌≡◌, true, false, Bool, List, [], ◌∷◌, ◌++◌, bytes_eq, Option, None, refl, sym, ◌∙◌, ap, append_assoc, inl, inr, ◌⊎◌, map}
 use Rattle.std.specs.List.{filter, fold, list_any}
 use Rattle.std.proofs.lemmas.Bool.{cases_Bool}
 use Rattle.std.proofs.lemmas.List.{append-nil}
@@ -11,6 +11,7 @@ use Rattle.sw_object_steps.specs.Journals.{Hash, Journal, has_room, written}
 use Rattle.sw_object_steps.specs.Recorded.{doubts_record, doubts_write, is_wrote, lists, step_files}
 use Rattle.sw_object_steps.specs.Rules.{Writes, flat_journal, obj_applied, obj_key, obj_rules}
 use Rattle.sw_object_steps.specs.Singles.{History, recorded, single_history, single_journal, stands}
+use Rattle.sw_object_steps.specs.Steps.{refusal_of}
 use Rattle.sw_object_steps.specs.Values.{ObjValue, is_same_key}
 use Rattle.sw_object_steps.specs.declared.change.Change.{Change}
 use Rattle.sw_object_steps.specs.declared.entry.ObjEntry.{ObjEntry}
@@ -154,11 +155,12 @@ none-recorded hash key ds none =
 
 -- no doubt of the hash is left that the step touches
 pub none-touched : (v : ObjValue) (hash : Hash) (name : Name) (change : Change) (ds : List ObjEntry) → (lists v hash change ≡ true → written hash ds ≡ [])
-    → ((key : RecordKey) → list_any (λ other. is_same_key key other) (step_files hash name change) ≡ true → recorded hash key ds ≡ [])
+    → (refusal_of v.state change ≡ None → (key : RecordKey) → list_any (λ other. is_same_key key other) (step_files hash name change) ≡ true
+    → recorded hash key ds ≡ [])
     → NoneOf (obj_rules.touches v hash (Writes name change)) (doubts_about obj_rules hash (singles ds))
 none-touched v hash name change ds writes records =
     none-to-touch v hash name change (doubts_about obj_rules hash (singles ds)) (λ is. none-written hash ds (writes is))
-    (λ key is. none-recorded hash key ds (records key is))
+    (λ allowed key is. none-recorded hash key ds (records allowed key is))
 
 -- ---- what a hash may stand for
 

@@ -1,5 +1,5 @@
 -- What a hash can stand for, where of its doubts none changes its state or a record of it, or one does: in any history.
-use Rattle.std.proofs.Common.{◌≡◌, true, false, Bool, ◌&&◌, ◌||◌, List, [], ◌∷◌, ◌++◌, Option, refl, sym, ◌∙◌, ap, subst, inl, inr, ◌⊎◌}
+use Rattle.std.proofs.Common.{◌≡◌, true, false, Bool, ◌&&◌, ◌||◌, List, [], ◌∷◌, ◌++◌, Option, None, Some, refl, sym, ◌∙◌, ap, subst, inl, inr, ◌⊎◌}
 use Rattle.std.specs.List.{filter, fold, list_any}
 use Rattle.std.proofs.lemmas.Bool.{cases_Bool, or_from, or_left, or_parts, or_right}
 use Rattle.std.proofs.lemmas.List.Sums.{fold-append}
@@ -7,8 +7,10 @@ use Rattle.sw_hashpath.specs.declared.name.Name.{Name}
 use Rattle.sw_object_steps.proofs.Recording.{record_by, record-kept, record-left, same-self, same-value, state_by, state-kept, state-left}
 use Rattle.sw_object_steps.specs.Journals.{Hash}
 use Rattle.sw_object_steps.specs.Recorded.{doubts_record, doubts_records, doubts_write, entry_files, lists, step_files}
-use Rattle.sw_object_steps.specs.Rules.{ObjHistory, Writes, obj_rules}
+use Rattle.sw_object_steps.specs.Rules.{ObjHistory, Writes, obj_rules, touched_files}
+use Rattle.sw_object_steps.specs.Steps.{refusal_of}
 use Rattle.sw_object_steps.specs.Values.{ObjValue, is_same_key}
+use Rattle.sw_object_steps.specs.declared.answer.Answer.{Answer}
 use Rattle.sw_object_steps.specs.declared.change.Change.{Change}
 use Rattle.sw_object_steps.specs.declared.entry.ObjEntry.{ObjEntry}
 use Rattle.sw_pending.specs.declared.filed.Filed.{Filed}
@@ -60,14 +62,22 @@ none-any (first ∷ keys) ds none =
     (none first (or_left (is_same_key first first) (list_any (λ other. is_same_key first other) keys) (same-self first)))
     (none-any keys ds (λ key is. none key (or_right (is_same_key key first) (list_any (λ other. is_same_key key other) keys) is)))
 
--- those that a step touches: the writes where it lists, and those of the records whose files it reads, puts or unlinks
+-- those that a step touches: the writes where it lists, and those of the records whose files it reads, puts or unlinks where nothing refuses it
 pub none-to-touch : (v : ObjValue) (hash : Hash) (name : Name) (change : Change) (ds : List (List ObjEntry))
     → (lists v hash change ≡ true → NoneOf doubts_write ds)
-    → ((key : RecordKey) → list_any (λ other. is_same_key key other) (step_files hash name change) ≡ true → NoneOf (doubts_record key) ds)
+    → (refusal_of v.state change ≡ None → (key : RecordKey) → list_any (λ other. is_same_key key other) (step_files hash name change) ≡ true
+    → NoneOf (doubts_record key) ds)
     → NoneOf (obj_rules.touches v hash (Writes name change)) ds
 none-to-touch v hash name change ds writes records =
-    none-or (λ d. lists v hash change && doubts_write d) (λ d. list_any (λ key. doubts_record key d) (step_files hash name change)) ds
-    (none-and (lists v hash change) doubts_write ds writes) (none-any (step_files hash name change) ds records)
+    none-or (λ d. lists v hash change && doubts_write d)
+    (λ d. list_any (λ key. doubts_record key d) (touched_files (refusal_of v.state change) hash name change)) ds
+    (none-and (lists v hash change) doubts_write ds writes) (by (refusal_of v.state change) records)
+  where
+    by : (refused : Option Answer)
+        → (refused ≡ None → (key : RecordKey) → list_any (λ other. is_same_key key other) (step_files hash name change) ≡ true → NoneOf (doubts_record key) ds)
+        → NoneOf (λ d. list_any (λ key. doubts_record key d) (touched_files refused hash name change)) ds
+    by None none = none-any (step_files hash name change) ds (none refl)
+    by (Some answer) none = none-any [] ds (λ key is. cc)
 
 any-record : (key : RecordKey) (keys : List RecordKey) → list_any (λ (other : RecordKey). true) keys ≡ false
     → list_any (λ other. is_same_key key other) keys ≡ false

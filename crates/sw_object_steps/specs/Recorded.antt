@@ -4,7 +4,7 @@ use Rattle.std.specs.Prelude.{ℕ, Bool, true, false, not, ◌||◌, List, [], �
 use Rattle.std.specs.List.{list_any}
 use Rattle.std.specs.Str.{bytes_eq}
 use Rattle.sw_hashpath.specs.declared.name.Name.{Name}
-use Rattle.sw_pending.specs.Records.{key_of, marked}
+use Rattle.sw_pending.specs.Records.{key_of, marked, new_record}
 use Rattle.sw_pending.specs.Rules.{are_done, is_done}
 use Rattle.sw_pending.specs.declared.filed.Filed.{Filed}
 use Rattle.sw_pending.specs.declared.key.RecordKey.{RecordKey}
@@ -28,9 +28,18 @@ is_write (DropRecord filed all) = false
 
 -- ---- writes
 
--- the records that a write files before its file. None yet: no command files any
+-- the records that a write files before its file: one where a client puts or deletes an object
 abbrev pub records_for : Name → Change → List Filed
-records_for name change = []
+records_for name (Put time content none_match) = new_record name time ∷ []
+records_for name (Post time heads) = []
+records_for name (Delete time if_delete_at) = new_record name time ∷ []
+records_for name (Receive write) = []
+records_for name (MarkRecord filed device) = []
+records_for name (DropRecord filed all) = []
+
+-- the entries of a step that filed these, and came no further
+abbrev pub filed_entries : Hash → List Filed → List ObjEntry
+filed_entries by records = map (λ filed. Files by filed) records
 
 -- each of these is filed by itself
 abbrev pub filings : Hash → List Filed → List (List ObjEntry)
@@ -95,7 +104,7 @@ lists v hash (MarkRecord filed device) = false
 lists v hash (DropRecord filed all) = asks_base (found v hash filed) all
 lists v hash change = true
 
--- the keys of the records whose files it reads, puts or unlinks
+-- the keys of the records whose files it reads, puts or unlinks, where nothing refuses it
 abbrev pub step_files : Hash → Name → Change → List RecordKey
 step_files hash name (MarkRecord filed device) = if bytes_eq filed.name.hash hash then key_of filed ∷ [] else []
 step_files hash name (DropRecord filed all) = if bytes_eq filed.name.hash hash then key_of filed ∷ [] else []

@@ -1,5 +1,5 @@
 -- The rules of object locks. (OpenStack Swift's object server; what a lock remembers of a step is this project's own.)
-use Rattle.std.specs.Prelude.{ℕ, Bool, true, ◌&&◌, ◌||◌, List, [], ◌∷◌, ◌++◌, Option, None, if◌then◌else◌}
+use Rattle.std.specs.Prelude.{ℕ, Bool, true, ◌&&◌, ◌||◌, List, [], ◌∷◌, ◌++◌, Option, None, Some, if◌then◌else◌}
 use Rattle.std.specs.List.{list_any}
 use Rattle.std.specs.Str.{bytes_eq}
 use Rattle.sw_hashpath.specs.declared.name.Name.{Name}
@@ -16,6 +16,7 @@ use Rattle.sw_state.specs.States.{joined}
 use Rattle.sw_step.specs.Journals.{StepHistory, StepJournal, flat}
 use Rattle.sw_step.specs.Rules.{Damages, Ending, Fails, Makes, Overflows, Refuses, RulesOf, Wants}
 use Rattle.sw_pending.specs.Records.{key_of}
+use Rattle.sw_pending.specs.declared.key.RecordKey.{RecordKey}
 use Rattle.sw_object_steps.specs.Values.{ObjValue, set_record, with_record, with_records}
 
 abbrev pub ObjJournal : Type 0
@@ -87,10 +88,16 @@ obj_ending answer = Refuses
 abbrev pub is_for : Hash → ObjChange → Bool
 is_for hash (Writes name change) = bytes_eq name.hash hash
 
+-- a step that was refused comes to the file of no record
+abbrev pub touched_files : Option Answer → Hash → Name → Change → List RecordKey
+touched_files None hash name change = step_files hash name change
+touched_files (Some refused) hash name change = []
+
 -- Of the doubts of its hash it settles the writes, where it lists the directory, and those of the records whose files it reads, puts or unlinks
 abbrev pub obj_touches : ObjValue → Hash → ObjChange → List ObjEntry → Bool
 obj_touches v hash (Writes name change) doubt =
-    (lists v hash change && doubts_write doubt) || list_any (λ key. doubts_record key doubt) (step_files hash name change)
+    (lists v hash change && doubts_write doubt)
+    || list_any (λ key. doubts_record key doubt) (touched_files (refusal_of v.state change) hash name change)
 
 -- and none of another hash
 abbrev pub obj_reaches : Hash → Hash → Bool

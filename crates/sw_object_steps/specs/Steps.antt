@@ -144,6 +144,10 @@ is_entered (answers.Done front) = true
 is_entered (answers.Buried front) = true
 is_entered answer = false
 
+-- how many entries a step adds for its own write, by its answer: they come last. One at a record has none
+abbrev pub own_by : Answer → ℕ
+own_by answer = if is_entered answer then 1 else 0
+
 -- whether the answer says that the device's state has the write
 abbrev pub is_held : Change → Answer → Bool
 is_held change (answers.Done front) = true

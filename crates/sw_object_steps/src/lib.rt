@@ -4,8 +4,8 @@
 //! answered by what `specs/Parts` tells. All of it is told by an [`Outline`], which is what the names of a hash's files tell: [`refusal`] and
 //! [`made_answer`] say which answer it gives. `specs/Steps` has what a step writes.
 //!
-//! Beside its state a hash has the records of updates that are filed there. Steps mark and drop them (`specs/Recorded`); a write has a list of those
-//! that it files, and none files any yet.
+//! Beside its state a hash has the records of updates that are filed there. A put or deletion of a client files one, and steps mark and drop them
+//! (`specs/Recorded`).
 //!
 //! `specs/Values` says what stands under a hash, and `specs/Rules` by which rules the steps at it go, in the words of `sw_step`: what each enters, what
 //! an entry leaves, what refuses a step, and how its answer ended. `specs/Histories` has what a step that changes or reads an object is by them. So what

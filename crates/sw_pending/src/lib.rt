@@ -6,7 +6,7 @@
 //! these names. [`encode`] gives the one text of a record, and [`decode`] takes exactly these texts: what isn't one is
 //! refused with the first of three faults that holds, and nothing is refused else but for want of memory ([`laws`]).
 //!
-//! No command files records yet. The next layer up is `sw_pending_dir`, which keeps their files on a volume.
+//! The next layer up is `sw_pending_dir`, which keeps their files on a volume.
 #![tactic(auto)]
 
 mod devices;

@@ -1,13 +1,27 @@
 ghost use Rattle.std.specs.Prelude.{◌≡◌, ◌≤◌, false, length, nat_lt, IfOk, OnOk, OnErr};
 ghost use Rattle.std.specs.List.{prefix_len};
 ghost use Rattle.sw_pending.specs.Rules.{are_done, is_done, with_device};
-ghost use Rattle.sw_pending.specs.Records.{marked};
+ghost use Rattle.sw_pending.specs.Records.{marked, new_record};
 
 use crate::filed::{DeviceList, Filed};
 use std::alloc::Global;
+use sw_hashpath::Name;
 use sw_outside::NoMemory;
+use sw_timestamp::Timestamp;
 
 impl Filed {
+    /// That of a write at this time, which no device has been told of yet, and which is none of the expirer's queue. It takes no memory.
+    pub fn new(alloc: Global, name: Name, time: Timestamp) -> Filed
+        ensures { result ≡ new_record name time }
+    {
+        Filed {
+            name,
+            time,
+            queue: false,
+            done: DeviceList::new(alloc),
+        }
+    }
+
     /// Whether this device has been told.
     pub fn is_done(&self, device: u8) -> bool
         ensures { result ≡ is_done device self.now.done }

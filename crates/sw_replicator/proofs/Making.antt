@@ -117,7 +117,7 @@ module _ (to : ℕ) (name : Name) (w : Write) where
           by (inr refused) =
               let read : p.read.state ≡ state_by p.before name.hash =
               state-told p.before name.hash p.read (p.known told_before (taken held).0)
-              (none-written (doubts_about obj_rules name.hash p.before.journal.doubts) (p.settled (taken held).0)) in
+              (none-written p.read name.hash name (Receive w) (doubts_about obj_rules name.hash p.before.journal.doubts) refl (p.settled (taken held).0)) in
               least-keeps (state_by g name.hash) (state_by p.before name.hash) w (grown-least p.before g name.hash p.after)
               (subst (λ (v : State). joined v w ≡ v) read (refused-held p.read.state w answer refused.refused))
 
