@@ -1,10 +1,17 @@
 -- The count of bodies and the places for entries, through each change of the lists.
-use Rattle.std.proofs.Common.{◌≡◌, ℕ, ◌+◌, ◌-◌, ◌≤◌, List, [], ◌∷◌, ◌++◌, length, length-append, ap, arith}
+use Rattle.std.proofs.Common.{◌≡◌, ℕ, ◌+◌, ◌-◌, ◌≤◌, List, [], ◌∷◌, ◌++◌, length, length-append, take, ap, arith, refl}
+use Rattle.std.proofs.Math.Seq.{take-append_seam}
+use Rattle.std.proofs.lemmas.List.{length-map}
 use Rattle.std.specs.declared.alloc.Global.{Global}
 use Rattle.std.specs.declared.vec.Vec.{Vec}
+use Rattle.sw_hashpath.specs.declared.name.Name.{Name}
 use Rattle.sw_object_steps.proofs.Hashes.{bodies-append}
-use Rattle.sw_object_steps.specs.Journals.{bodies, entry_size}
+use Rattle.sw_object_steps.specs.Journals.{Hash, bodies, entry_size}
+use Rattle.sw_object_steps.specs.Recorded.{filed_entries}
 use Rattle.sw_object_steps.specs.declared.entry.ObjEntry.{ObjEntry}
+use Rattle.sw_object_steps.specs.declared.entry.ObjEntry.TheVariants.{Files, Wrote}
+use Rattle.sw_pending.specs.declared.filed.Filed.{Filed}
+use Rattle.sw_state.specs.declared.write.Write.{Write}
 use Rattle.sw_journal.specs.Entries.{IsCounted}
 
 bodies-one : (e : ObjEntry) → bodies (e ∷ []) ≡ entry_size e
@@ -54,3 +61,39 @@ counted-doubted entries wider doubts more used max_bytes size e counted same is 
   within = let c = counted.counted in omega (arith, c, sizes, fits);
   places = let s = ap length same in let n = ap length is in let a = length-append doubts.items (e ∷ []) in omega (arith, s, n, a, room);
 }
+
+-- ---- a write with the records that were filed for it
+
+bodies-filed : (hash : Hash) (records : List Filed) → bodies (filed_entries hash records) ≡ 0
+bodies-filed hash [] = refl
+bodies-filed hash (filed ∷ records) = let again = bodies-filed hash records in omega (arith, again)
+
+length-filed : (hash : Hash) (records : List Filed) → length (filed_entries hash records) ≡ length records
+length-filed hash records = length-map records (λ (filed : Filed). Files hash filed)
+
+-- what stands before the entries that filed them
+pub before-filed : (entries before : List ObjEntry) (hash : Hash) (records : List Filed) (n : ℕ) → entries ≡ before ++ filed_entries hash records
+    → n ≡ length entries - length records → take n entries ≡ before
+before-filed entries before hash records n is count =
+    let l = ap length is in let a = length-append before (filed_entries hash records) in let f = length-filed hash records in
+    let at : n ≡ length before = omega (arith, l, a, f, count) in
+    rw (at, is) (take-append_seam before (filed_entries hash records))
+
+-- the doubt of the write became an entry with them, in the place of those that filed them
+pub counted-filed : (entries doubts fewer more : Vec ObjEntry Global) (used max_bytes : ℕ) (before : List ObjEntry) (hash : Hash) (name : Name)
+    (write : Write) (was records : List Filed) → IsCounted entries doubts used max_bytes → entries.items ≡ before ++ filed_entries hash records
+    → doubts.items ≡ fewer.items ++ Wrote name write was ∷ [] → more.items ≡ before ++ Wrote name write records ∷ [] → more.cap ≡ entries.cap
+    → IsCounted more fewer used max_bytes
+counted-filed entries doubts fewer more used max_bytes before hash name write was records counted filed among is same = record {
+  counted = let c = counted.counted in let e = ap bodies filed in let a = bodies-append before (filed_entries hash records) in
+      let f = bodies-filed hash records in let d = ap bodies among in let g = bodies-append fewer.items (Wrote name write was ∷ []) in
+      let m = ap bodies is in let n = bodies-append before (Wrote name write records ∷ []) in omega (arith, c, e, a, f, d, g, m, n);
+  within = counted.within;
+  places = let p = counted.places in let e = ap length filed in let a = length-append before (filed_entries hash records) in
+      let d = ap length among in let g = length-append fewer.items (Wrote name write was ∷ []) in let m = ap length is in
+      let n = length-append before (Wrote name write records ∷ []) in omega (arith, p, e, a, d, g, m, n, same);
+}
+
+-- a doubt tells its name and write
+pub wrote-same : (n o : Name) (v w : Write) (was other records : List Filed) → Wrote n v was ≡ Wrote o w other → Wrote n v records ≡ Wrote o w records
+wrote-same n o v w was other records same = cc

@@ -76,7 +76,11 @@ with_new_doubt j entry = record j { doubts = j.doubts ++ entry ∷ [] }
 abbrev pub with_last_entered : Journal → List ObjEntry → ObjEntry → Journal
 with_last_entered j doubts entry = record j { entries = j.entries ++ entry ∷ []; doubts = doubts }
 
--- the same, where it wasn't made
+-- a journal with this entry behind these, and these doubts
+abbrev pub with_write_entered : Journal → List ObjEntry → List ObjEntry → ObjEntry → Journal
+with_write_entered j before doubts entry = record j { entries = before ++ entry ∷ []; doubts = doubts }
+
+-- that of `with_last_entered`, where it wasn't made
 abbrev pub without_last_doubt : Journal → List ObjEntry → Journal
 without_last_doubt j doubts = record j { doubts = doubts }
 

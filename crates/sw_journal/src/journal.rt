@@ -1,8 +1,10 @@
 ghost use Rattle.std.specs.Prelude.{◌≡◌, ◌<◌, ◌≤◌, ◌+◌, ◌^◌, ℕ, List, [], ◌∷◌, ◌++◌, length, true, Some, nat_le, ◌&&◌, OnOk, OnErr};
 ghost use Rattle.std.specs.Option.{option_copied};
-ghost use Rattle.sw_journal.specs.Entries.{begun, first_about, first_in, record_left, with_last_entered, with_new_doubt, without_last_doubt};
+ghost use Rattle.sw_journal.specs.Entries.{begun, first_about, first_in, record_left};
+ghost use Rattle.sw_journal.specs.Entries.{with_last_entered, with_new_doubt, with_write_entered, without_last_doubt};
 ghost use Rattle.sw_journal.specs.Settling.{SettlesFirst, SettlesFirstRecord};
-ghost use Rattle.sw_object_steps.specs.Journals.{bodies, entry_size};
+ghost use Rattle.sw_object_steps.specs.Journals.{Hash, bodies, entry_size};
+ghost use Rattle.sw_object_steps.specs.Recorded.{filed_entries};
 ghost use Rattle.sw_hashpath.specs.declared.name.Name.{Name};
 ghost use Rattle.sw_object_steps.specs.declared.entry.ObjEntry.{ObjEntry};
 ghost use Rattle.sw_object_steps.specs.declared.entry.ObjEntry.TheVariants.{Wrote};
@@ -15,7 +17,7 @@ use crate::entries::{
 use std::alloc::Global;
 use std::marker::Model;
 use sw_history::Seen;
-use sw_object_steps::{Added, ObjEntry, Outline};
+use sw_object_steps::{Added, FiledList, ObjEntry, Outline};
 use sw_outside::NoMemory;
 use sw_pending::{Filed, RecordKey};
 use sw_state::Write;
@@ -152,6 +154,21 @@ impl Journal {
     {
         if let Some(entry) = self.doubts.pop() {
             self.entries.push_reserved(seen_in(entry));
+        }
+    }
+
+    /// The write of the last doubt was made, for which the last entries filed these records: it becomes one entry with them. It takes no memory.
+    pub fn confirm_filed(&mut self, records: FiledList)
+        requires entries { (by : Hash) × (before : List ObjEntry) × (self.old.entries ≡ before ++ filed_entries by records) }
+        requires doubts { (doubts : List ObjEntry) × (name : Name) × (write : Write) × (self.old.doubts ≡ doubts ++ Wrote name write [] ∷ []) }
+        ensures { (by : Hash) (before doubts : List ObjEntry) (name : Name) (write : Write) → self.old.entries ≡ before ++ filed_entries by records
+            → self.old.doubts ≡ doubts ++ Wrote name write [] ∷ [] → self.new ≡ with_write_entered self.old before doubts (Wrote name write records) }
+    {
+        let before = self.entries.len() - records.as_slice().len();
+        self.entries.truncate(before);
+        if let Some(ObjEntry::Wrote(name, write, _)) = self.doubts.pop() {
+            self.entries
+                .push_reserved(seen_in(ObjEntry::Wrote(name, write, records)));
         }
     }
 
