@@ -11,7 +11,7 @@ use Rattle.sw_object_steps.specs.Values.{ObjValue}
 use Rattle.sw_object_steps.specs.declared.answer.Answer.{Answer}
 use Rattle.sw_object_steps.specs.declared.answer.Answer.TheVariants as answers
 use Rattle.sw_object_steps.specs.declared.change.Change.{Change}
-use Rattle.sw_peer.specs.Lines.{own_by}
+use Rattle.sw_object_steps.specs.Steps.{own_by}
 use Rattle.sw_step.specs.Steps.{Answers, IsDone}
 
 module _ (alone : Bool) (h : ObjHistory) (s : Hash → ObjValue) (name : Name) (change : Change) (answer : Answer) (g : ObjHistory) (t : ObjValue)

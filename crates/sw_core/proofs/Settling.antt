@@ -1,4 +1,4 @@
--- Which entries a step added: that of the doubt which its listing settled, where its write had been made, and then its own.
+-- Which entries a read added: that of the doubt which its listing settled, where its write had been made.
 use Rattle.std.proofs.Common.{◌≡◌, ℕ, ◌+◌, ◌-◌, ◌≤◌, Bool, true, false, List, [], ◌∷◌, ◌++◌, length, map, take, nat_lt, bytes_eq, refl, sym, ◌∙◌, ap, subst}
 use Rattle.std.proofs.Common.{arith, append_assoc, Option, Some, ◌⊎◌, inl, inr, if◌then◌else◌}
 use Rattle.std.proofs.Math.Seq.{take-length}
@@ -7,16 +7,13 @@ use Rattle.std.proofs.lemmas.List.{append-nil, append_cancel_left, length-append
 use Rattle.sw_hashpath.specs.declared.name.Name.{Name}
 use Rattle.sw_journal.specs.Entries.{first_in, is_write_of}
 use Rattle.sw_journal.specs.Settling.{SettlesFirst}
-use Rattle.sw_objdir.specs.Calling.{Called, Listed, ReadCalled, entry_of}
+use Rattle.sw_objdir.specs.Calling.{Listed, ReadCalled}
 use Rattle.sw_objdir.specs.Stepping.{AddsBriefs}
 use Rattle.sw_objdir.specs.Directories.{Kept}
 use Rattle.sw_object_steps.proofs.Hashes.{hash-self}
 use Rattle.sw_object_steps.specs.Briefs.{brief_of}
 use Rattle.sw_object_steps.specs.Journals.{Hash, Journal, written}
 use Rattle.sw_object_steps.specs.Outlines.{is_new_to}
-use Rattle.sw_object_steps.specs.declared.answer.Answer.{Answer}
-use Rattle.sw_object_steps.specs.declared.answer.Answer.TheVariants as answers
-use Rattle.sw_object_steps.specs.declared.change.Change.{Change}
 use Rattle.sw_object_steps.specs.declared.entry.Brief.{Brief}
 use Rattle.sw_object_steps.specs.declared.entry.ObjEntry.{ObjEntry}
 use Rattle.sw_object_steps.specs.declared.entry.ObjEntry.TheVariants.{Dropped, Files, Marked, Wrote}
@@ -26,7 +23,6 @@ use Rattle.sw_object_steps.specs.declared.outline.Outline.{Outline}
 use Rattle.sw_state.specs.Writes.{tag_of}
 use Rattle.sw_volume.specs.Tree.{Folders}
 use Rattle.sw_core.specs.Lines.{briefs_in, settled_briefs}
-use Rattle.sw_peer.specs.Lines.{own_by}
 
 -- the first write of a hash behind other entries
 find-past : (hash : Hash) (before : List ObjEntry) (entry : ObjEntry) (behind : List ObjEntry) → written hash before ≡ [] →
@@ -75,41 +71,20 @@ settled-one hash o j after (inr one) = by (is_new_to o one.write.time (tag_of on
       inr (Wrote one.name one.write one.records, refl, first),
     )
 
--- what a step added: the entry of a settled doubt, and so many of its own
-pub record AddsUp (hash : Hash) (j : Journal) (own : ℕ) (after : Journal) : Type 0 where
+-- what a read added: the entry of a settled doubt, or nothing
+pub record AddsUp (hash : Hash) (j : Journal) (after : Journal) : Type 0 where
   pub settled : List ObjEntry
-  pub owned : List ObjEntry
-  pub entries : after.entries ≡ j.entries ++ (settled ++ owned)
-  pub count : length owned ≡ own
+  pub entries : after.entries ≡ j.entries ++ settled
   pub is_settled : IsSettled hash j settled
 
-module _ (hash : Hash) (o : Outline) (j mid after : Journal) (settles : SettlesFirst hash o j mid) where
-  -- only a doubt was settled
-  kept-adds : after.entries ≡ mid.entries → AddsUp hash j 0 after
-  kept-adds same = let one = settled-one hash o j mid settles in record {
-    settled = one.0;
-    owned = [];
-    entries = same ∙ (one.1 ∙ ap (λ (es : List ObjEntry). j.entries ++ es) (sym (append-nil one.0)));
-    count = refl;
-    is_settled = one.2;
-  }
+kept-adds : (hash : Hash) (o : Outline) (j mid after : Journal) → SettlesFirst hash o j mid → after.entries ≡ mid.entries → AddsUp hash j after
+kept-adds hash o j mid after settles same =
+    let one = settled-one hash o j mid settles in record { settled = one.0; entries = same ∙ one.1; is_settled = one.2 }
 
-  -- and an entry came
-  entered-adds : (entry : ObjEntry) → after.entries ≡ mid.entries ++ entry ∷ [] → AddsUp hash j 1 after
-  entered-adds entry is = let one = settled-one hash o j mid settles in record {
-    settled = one.0;
-    owned = entry ∷ [];
-    entries = is ∙ (ap (λ (es : List ObjEntry). es ++ entry ∷ []) one.1 ∙ append_assoc j.entries one.0 (entry ∷ []));
-    count = refl;
-    is_settled = one.2;
-  }
-
-nothing-adds : (hash : Hash) (j after : Journal) → after ≡ j → AddsUp hash j 0 after
+nothing-adds : (hash : Hash) (j after : Journal) → after ≡ j → AddsUp hash j after
 nothing-adds hash j after same = record {
   settled = [];
-  owned = [];
   entries = ap (λ (x : Journal). x.entries) same ∙ sym (append-nil j.entries);
-  count = refl;
   is_settled = inl refl;
 }
 
@@ -117,30 +92,7 @@ abbrev entries_in : Journal → List ObjEntry
 entries_in j = j.entries
 
 module _ {V : Type 0} (tells : V → Bool) (files : V → Folders) (faults calls lists : V → ℕ) (k n : Kept V) (name : Name) where
-  pub called-adds : (change : Change) (answer : Answer) → Called tells files faults calls lists k name change answer n →
-      AddsUp name.hash k.journal (own_by answer) n.journal
-  called-adds change (answers.Done front) c = entered-adds name.hash _ k.journal c.seen.journal n.journal c.seen.settles (entry_of name change)
-      (ap entries_in c.entered)
-  called-adds change (answers.Buried front) c = entered-adds name.hash _ k.journal c.seen.journal n.journal c.seen.settles (entry_of name change)
-      (ap entries_in c.entered)
-  called-adds change (answers.Took is) c = absurd c
-  called-adds change (answers.Conflict time) c = kept-adds name.hash _ k.journal c.seen.journal n.journal c.seen.settles (ap entries_in c.kept)
-  called-adds change (answers.NotFound time) c = kept-adds name.hash _ k.journal c.seen.journal n.journal c.seen.settles (ap entries_in c.kept)
-  called-adds change (answers.Mismatch second) c = kept-adds name.hash _ k.journal c.seen.journal n.journal c.seen.settles (ap entries_in c.kept)
-  called-adds change answers.Exists c = kept-adds name.hash _ k.journal c.seen.journal n.journal c.seen.settles (ap entries_in c.kept)
-  called-adds change answers.JournalFull c = kept-adds name.hash _ k.journal c.seen.journal n.journal c.seen.settles (ap entries_in c.kept)
-  called-adds change (answers.Damaged bad) c = kept-adds name.hash _ k.journal c.seen.journal n.journal c.seen.settles (ap entries_in c.kept)
-  called-adds change answers.Failed (inl c) = nothing-adds name.hash k.journal n.journal c.journal
-  called-adds change answers.Failed (inr (inl c)) = kept-adds name.hash _ k.journal c.seen.journal n.journal c.seen.settles (ap entries_in c.kept)
-  called-adds change answers.Failed (inr (inr c)) = kept-adds name.hash _ k.journal c.seen.journal n.journal c.seen.settles (ap entries_in c.in_doubt)
-  called-adds change answers.NoMemory c = by c.journal
-    where
-      by : (n.journal ≡ k.journal) ⊎ ((seen : Listed tells files faults calls lists k name) × (n.journal ≡ seen.journal)) →
-          AddsUp name.hash k.journal 0 n.journal
-      by (inl same) = nothing-adds name.hash k.journal n.journal same
-      by (inr listed) = kept-adds name.hash _ k.journal listed.0.journal n.journal listed.0.settles (ap entries_in listed.1)
-
-  pub read-adds : (got : Got) → ReadCalled tells files faults calls lists k name got n → AddsUp name.hash k.journal 0 n.journal
+  pub read-adds : (got : Got) → ReadCalled tells files faults calls lists k name got n → AddsUp name.hash k.journal n.journal
   read-adds (gots.Found time content heads front) c = kept-adds name.hash _ k.journal c.seen.journal n.journal c.seen.settles (ap entries_in c.kept)
   read-adds (gots.NotFound time) c = kept-adds name.hash _ k.journal c.seen.journal n.journal c.seen.settles (ap entries_in c.kept)
   read-adds (gots.Damaged bad) c = kept-adds name.hash _ k.journal c.reads.seen.journal n.journal c.reads.seen.settles (ap entries_in c.reads.kept)
@@ -149,47 +101,36 @@ module _ {V : Type 0} (tells : V → Bool) (files : V → Folders) (faults calls
   read-adds gots.NoMemory c = by c.journal
     where
       by : (n.journal ≡ k.journal) ⊎ ((seen : Listed tells files faults calls lists k name) × (n.journal ≡ seen.journal)) →
-          AddsUp name.hash k.journal 0 n.journal
+          AddsUp name.hash k.journal n.journal
       by (inl same) = nothing-adds name.hash k.journal n.journal same
       by (inr listed) = kept-adds name.hash _ k.journal listed.0.journal n.journal listed.0.settles (ap entries_in listed.1)
 
-no-more : (n : ℕ) (bs : List Brief) → settled_briefs bs n n ≡ []
-no-more n bs = let none : nat_lt n n ≡ false = grind (arith, nat_tests) in ap (λ (x : Bool). if x then bs else []) none
+-- so whether there are more entries tells whether the doubt was settled as made
+module _ (hash : Hash) (j after : Journal) (adds : AddsUp hash j after) (added : List ObjEntry) (is : after.entries ≡ j.entries ++ added) where
+  added-is : added ≡ adds.settled
+  added-is = append_cancel_left j.entries added adds.settled (sym is ∙ adds.entries)
 
-one-more : (n : ℕ) (bs : List Brief) → settled_briefs bs (1 + n) n ≡ bs
-one-more n bs = let more : nat_lt n (1 + n) ≡ true = grind (arith, nat_tests) in ap (λ (x : Bool). if x then bs else []) more
+  counted : length after.entries ≡ length j.entries + length adds.settled
+  counted = ap length adds.entries ∙ length-append j.entries adds.settled
 
--- so the number of entries tells whether the doubt was settled as made
-module _ (hash : Hash) (j after : Journal) (own : ℕ) (adds : AddsUp hash j own after) (added : List ObjEntry) (is : after.entries ≡ j.entries ++ added) where
-  added-is : added ≡ adds.settled ++ adds.owned
-  added-is = append_cancel_left j.entries added (adds.settled ++ adds.owned) (sym is ∙ adds.entries)
-
-  counted : length after.entries ≡ length j.entries + (length adds.settled + own)
-  counted = ap length adds.entries ∙ (length-append j.entries (adds.settled ++ adds.owned)
-      ∙ ap (λ (n : ℕ). length j.entries + n) (length-append adds.settled adds.owned ∙ ap (λ (n : ℕ). length adds.settled + n) adds.count))
-
-  pub grown : length j.entries ≤ length after.entries
-  grown = omega (arith, counted)
-
-  pub briefed : settled_briefs (briefs_in (first_in hash j.doubts)) (length after.entries - length j.entries) own
-      ≡ map brief_of (take (length added - own) added)
+  pub briefed : settled_briefs (briefs_in (first_in hash j.doubts)) (nat_lt (length j.entries) (length after.entries))
+      ≡ map brief_of (take (length added - 0) added)
   briefed = by adds.settled adds.is_settled counted added-is
     where
-      by : (settled : List ObjEntry) → IsSettled hash j settled → length after.entries ≡ length j.entries + (length settled + own) →
-          added ≡ settled ++ adds.owned
-          → settled_briefs (briefs_in (first_in hash j.doubts)) (length after.entries - length j.entries) own ≡ map brief_of (take (length added - own) added)
+      by : (settled : List ObjEntry) → IsSettled hash j settled → length after.entries ≡ length j.entries + length settled → added ≡ settled
+          → settled_briefs (briefs_in (first_in hash j.doubts)) (nat_lt (length j.entries) (length after.entries))
+          ≡ map brief_of (take (length added - 0) added)
       by settled (inl none) count all =
-          let amount : length after.entries - length j.entries ≡ own = omega (arith, count, ap length none) in
-          let size : length added - own ≡ 0 = omega (arith, ap length all ∙ length-append settled adds.owned, ap length none, adds.count) in
-          ap (λ (m : ℕ). settled_briefs (briefs_in (first_in hash j.doubts)) m own) amount
-          ∙ (no-more own (briefs_in (first_in hash j.doubts)) ∙ sym (ap (λ (m : ℕ). map brief_of (take m added)) size))
+          let few : length settled ≡ 0 = ap length none in
+          let still : nat_lt (length j.entries) (length after.entries) ≡ false = grind (arith, nat_tests, count, few) in
+          ap (settled_briefs (briefs_in (first_in hash j.doubts))) still
+          ∙ sym (ap (λ (es : List ObjEntry). map brief_of (take (length es - 0) es)) (all ∙ none))
       by settled (inr one) count all =
-          let amount : length after.entries - length j.entries ≡ 1 + own = omega (arith, count, ap length one.1) in
-          let size : length added - own ≡ 1 = omega (arith, ap length all ∙ length-append settled adds.owned, ap length one.1, adds.count) in
-          ap (λ (m : ℕ). settled_briefs (briefs_in (first_in hash j.doubts)) m own) amount
-          ∙ (one-more own (briefs_in (first_in hash j.doubts)) ∙ (ap (λ (e : Option ObjEntry). briefs_in e) one.2
-          ∙ sym (ap (λ (m : ℕ). map brief_of (take m added)) size ∙ ap (λ (es : List ObjEntry). map brief_of (take 1 es))
-          (all ∙ ap (λ (es : List ObjEntry). es ++ adds.owned) one.1))))
+          let many : length settled ≡ 1 = ap length one.1 in
+          let more : nat_lt (length j.entries) (length after.entries) ≡ true = grind (arith, nat_tests, count, many) in
+          ap (settled_briefs (briefs_in (first_in hash j.doubts))) more
+          ∙ (ap (λ (e : Option ObjEntry). briefs_in e) one.2
+          ∙ sym (ap (λ (es : List ObjEntry). map brief_of (take (length es - 0) es)) (all ∙ one.1)))
 
 -- a read of a partition adds the entries of settled doubts alone
 pub all-briefed : (j after : Journal) (added : List ObjEntry) → after.entries ≡ j.entries ++ added → (none briefs : List Brief) → none ≡ []

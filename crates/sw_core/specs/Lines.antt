@@ -1,5 +1,5 @@
--- What the line of a step needs of its lock: the doubt that the step may settle. (This project's own.)
-use Rattle.std.specs.Prelude.{ℕ, nat_lt, List, [], Option, if◌then◌else◌}
+-- What the line of a read needs of its lock: the doubt that the read may settle. (This project's own.)
+use Rattle.std.specs.Prelude.{Bool, List, [], Option, if◌then◌else◌}
 use Rattle.std.specs.Option.{option_map, option_to_list}
 use Rattle.sw_core.specs.declared.slot.Slot.{Slot}
 use Rattle.sw_core.specs.declared.slot.Slot.TheVariants as slots
@@ -18,6 +18,6 @@ doubt_in (slots.Open k) hash = briefs_in (first_in hash k.journal.doubts)
 doubt_in (slots.Lifted secrets) hash = []
 doubt_in slots.Empty hash = []
 
--- the doubt, where so many entries were added and so many of them are the step's own
-abbrev pub settled_briefs : List Brief → ℕ → ℕ → List Brief
-settled_briefs doubted added own = if nat_lt own added then doubted else []
+-- the doubt, where an entry was added
+abbrev pub settled_briefs : List Brief → Bool → List Brief
+settled_briefs doubted added = if added then doubted else []

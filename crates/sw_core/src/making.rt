@@ -3,7 +3,6 @@
 ghost use Rattle.std.specs.Prelude.{◌≡◌, ◌<◌, ◌≤◌, ◌==◌, ◌^◌, ◌&&◌, true, false, IfOk};
 ghost use Rattle.std.specs.Str.{bytes_eq};
 ghost use Rattle.sw_core.specs.Lines.{briefs_in, doubt_in, settled_briefs};
-ghost use Rattle.sw_peer.specs.Lines.{own_by};
 ghost use Rattle.sw_core.specs.Making.{IsChangedIn, IsGotIn, IsPartIn, IsRecordsIn};
 ghost use Rattle.sw_core.specs.Worlds.{stripe_in};
 ghost use Rattle.sw_hashdir.specs.Steps.{IsHashed, is_hashed};
@@ -45,7 +44,7 @@ pub(crate) fn doubted_in<V: Volume + Drop>(
     Ok(briefs)
 }
 
-/// Makes a step that may change the name, and its line. `doubted` is what a trail prints of the doubt of a write of the name.
+/// Makes a step that may change the name, and its line.
 pub(crate) fn change_in<V: Volume + Drop>(
     alloc: Global,
     dir: &mut ObjDir<V>,
@@ -54,21 +53,19 @@ pub(crate) fn change_in<V: Volume + Drop>(
     name: &Name,
     line_name: Name,
     change: Change,
-    doubted: Vec<Brief>,
 ) -> (Answer, KeptLine)
     requires hashed { IsHashed dir.old.secrets name.now }
     requires named { line_name ≡ name.now }
-    requires doubted { doubted.items ≡ briefs_in (first_in name.now.hash dir.old.journal.doubts) }
     ensures { IsChangedIn V.tells V.holds V.faults dir.old link device name.now change result.0 dir.new result.1 }
 {
     if change.is_write() {
-        made_in(alloc, dir, link, device, name, line_name, change, doubted)
+        made_in(alloc, dir, link, device, name, line_name, change)
     } else {
         record_in(alloc, dir, link, device, name, line_name, &change)
     }
 }
 
-/// Makes a write.
+/// Makes a write. Its line tells all entries that it added but the write's own, which the answer tells.
 fn made_in<V: Volume + Drop>(
     alloc: Global,
     dir: &mut ObjDir<V>,
@@ -77,26 +74,26 @@ fn made_in<V: Volume + Drop>(
     name: &Name,
     line_name: Name,
     change: Change,
-    doubted: Vec<Brief>,
 ) -> (Answer, KeptLine)
     requires hashed { IsHashed dir.old.secrets name.now }
     requires named { line_name ≡ name.now }
-    requires doubted { doubted.items ≡ briefs_in (first_in name.now.hash dir.old.journal.doubts) }
     requires writes { is_write change ≡ true }
     ensures { IsChangedIn V.tells V.holds V.faults dir.old link device name.now change result.0 dir.new result.1 }
 {
     let from = dir.front();
     let seen = ChangeSeen::of(&change);
-    let answer = dir.change(alloc, name, change);
-    let settled = settled_of(doubted, dir.front() - from, own_entries(&answer));
+    let mut settled = Vec::new(alloc);
+    let answer = dir.change(alloc, name, change, &mut settled);
     let added = dir.added_since(from);
+    let told = answer;
     let line = Line {
         device,
         link,
-        event: Event::Changed(line_name, seen, answer),
+        event: Event::Changed(line_name, seen, told),
         added,
     };
-    (answer, KeptLine::new(line, settled))
+    let kept = KeptLine::new(line, settled);
+    (answer, kept)
 }
 
 /// Makes a step at a record. Its line tells all entries that it added.
@@ -145,7 +142,7 @@ pub(crate) fn get_in<V: Volume + Drop>(
 {
     let from = dir.front();
     let got = dir.get(alloc, name);
-    let settled = settled_of(doubted, dir.front() - from, 0);
+    let settled = settled_of(doubted, dir.front() > from);
     let added = dir.added_since(from);
     let line = Line {
         device,
@@ -299,22 +296,12 @@ pub(crate) fn base_in<V: Volume + Drop>(
     (got, KeptLine::new(line, settled))
 }
 
-/// How many entries a step added for its own write, by its answer.
-fn own_entries(answer: &Answer) -> u64
-    ensures { result ≡ own_by answer.now }
-{
-    match answer {
-        Answer::Done(_) | Answer::Buried(_) => 1,
-        _ => 0,
-    }
-}
-
-/// The doubt, where more entries were added than those of the step's own write: then it was settled, and its write had been made.
-fn settled_of(doubted: Vec<Brief>, added: u64, own: u64) -> Vec<Brief>
-    ensures { result.items ≡ settled_briefs doubted.items added own }
+/// The doubt, where an entry was added: then it was settled, and its write had been made.
+fn settled_of(doubted: Vec<Brief>, added: bool) -> Vec<Brief>
+    ensures { result.items ≡ settled_briefs doubted.items added }
 {
     let mut settled = doubted;
-    if added <= own {
+    if !added {
         settled.clear();
     }
     settled

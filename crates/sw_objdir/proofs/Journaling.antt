@@ -1,5 +1,5 @@
 -- Steps by the rules, of a journal with several doubts; what they keep, and how a doubt is settled: over plain histories.
-use Rattle.std.proofs.Common.{◌≡◌, ◌≢◌, ℕ, ◌≤◌, Bool, true, false, List, [], ◌∷◌, ◌++◌, length, refl, sym, ◌∙◌, ap, subst, inl, inr, ◌⊎◌, if◌then◌else◌}
+use Rattle.std.proofs.Common.{◌≡◌, ◌≢◌, ℕ, ◌≤◌, Bool, true, false, List, [], ◌∷◌, ◌++◌, length, refl, sym, ◌∙◌, ap, subst, inl, inr, ◌⊎◌, if◌then◌else◌, None}
 use Rattle.std.specs.List.{All, fold}
 use Rattle.std.specs.Str.{bytes_eq}
 use Rattle.std.proofs.lemmas.List.{map-append}
@@ -15,13 +15,14 @@ use Rattle.sw_object_steps.specs.Recorded.{is_write}
 use Rattle.sw_object_steps.specs.Rules.{ObjJournal, Writes, obj_applied, obj_ending, obj_key, obj_rules, obj_touches}
 use Rattle.sw_object_steps.specs.Values.{ObjValue}
 use Rattle.sw_objdir.proofs.Singled.{AreSingle, all-at, kept-single, own-gone, single-without}
-use Rattle.sw_objdir.proofs.WriteSteps.{write-touches}
+use Rattle.sw_objdir.proofs.WriteSteps.{NoneFiled, write-touches}
 use Rattle.sw_objdir.specs.Directories.{IsKept, IsPlain}
 use Rattle.sw_outside.specs.Faults.{HasRisen}
 use Rattle.sw_object_steps.proofs.Answering.{outline-new}
 use Rattle.sw_object_steps.proofs.Hashes.{hash-apart, hash-same, hash-self}
 use Rattle.sw_object_steps.specs.Journals.{Hash, Journal, written}
 use Rattle.sw_object_steps.specs.Outlines.{is_new_to, outline_of}
+use Rattle.sw_object_steps.specs.Steps.{refusal_of}
 use Rattle.sw_object_steps.specs.declared.answer.Answer.{Answer}
 use Rattle.sw_object_steps.specs.declared.change.Change.{Change}
 use Rattle.sw_object_steps.specs.declared.entry.ObjEntry.{ObjEntry}
@@ -89,14 +90,14 @@ module _ (h : History) (now : Hash → ObjValue) (kept : IsKept h now) (name : N
     leaves = λ alone told. left told;
   }
 
-  -- of a write the records don't matter
+  -- of a write the records that stand don't matter
   pub write-step : is_write change ≡ true → written name.hash h.journal.doubts ≡ [] → (s : State) → (h.told ≡ true → s ≡ (now name.hash).state)
-      → (made : List ObjEntry)
+      → (refusal_of s change ≡ None → NoneFiled name.hash name change h.journal.doubts) → (made : List ObjEntry)
       → EndsSeen obj_rules e (read_with s (now name.hash)) (single_journal h.journal) name.hash (Writes name change) answer made (single_journal j)
       → (t : ObjValue) → (h.told ≡ true → t ≡ fold obj_applied (now name.hash) made)
       → ChangesObject true (single_history h) now name change answer (single_history (after h j f)) t
-  write-step writes none s is = seen-step (read_with s (now name.hash)) (λ told i. record { state = is told i; records = (now name.hash).records })
-      (write-touches (read_with s (now name.hash)) name.hash name change writes h.journal.doubts none)
+  write-step writes none s is records = seen-step (read_with s (now name.hash)) (λ told i. record { state = is told i; records = (now name.hash).records })
+      (write-touches (read_with s (now name.hash)) name.hash name change writes h.journal.doubts none records)
 
 -- what a step leaves is kept
 pub kept-after : (h : History) (now : Hash → ObjValue) (kept : IsKept h now) (name : Name) (change : Change) (answer : Answer) (g : History)

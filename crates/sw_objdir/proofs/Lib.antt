@@ -1,8 +1,12 @@
 pub mod Singled
 pub mod WriteSteps
+pub mod WriteParts
+pub mod WriteEnding
+pub mod WriteComposing
 pub mod Standing
 pub mod Deciding
 pub mod Journaling
+pub mod Merging
 pub mod Looking
 pub mod Settled
 pub mod Told
@@ -18,9 +22,11 @@ pub mod RecordSettling
 pub mod RecordFiles
 pub mod RecordReading
 pub mod RecordReady
+pub mod OwnSettling
 pub mod RecordMaking
 pub mod RecordFinding
 pub mod RecordEnding
+pub mod RecordPutting
 pub mod RecordAnswers
 pub mod RecordTelling
 pub mod FilingSettling

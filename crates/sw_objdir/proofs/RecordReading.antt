@@ -109,7 +109,7 @@ pub none-touches : (x : ObjValue) (name : Name) (filed : Filed) (stood : Option 
 none-touches x name filed stood kind ds plain is writes records =
     none-touched x name.hash name (step_at filed kind) ds
     (λ listing. writes (sym (lists-by x name.hash filed stood is kind) ∙ listing))
-    (λ key is_file.
+    (λ allowed key is_file.
     let own = among-own (bytes_eq filed.name.hash name.hash) key (key_of filed)
     (sym (ap (λ (keys : List RecordKey). list_any (λ other. is_same_key key other) keys) (files-of name.hash name filed kind)) ∙ is_file) in
     subst (λ (k : RecordKey). recorded name.hash k ds ≡ []) own.1

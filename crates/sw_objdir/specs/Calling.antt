@@ -1,37 +1,31 @@
--- The calls of the volume that a write or a read of an object makes, in their order, and what they leave of the files: a write lists the name's
--- directory, reads the file that a deletion compares, puts its own file, and unlinks what is then obsolete. (This project's own; the files are those of
--- OpenStack Swift's object server.)
-use Rattle.std.specs.Prelude.{◌≡◌, ℕ, suc, ◌≤◌, Bool, true, List, [], ◌∷◌, ◌++◌, length, Option, Some, None, ◌⊎◌, if◌then◌else◌}
-use Rattle.sw_cleanup.specs.Cleaning.{AreListedIn, obsolete_of}
-use Rattle.sw_diskfile.specs.StateFiles.{name_of}
-use Rattle.sw_diskfile.specs.FileNames.{name_text}
+-- The calls of the volume that a write makes until it is answered by what stands, or a read of an object, in their order, and what they leave of the
+-- files: a write lists the name's directory, and reads the file that a deletion compares. (This project's own; the files are those of OpenStack Swift's
+-- object server.)
+use Rattle.std.specs.Prelude.{◌≡◌, ℕ, suc, ◌≤◌, Bool, true, List, [], length, Option, Some, None, ◌⊎◌, if◌then◌else◌}
+use Rattle.sw_cleanup.specs.Cleaning.{AreListedIn}
 use Rattle.sw_diskfile.specs.Picking.{IsPicked}
 use Rattle.sw_diskfile.specs.declared.file_name.FileName.{FileName}
 use Rattle.sw_diskfile.specs.declared.picking.Picked.{Picked}
 use Rattle.sw_hashdir.specs.Places.{dir_text}
 use Rattle.sw_hashdir.specs.Readings.{IsDamageShown, IsDamagedAt, IsSecondRead, IsShown, data_of, expiry_file}
-use Rattle.sw_hashdir.specs.Steps.{Writes}
 use Rattle.sw_object_steps.specs.Outlines.{picked_outline}
 use Rattle.sw_hashpath.specs.declared.decode_error.BadFile.{BadFile}
 use Rattle.sw_hashpath.specs.declared.name.Name.{Name}
 use Rattle.sw_journal.specs.Settling.{SettlesFirst}
-use Rattle.sw_metafile.specs.Texts.{file_text}
 use Rattle.sw_objdir.specs.Directories.{Kept}
 use Rattle.sw_objdir.specs.Stepping.{SameFiles}
 use Rattle.sw_outside.specs.Counts.{raised}
-use Rattle.sw_object_steps.specs.Journals.{Journal, with_doubt, with_entry, written}
-use Rattle.sw_object_steps.specs.Steps.{asks_expiry, made_answer, refusal_by, write_of}
+use Rattle.sw_object_steps.specs.Journals.{Journal, written}
+use Rattle.sw_object_steps.specs.Steps.{asks_expiry, refusal_by, write_of}
 use Rattle.sw_object_steps.specs.declared.answer.Answer.{Answer}
-use Rattle.sw_object_steps.specs.declared.answer.Answer.TheVariants as answers
 use Rattle.sw_object_steps.specs.declared.change.Change.{Change}
 use Rattle.sw_object_steps.specs.Recorded.{records_for}
 use Rattle.sw_object_steps.specs.declared.entry.ObjEntry.{ObjEntry}
 use Rattle.sw_object_steps.specs.declared.entry.ObjEntry.TheVariants.{Wrote}
 use Rattle.sw_object_steps.specs.declared.got.Got.{Got}
 use Rattle.sw_object_steps.specs.declared.got.Got.TheVariants as gots
-use Rattle.sw_state.specs.declared.write.Write.{Write}
 use Rattle.sw_volume.specs.Tree.{Folders, contents}
-use Rattle.sw_volume.specs.Volume.{MaySet, raised_by}
+use Rattle.sw_volume.specs.Volume.{raised_by}
 
 -- the entry of a write that was made
 abbrev pub entry_of : Name → Change → ObjEntry
@@ -92,18 +86,6 @@ module _ {V : Type 0} (tells : V → Bool) (files : V → Folders) (faults calls
     pub counts : Counts 1 0 k n
     pub kept : n.journal ≡ seen.journal
 
-  -- the write's file was put, and what it makes obsolete unlinked
-  pub record MadeWrite (k : Kept V) (name : Name) (change : Change) (answer : Answer) (n : Kept V) : Type 0 where
-    pub seen : Listed k name
-    pub decides : Decides k name seen change None
-    pub answered : answer ≡ made_answer (picked_outline seen.picked) change (length n.journal.entries)
-    pub writes : tells k.volume ≡ true → Writes (files k.volume) (files n.volume) (dir_text k.power name.hash) seen.names name (write_of change)
-        (faults k.volume) (faults n.volume)
-    pub called : calls n.volume ≡ raised_by (length (obsolete_of (seen.names ++ name_of (write_of change) ∷ [])))
-        (raised (raised_by (reads_of seen.picked change) (raised (calls k.volume))))
-    pub listed : lists n.volume ≡ raised (lists k.volume)
-    pub entered : n.journal ≡ with_entry seen.journal (entry_of name change)
-
   -- the listing failed: nothing has changed
   pub record ListFails (k n : Kept V) : Type 0 where
     pub same : SameFiles tells files faults k n
@@ -119,18 +101,7 @@ module _ {V : Type 0} (tells : V → Bool) (files : V → Folders) (faults calls
     pub settled : written name.hash n.journal.doubts ≡ []
     pub kept : n.journal ≡ seen.journal
 
-  -- the put failed: the file stands or doesn't, nothing was unlinked, and the write is in doubt
-  pub record PutFails (k : Kept V) (name : Name) (change : Change) (n : Kept V) : Type 0 where
-    pub seen : Listed k name
-    pub decides : Decides k name seen change None
-    pub may : tells k.volume ≡ true → MaySet (contents (files k.volume)) (contents (files n.volume)) (dir_text k.power name.hash)
-        (name_text (name_of (write_of change)))
-        (Some (file_text name.account name.container name.object (write_of change)))
-    pub counts : Counts (suc (reads_of seen.picked change)) 1 k n
-    pub doubted : written name.hash n.journal.doubts ≡ write_of change ∷ []
-    pub in_doubt : n.journal ≡ with_doubt seen.journal (Wrote name (write_of change) [])
-
-  -- memory ran out: no file has changed, no call failed, nothing came after the put, and nothing is in doubt that wasn't
+  -- memory ran out: no file has changed, no call failed, and nothing is in doubt that wasn't
   pub record Wanted (k : Kept V) (name : Name) (n : Kept V) : Type 0 where
     pub same : SameFiles tells files faults k n
     pub failed : faults n.volume ≡ faults k.volume
@@ -138,58 +109,13 @@ module _ {V : Type 0} (tells : V → Bool) (files : V → Folders) (faults calls
         ⊎ ((after : ℕ) × (after ≤ 2) × (calls n.volume ≡ raised_by after (raised (calls k.volume))) × (lists n.volume ≡ raised (lists k.volume)))
     pub journal : (n.journal ≡ k.journal) ⊎ ((seen : Listed k name) × (n.journal ≡ seen.journal))
 
-  -- by its answer
-  abbrev pub Called : Kept V → Name → Change → Answer → Kept V → Type 0
-  Called k name change (answers.Done front) n = MadeWrite k name change (answers.Done front) n
-  Called k name change (answers.Buried front) n = MadeWrite k name change (answers.Buried front) n
-  Called k name change (answers.Took is) n = ⊥
-  Called k name change (answers.Conflict time) n = Looked k name change (Some (answers.Conflict time)) n
-  Called k name change (answers.NotFound time) n = Looked k name change (Some (answers.NotFound time)) n
-  Called k name change (answers.Mismatch second) n = Looked k name change (Some (answers.Mismatch second)) n
-  Called k name change answers.Exists n = Looked k name change (Some answers.Exists) n
-  Called k name change answers.JournalFull n = Looked k name change None n
-  Called k name change (answers.Damaged bad) n = ReadsDamage k name change bad n
-  Called k name change answers.Failed n = ListFails k n ⊎ (ReadFails k name change n ⊎ PutFails k name change n)
-  Called k name change answers.NoMemory n = Wanted k name n
-
-  -- ---- the last part of a changing step, over files that were listed
+  -- ---- a step that lists nothing
 
   -- so many calls, none of them a listing, of which so many failed
   pub record NoListing (count fails : ℕ) (k n : Kept V) : Type 0 where
     pub called : calls n.volume ≡ raised_by count (calls k.volume)
     pub listed : lists n.volume ≡ lists k.volume
     pub failed : faults n.volume ≡ raised_by fails (faults k.volume)
-
-  pub record WritesFile (k : Kept V) (name : Name) (w : Write) (names : List FileName) (n : Kept V) : Type 0 where
-    pub writes : tells k.volume ≡ true → Writes (files k.volume) (files n.volume) (dir_text k.power name.hash) names name w (faults k.volume) (faults n.volume)
-    pub called : calls n.volume ≡ raised_by (length (obsolete_of (names ++ name_of w ∷ []))) (raised (calls k.volume))
-    pub listed : lists n.volume ≡ lists k.volume
-    pub entered : n.journal ≡ with_entry k.journal (Wrote name w [])
-
-  pub record FailsToPut (k : Kept V) (name : Name) (w : Write) (n : Kept V) : Type 0 where
-    pub may : tells k.volume ≡ true → MaySet (contents (files k.volume)) (contents (files n.volume)) (dir_text k.power name.hash) (name_text (name_of w))
-        (Some (file_text name.account name.container name.object w))
-    pub counts : NoListing 1 1 k n
-    pub doubted : written name.hash n.journal.doubts ≡ w ∷ []
-    pub in_doubt : n.journal ≡ with_doubt k.journal (Wrote name w [])
-
-  pub record WantsToPut (k n : Kept V) : Type 0 where
-    pub same : SameFiles tells files faults k n
-    pub counts : NoListing 0 0 k n ⊎ NoListing 1 0 k n
-    pub journal : n.journal ≡ k.journal
-
-  abbrev pub Written : Kept V → Name → Write → List FileName → Answer → Kept V → Type 0
-  Written k name w names (answers.Done front) n = WritesFile k name w names n
-  Written k name w names (answers.Buried front) n = WritesFile k name w names n
-  Written k name w names (answers.Took is) n = ⊥
-  Written k name w names (answers.Conflict time) n = ⊥
-  Written k name w names (answers.NotFound time) n = ⊥
-  Written k name w names (answers.Mismatch second) n = ⊥
-  Written k name w names answers.Exists n = ⊥
-  Written k name w names answers.JournalFull n = ⊥
-  Written k name w names (answers.Damaged bad) n = ⊥
-  Written k name w names answers.Failed n = FailsToPut k name w n
-  Written k name w names answers.NoMemory n = WantsToPut k n
 
   -- ---- a step that reads the name
 

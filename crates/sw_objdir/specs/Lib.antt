@@ -4,5 +4,6 @@ pub mod Calling
 pub mod Planning
 pub mod Comparing
 pub mod Recording
+pub mod Writing
 pub mod Filings
 pub mod BaseRows

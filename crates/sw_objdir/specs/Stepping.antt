@@ -1,5 +1,5 @@
 -- What a step of an object directory is: one of its lock, by the rules of objects. (This project's own.)
-use Rattle.std.specs.Prelude.{◌≡◌, ◌≢◌, ℕ, ◌≤◌, Bool, true, false, List, [], ◌∷◌, ◌++◌, map, Option, Some, None, Result, Err, if◌then◌else◌}
+use Rattle.std.specs.Prelude.{◌≡◌, ◌≢◌, ℕ, ◌≤◌, Bool, true, false, List, [], ◌∷◌, ◌++◌, ◌-◌, length, map, take, Option, Some, None, Result, Err, if◌then◌else◌}
 use Rattle.sw_hashpath.specs.declared.decode_error.BadFile.{BadFile}
 use Rattle.sw_hashpath.specs.declared.name.Name.{Name}
 use Rattle.sw_objdir.specs.Directories.{Kept, held, is_told, steps_of, values_of}
@@ -8,7 +8,7 @@ use Rattle.sw_object_steps.specs.Rules.{obj_rules}
 use Rattle.sw_object_steps.specs.Briefs.{brief_of}
 use Rattle.sw_object_steps.specs.Journals.{Hash}
 use Rattle.sw_object_steps.specs.Outlines.{outline_of}
-use Rattle.sw_object_steps.specs.Steps.{refusal_of}
+use Rattle.sw_object_steps.specs.Steps.{own_by, refusal_of}
 use Rattle.sw_object_steps.specs.declared.answer.Answer.{Answer}
 use Rattle.sw_object_steps.specs.declared.change.Change.{Change}
 use Rattle.sw_object_steps.specs.declared.dir_fault.DirFault.{DirFault}
@@ -25,6 +25,11 @@ use Rattle.sw_volume.specs.Volume.{IsSame}
 -- what a trail shows of the entries that were added
 abbrev pub AddsBriefs : List ObjEntry → List ObjEntry → List Brief → List Brief → Type 0
 AddsBriefs old new before after = (added : List ObjEntry) → new ≡ old ++ added → after ≡ before ++ map brief_of added
+
+-- what it shows of those of a step with this answer: of all but the write's own, which comes last where the write was made
+abbrev pub TellsOthers : Answer → List ObjEntry → List ObjEntry → List Brief → List Brief → Type 0
+TellsOthers answer old new before after =
+    (added : List ObjEntry) → new ≡ old ++ added → after ≡ before ++ map brief_of (take (length added - own_by answer) added)
 
 -- what it shows of a doubt with this brief that was settled: nothing where no entry came of it
 abbrev pub told_of : Option Brief → Bool → List Brief

@@ -1,4 +1,4 @@
-ghost use Rattle.std.specs.Prelude.{◌≡◌, true, false, [], Some, None, IfOk, IfErr, OnOk, OnErr};
+ghost use Rattle.std.specs.Prelude.{◌≡◌, true, false, [], Some, None, IfOk, IfErr, OnOk, OnErr, ◌⊎◌};
 ghost use Rattle.std.specs.Str.{bytes_eq};
 ghost use Rattle.sw_cleanup.specs.Cleaning.{AreListedIn};
 ghost use Rattle.sw_diskfile.specs.Picking.{IsPicked};
@@ -7,74 +7,87 @@ ghost use Rattle.sw_hashdir.specs.Steps.{IsHashed, IsOurs};
 ghost use Rattle.sw_object_steps.specs.Outlines.{picked_outline};
 ghost use Rattle.sw_hashdir.specs.Readings.{IfDamaged, IsDamagedAt, IsSecondOf, IsSecondRead, OnFailedRead, UnlessFailedRead, expiry_file};
 ghost use Rattle.sw_journal.specs.Settling.{SettlesFirst};
-ghost use Rattle.sw_objdir.specs.Calling.{Called, reads_of};
+ghost use Rattle.sw_objdir.specs.Calling.{reads_of};
 ghost use Rattle.sw_objdir.specs.Directories.{IsDir, held, is_told};
 ghost use Rattle.sw_objdir.specs.Planning.{IsPlanned};
-ghost use Rattle.sw_objdir.specs.Stepping.{IsStep, LooksAt};
+ghost use Rattle.sw_objdir.specs.Stepping.{IsStep, LooksAt, TellsOthers};
+ghost use Rattle.sw_objdir.specs.Writing.{Called};
 ghost use Rattle.sw_outside.specs.Counts.{raised};
-ghost use Rattle.sw_object_steps.specs.Journals.{body_size, written};
+ghost use Rattle.sw_object_steps.specs.Journals.{written};
 ghost use Rattle.sw_object_steps.specs.Outlines.{outline_of, standing_expiry};
 ghost use Rattle.sw_object_steps.specs.Recorded.{is_write};
-ghost use Rattle.sw_object_steps.specs.Steps.{asks_expiry, write_of};
-ghost use Rattle.sw_object_steps.specs.declared.change.Change.TheVariants as changes;
+ghost use Rattle.sw_object_steps.specs.Steps.{asks_expiry, is_entered};
+ghost use Rattle.sw_object_steps.specs.declared.outline.Outline.{Outline};
 ghost use Rattle.sw_volume.specs.Tree.{contents};
 ghost use Rattle.sw_volume.specs.Volume.{HasCause, raised_by};
 
 use crate::obj_dir::ObjDir;
+use crate::telling::{doubt_ready, tell};
 use std::alloc::Global;
 use sw_hashdir::{ReadFault, Seen, dir_of, look, read_expiry};
 use sw_hashpath::Name;
-use sw_object_steps::{Answer, Change, Outline, refusal};
-use sw_state::{Content, Heads, Kind, Write};
-use sw_timestamp::Timestamp;
+use sw_object_steps::{Answer, Brief, Change, Outline, refusal};
 use sw_volume::{Volume, VolumeError};
 
 /// What a write that nothing refuses found: the directory of its name, and what stands there.
 #[derive(Drop)]
-struct Plan {
-    dir: Vec<u8>,
-    seen: Seen,
+pub(crate) struct Plan {
+    pub(crate) dir: Vec<u8>,
+    pub(crate) seen: Seen,
 }
 
 impl<V: Volume + Drop> ObjDir<V> {
     /// Makes a step that may change what stands under the name. Its hash has to be that of its path under the ring's secrets.
     ///
     /// A write lists the name's directory, and settles the name's doubt by it. A deletion that asks for the second of expiry reads the one file that
-    /// tells it. What then stands refuses the step, or a limit of the journal does, or its write's file is put, and what it makes obsolete is
+    /// tells it. What then stands refuses the step; or a limit of the journal does; or its write's file is put, and what it makes obsolete is
     /// unlinked, in byte order of the names. An unlink that fails changes no answer.
     ///
-    /// [`Answer::Damaged`] comes only where the file that it read is no file of this name. [`Answer::Failed`] comes only where a call of the
-    /// volume other than an unlink failed: after the listing or the read nothing was done, and after the put the write is in doubt.
-    /// [`Answer::NoMemory`] leaves all files as they are.
-    pub fn change(&mut self, alloc: Global, name: &Name, change: Change) -> Answer
+    /// A put or a deletion files a record that the name's container has to be told of it, before its own file is put. Where a change of that very
+    /// record is in doubt its file is read first, which settles the doubt.
+    ///
+    /// [`Answer::Damaged`] comes only where a file that it read is no file of this name, or no record of its key. [`Answer::Failed`] comes only where
+    /// a call of the volume other than an unlink failed: after the listing or a read nothing was done; after the put of the record that is in doubt,
+    /// and nothing came of the write; after the put of the file the record is filed, and the write is in doubt. [`Answer::NoMemory`] leaves all files
+    /// as they are, or files the record alone.
+    ///
+    /// Whatever it answers, it adds to `settled` what a trail shows of the entries that it makes, but for that of the write itself.
+    pub fn change(
+        &mut self,
+        alloc: Global,
+        name: &Name,
+        change: Change,
+        settled: &mut Vec<Brief>,
+    ) -> Answer
         requires hashed { IsHashed self.old.secrets name.now }
         requires writes { is_write change ≡ true }
         ensures made { IsStep V.tells V.holds V.faults self.old name.now change result self.new }
         ensures called { Called V.tells V.holds V.faults V.calls V.lists self.old name.now change result self.new }
+        ensures briefs { TellsOthers result self.old.journal.entries self.new.journal.entries settled.old.items settled.new.items }
     {
-        self.make_write(alloc, name, change)
-    }
-
-    /// The same for a write.
-    pub(crate) fn make_write(&mut self, alloc: Global, name: &Name, change: Change) -> Answer
-        requires hashed { IsHashed self.old.secrets name.now }
-        requires writes { is_write change ≡ true }
-        ensures made { IsStep V.tells V.holds V.faults self.old name.now change result self.new }
-        ensures called { Called V.tells V.holds V.faults V.calls V.lists self.old name.now change result self.new }
-    {
-        match self.decide(alloc, name, &change) {
-            Ok(plan) => self.write(alloc, name, &plan.dir, &plan.seen, change),
+        let Ok(brief) = doubt_ready(alloc, self.journal.doubted(&name.hash), settled) else {
+            return Answer::NoMemory;
+        };
+        let front = self.front();
+        let decided = self.decide(alloc, name, &change);
+        tell(brief, self.front() > front, settled);
+        match decided {
+            Ok(plan) => self.write(alloc, name, &plan, change, settled),
             Err(answer) => answer,
         }
     }
 
-    /// All of a write but its file: what it found where the file may be put, and else its answer.
+    /// What a write found where nothing that stands refuses it, and else its answer.
     fn decide(&mut self, alloc: Global, name: &Name, change: &Change) -> Result<Plan, Answer>
         requires hashed { IsHashed self.old.secrets name.now }
         requires writes { is_write change.now ≡ true }
         ensures planned { IfOk result (λ plan. IsPlanned V.tells V.holds V.faults V.calls V.lists self.old name.now change.now plan self.new) }
         ensures made { IfErr result (λ answer. IsStep V.tells V.holds V.faults self.old name.now change.now answer self.new) }
         ensures called { IfErr result (λ answer. Called V.tells V.holds V.faults V.calls V.lists self.old name.now change.now answer self.new) }
+        ensures dir { IsDir V.tells V.holds V.faults self.new }
+        ensures unmade { IfErr result (λ answer. is_entered answer ≡ false) }
+        ensures settles { (self.new.journal ≡ self.old.journal)
+            ⊎ ((outline : Outline) × SettlesFirst name.now.hash outline self.old.journal self.new.journal) }
     {
         let Ok(dir) = dir_of(alloc, &name.hash, self.power) else {
             return Err(Answer::NoMemory);
@@ -92,9 +105,6 @@ impl<V: Volume + Drop> ObjDir<V> {
         };
         if let Some(refused) = refusal(&seen.outline, expiry, change) {
             return Err(refused);
-        }
-        if !self.journal.has_room(body_size(change)) {
-            return Err(Answer::JournalFull);
         }
         Ok(Plan { dir, seen })
     }
@@ -184,28 +194,5 @@ fn asks_expiry(outline: &Outline, change: &Change) -> bool
             None => false,
         },
         _ => false,
-    }
-}
-
-/// How many bytes the body has that a step brings.
-fn body_size(change: &Change) -> u64
-    ensures { result ≡ body_size (write_of change.now).kind }
-{
-    match change {
-        Change::Put { content, .. } => content.body.as_slice().len() as u64,
-        Change::Post { .. } => 0,
-        Change::Delete { .. } => 0,
-        Change::Receive { write } => kind_size(&write.kind),
-        Change::MarkRecord { .. } | Change::DropRecord { .. } => 0,
-    }
-}
-
-fn kind_size(kind: &Kind) -> u64
-    ensures { result ≡ body_size kind.now }
-{
-    match kind {
-        Kind::Put(content) => content.body.as_slice().len() as u64,
-        Kind::Del => 0,
-        Kind::Meta(_) => 0,
     }
 }

@@ -1,17 +1,19 @@
-ghost use Rattle.std.specs.Prelude.{◌≡◌, true, false, []};
+ghost use Rattle.std.specs.Prelude.{◌≡◌, ◌+◌, ◌≤◌, true, false, [], Some};
 ghost use Rattle.std.specs.Str.{bytes_eq};
 ghost use Rattle.sw_hashdir.specs.Steps.{IsHashed};
 ghost use Rattle.sw_hashpath.specs.declared.name.Name.{Name};
-ghost use Rattle.sw_journal.specs.Entries.{about_record};
+ghost use Rattle.sw_journal.specs.Entries.{about_record, record_left};
 ghost use Rattle.sw_objdir.specs.Recording.{Decides, Ends, Finds, RecordCalled, TellsGone, answer_of};
+ghost use Rattle.sw_objdir.specs.Writing.{PutsOne, PutsRecord, Readied};
 ghost use Rattle.sw_objdir.specs.Stepping.{AddsBriefs, IsStep};
-ghost use Rattle.sw_object_steps.specs.Journals.{has_room};
+ghost use Rattle.sw_object_steps.specs.Journals.{bodies, has_room};
 ghost use Rattle.sw_object_steps.specs.Outlines.{is_before, standing_time};
 ghost use Rattle.sw_object_steps.specs.Recorded.{is_write};
 ghost use Rattle.sw_object_steps.specs.declared.change.Change.TheVariants as changes;
 ghost use Rattle.sw_object_steps.specs.declared.entry.ObjEntry.TheVariants.{Dropped, Marked};
 ghost use Rattle.sw_pending.specs.Outcomes.{IsName};
 ghost use Rattle.sw_pending.specs.Records.{key_of, marked};
+ghost use Rattle.sw_pending.specs.declared.filed.Filed.{Filed};
 ghost use Rattle.sw_pending.specs.Rules.{are_done, is_done};
 
 use crate::obj_dir::ObjDir;
@@ -139,6 +141,32 @@ impl<V: Volume + Drop> ObjDir<V> {
         found
     }
 
+    /// Settles the doubt of this one's record, where there is one, by a read of its file.
+    pub(crate) fn settle_own(
+        &mut self,
+        alloc: Global,
+        filed: &Filed,
+        settled: &mut Vec<Brief>,
+    ) -> Result<(), ReadFault>
+        ensures readied { Readied V.tells V.holds V.faults V.calls V.lists self.old filed.now result self.new }
+        ensures briefs { AddsBriefs self.old.journal.entries self.new.journal.entries settled.old.items settled.new.items }
+    {
+        let key = filed.key();
+        let Some(doubt) = self.journal.doubted_record(&key) else {
+            return Ok(());
+        };
+        let Ok(brief) = brief_ready(alloc, doubt, settled) else {
+            return Err(ReadFault::NoMemory);
+        };
+        let front = self.front();
+        let found = self.read_own(alloc, filed);
+        tell(Some(brief), self.front() > front, settled);
+        match found {
+            Ok(_) => Ok(()),
+            Err(fault) => Err(fault),
+        }
+    }
+
     /// The same for a name with the hash of this record.
     fn read_own(&mut self, alloc: Global, filed: &Filed) -> Result<Option<Filed>, ReadFault>
         ensures { (name : Name) → bytes_eq filed.now.name.hash name.hash ≡ true
@@ -255,20 +283,34 @@ impl<V: Volume + Drop> ObjDir<V> {
         let Ok(brief) = brief_ready(alloc, &entry, settled) else {
             return Answer::NoMemory;
         };
-        let Ok(()) = self.journal.doubt(entry) else {
-            return Answer::NoMemory;
-        };
-        let marked = self.journal.last_left();
-        match put_record(alloc, &mut self.volume, marked) {
+        match self.put_entry(alloc, entry) {
             Ok(()) => {
-                self.journal.confirm();
                 settled.push_reserved(brief);
                 Answer::Took(true)
             }
             Err(VolumeError::Failed) => Answer::Failed,
+            Err(VolumeError::NoMemory) => Answer::NoMemory,
+        }
+    }
+
+    /// Puts the record that this entry leaves, of which no change is in doubt, and enters it.
+    pub(crate) fn put_entry(&mut self, alloc: Global, entry: ObjEntry) -> Result<(), VolumeError>
+        requires puts { (filed : Filed) × PutsOne self.old.secrets entry filed }
+        requires settled { (filed : Filed) → record_left entry ≡ Some filed → about_record (key_of filed) self.old.journal.doubts ≡ [] }
+        requires room { bodies self.old.journal.entries + bodies self.old.journal.doubts ≤ self.old.journal.max_bytes }
+        ensures { (filed : Filed) → record_left entry ≡ Some filed → PutsRecord V.tells V.holds V.faults V.calls V.lists self.old entry filed result self.new }
+    {
+        self.journal.doubt(entry)?;
+        let filed = self.journal.last_left();
+        match put_record(alloc, &mut self.volume, filed) {
+            Ok(()) => {
+                self.journal.confirm();
+                Ok(())
+            }
+            Err(VolumeError::Failed) => Err(VolumeError::Failed),
             Err(VolumeError::NoMemory) => {
                 self.journal.withdraw();
-                Answer::NoMemory
+                Err(VolumeError::NoMemory)
             }
         }
     }
@@ -312,7 +354,7 @@ fn is_before(outline: &Outline, time: Timestamp) -> bool
 }
 
 /// What a step is answered whose record can't be read.
-fn answer_of(fault: ReadFault) -> Answer
+pub(crate) fn answer_of(fault: ReadFault) -> Answer
     ensures { result ≡ answer_of fault }
 {
     match fault {

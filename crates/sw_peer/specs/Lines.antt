@@ -1,18 +1,13 @@
 -- What the line of a step tells of the entries that it added. (This project's own.)
-use Rattle.std.specs.Prelude.{ℕ, ◌-◌, List, [], length, take, if◌then◌else◌}
+use Rattle.std.specs.Prelude.{ℕ, ◌-◌, List, [], length, take}
 use Rattle.sw_container_steps.specs.declared.cont_entry.ContEntry.{ContEntry}
-use Rattle.sw_object_steps.specs.Steps.{is_entered}
-use Rattle.sw_object_steps.specs.declared.answer.Answer.{Answer}
+use Rattle.sw_object_steps.specs.Steps.{own_by}
 use Rattle.sw_object_steps.specs.declared.entry.ObjEntry.{ObjEntry}
 use Rattle.sw_peer.specs.declared.line.Event.{Event}
 use Rattle.sw_peer.specs.declared.line.Event.TheVariants as events
 use Rattle.sw_peer.specs.declared.line.Line.{Line}
 
--- how many entries a step adds for its own write, by its answer. One at a record has none
-abbrev pub own_by : Answer → ℕ
-own_by answer = if is_entered answer then 1 else 0
-
--- and by its event: they come last
+-- how many entries a step adds for its own write, by its event: they come last
 abbrev pub own_count : Event → ℕ
 own_count (events.Changed name change answer) = own_by answer
 own_count (events.Read name got) = 0

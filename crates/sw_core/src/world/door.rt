@@ -49,13 +49,10 @@ impl<V: Volume + Drop, K: Keeper + Drop> ObjectDoor for World<V, K> {
         let Ok(line_name) = name.copy(alloc) else {
             return Ok(Answer::NoMemory);
         };
-        let Ok(doubted) = doubted_in(alloc, &self.slots[place], &name.hash) else {
-            return Ok(Answer::NoMemory);
-        };
         let Slot::Open(dir) = &mut self.slots[place] else {
             unreachable!()
         };
-        let (answer, line) = change_in(alloc, dir, link, device, name, line_name, change, doubted);
+        let (answer, line) = change_in(alloc, dir, link, device, name, line_name, change);
         self.lines.push_reserved(line);
         Ok(answer)
     }

@@ -11,7 +11,7 @@ new-requires g c =
     in
     record {
       settled = rw (c.settled_of-settled.ensures, c.front.ensures.length, c.front-from.ensures.length, c.requires.doubted, added)
-          (briefed c.args.name.now.hash k.journal n.journal 0 adds came.0 came.1);
+          (briefed c.args.name.now.hash k.journal n.journal adds came.0 came.1);
       entered = refl;
     }
 

@@ -99,50 +99,6 @@ invariant_of-self-in_default g c =
       c.self.invariant.2,
     )
 
-pub invariant_of-self-in_default-doubted_in : goal.invariant_of-self-in_default-doubted_in
-invariant_of-self-in_default-doubted_in g c =
-    let i = c.self.inside in
-    let w : AllNodes _ _ = record {
-      devices = i.devices;
-      lock_bits = i.lock_bits;
-      power = i.power;
-      secrets = i.secrets;
-      slots = i.slots.items;
-      lines = i.lines.items;
-      max_bytes = i.max_bytes;
-      asks = i.asks;
-      lifted = i.lifted;
-      containers = i.containers;
-    } in
-    let whole : i.lifted ≡ None = none-out i.lifted c.args.device i.devices (rw (sym c.self.view_is) at c.requires.device) in (
-      lined w c.self.invariant.0 c.reserve.new.self.items i.asks,
-      roomy i.slots.items i.slots.items i.room i.lines c.reserve.new.self i.spare i.lifted whole refl
-          c.self.invariant.1,
-      c.self.invariant.2,
-    )
-
-pub returns-in_default-doubted_in-clause-made : goal.returns-in_default-doubted_in-clause-made
-returns-in_default-doubted_in-clause-made g c =
-    let v = g.V.Volume in let i = c.self.inside in
-    let w : AllNodes _ _ = record {
-      devices = i.devices;
-      lock_bits = i.lock_bits;
-      power = i.power;
-      secrets = i.secrets;
-      slots = i.slots.items;
-      lines = i.lines.items;
-      max_bytes = i.max_bytes;
-      asks = i.asks;
-      lifted = i.lifted;
-      containers = i.containers;
-    } in
-    let lock = rw (sym c.self.view_is) at c.lock-place.ensures.lock in
-    let within = rw (sym c.self.view_is) at c.lock-place.ensures.within in
-    rw (sym c.self.view_is) (wants v.tells v.holds v.faults (keeper_seen g.K.Keeper.tells g.K.Keeper.holds g.K.Keeper.faults) w c.reserve.new.self.items
-    c.reserve.ensures.items c.args.link c.args.device c.args.name.now
-    (lock-stands v.tells v.holds v.faults i.slots.items (lock_of i.lock_bits i.power c.args.device c.args.name.now.hash) c.lock-place.result
-    c.index.result.now lock within c.index.ensures c.may_stand.ensures) c.args.change)
-
 pub unreachable-requires : goal.unreachable-requires
 unreachable-requires g c =
     let i = c.self.inside in
