@@ -35,6 +35,8 @@ const DATA_30: &[u8] = b"/0000000000.00030.data";
 
 const DATA_40: &[u8] = b"/0000000000.00040.data";
 
+const DATA_50: &[u8] = b"/0000000000.00050.data";
+
 const META_20: &[u8] = b"/0000000000.00020.meta";
 
 const META_30: &[u8] = b"/0000000000.00030.meta";
@@ -110,7 +112,8 @@ impl Lock {
         if !change.is_write() {
             return Err(Fail::from("no write"));
         }
-        Ok(told_by_answer(&self.dir.change(alloc, &name, change)))
+        let mut settled = Vec::new(alloc);
+        Ok(told_by_answer(&self.dir.change(alloc, &name, change, &mut settled)))
     }
 
     /// The same of the object `o`, by the call of the step's own name.
@@ -169,7 +172,7 @@ pub fn goes_so(
     })
 }
 
-/// What stands before the step, by steps of two calls each.
+/// What stands before the step.
 const NOTHING: &[Row] = &[];
 
 const DATA: &[Row] = &[(O, Put(20), Done(1))];
@@ -183,8 +186,9 @@ const MADE: &[bool] = &[true];
 
 const LOST: &[bool] = &[false];
 
-/// The call of a step that fails, counted from 0: the listing, a read where it reads, the put of its file, and the unlinks. What the step
-/// is answered; what a read gets next, and the files then; and what in place of the read the same step is answered again.
+/// The call of a step that fails, counted from 0: the listing, a read where it reads, the put of its record where it files one, the put of its file, and
+/// the unlinks. What the step is answered; what a read gets next, and the files of objects then; and what in place of the read the same step is answered
+/// again.
 type Fault = (u64, &'static [bool], Told, Told, Segments, Told);
 
 /// What stands, the step, and what comes of its failures.
@@ -200,14 +204,16 @@ const GONE_30: Told = NotFoundSince(30);
 const GONE_40: Told = NotFoundSince(40);
 
 const KINDS: &[Kind] = &[
-    // A put over nothing.
+    // A put over nothing. Where the put of its record failed nothing came of it, and the same put finds out whether the record stands.
     (
         NOTHING,
         Put(20),
         &[
             (0, EITHER, Failed, NotFound, &[], Done(1)),
-            (1, MADE, Failed, Object(20, 1), &[DATA_20], Conflict(20)),
+            (1, MADE, Failed, NotFound, &[], Done(2)),
             (1, LOST, Failed, NotFound, &[], Done(1)),
+            (2, MADE, Failed, Object(20, 2), &[DATA_20], Conflict(20)),
+            (2, LOST, Failed, NotFound, &[], Done(2)),
         ],
     ),
     // Over data. A call that failed in front of the unlink leaves what it would have unlinked.
@@ -216,18 +222,20 @@ const KINDS: &[Kind] = &[
         Put(30),
         &[
             (0, EITHER, Failed, Object(20, 1), &[DATA_20], Done(2)),
+            (1, MADE, Failed, Object(20, 1), &[DATA_20], Done(3)),
+            (1, LOST, Failed, Object(20, 1), &[DATA_20], Done(2)),
             (
-                1,
+                2,
                 MADE,
                 Failed,
-                Object(30, 2),
+                Object(30, 3),
                 &[DATA_20, DATA_30],
                 Conflict(30),
             ),
-            (1, LOST, Failed, Object(20, 1), &[DATA_20], Done(2)),
-            (2, MADE, Done(2), Object(30, 2), &[DATA_30], Conflict(30)),
+            (2, LOST, Failed, Object(20, 2), &[DATA_20], Done(3)),
+            (3, MADE, Done(2), Object(30, 2), &[DATA_30], Conflict(30)),
             (
-                2,
+                3,
                 LOST,
                 Done(2),
                 Object(30, 2),
@@ -283,10 +291,12 @@ const KINDS: &[Kind] = &[
         Delete(30),
         &[
             (0, EITHER, Failed, Object(20, 1), &[DATA_20], Done(2)),
-            (1, MADE, Failed, GONE_30, &[DATA_20, TOMB_30], GONE_30),
+            (1, MADE, Failed, Object(20, 1), &[DATA_20], Done(3)),
             (1, LOST, Failed, Object(20, 1), &[DATA_20], Done(2)),
-            (2, MADE, Done(2), GONE_30, &[TOMB_30], GONE_30),
-            (2, LOST, Done(2), GONE_30, &[DATA_20, TOMB_30], GONE_30),
+            (2, MADE, Failed, GONE_30, &[DATA_20, TOMB_30], GONE_30),
+            (2, LOST, Failed, Object(20, 2), &[DATA_20], Done(3)),
+            (3, MADE, Done(2), GONE_30, &[TOMB_30], GONE_30),
+            (3, LOST, Done(2), GONE_30, &[DATA_20, TOMB_30], GONE_30),
         ],
     ),
     // Of nothing.
@@ -295,8 +305,10 @@ const KINDS: &[Kind] = &[
         Delete(20),
         &[
             (0, EITHER, Failed, NotFound, &[], Buried(1)),
-            (1, MADE, Failed, GONE_20, &[TOMB_20], GONE_20),
+            (1, MADE, Failed, NotFound, &[], Buried(2)),
             (1, LOST, Failed, NotFound, &[], Buried(1)),
+            (2, MADE, Failed, GONE_20, &[TOMB_20], GONE_20),
+            (2, LOST, Failed, NotFound, &[], Buried(2)),
         ],
     ),
     // Of what expires then: the metadata is read, which tells the second, and data and metadata are unlinked.
@@ -306,22 +318,31 @@ const KINDS: &[Kind] = &[
         &[
             (0, EITHER, Failed, UPDATED, &[DATA_20, META_30], Done(3)),
             (1, EITHER, Failed, UPDATED, &[DATA_20, META_30], Done(3)),
+            (2, MADE, Failed, UPDATED, &[DATA_20, META_30], Done(4)),
+            (2, LOST, Failed, UPDATED, &[DATA_20, META_30], Done(3)),
             (
-                2,
+                3,
                 MADE,
                 Failed,
                 GONE_40,
                 &[DATA_20, META_30, TOMB_40],
                 Conflict(40),
             ),
-            (2, LOST, Failed, UPDATED, &[DATA_20, META_30], Done(3)),
-            (3, MADE, Done(3), GONE_40, &[TOMB_40], Conflict(40)),
-            (3, LOST, Done(3), GONE_40, &[DATA_20, TOMB_40], Conflict(40)),
+            (
+                3,
+                LOST,
+                Failed,
+                Updated(30, 3),
+                &[DATA_20, META_30],
+                Done(4),
+            ),
             (4, MADE, Done(3), GONE_40, &[TOMB_40], Conflict(40)),
-            (4, LOST, Done(3), GONE_40, &[META_30, TOMB_40], Conflict(40)),
+            (4, LOST, Done(3), GONE_40, &[DATA_20, TOMB_40], Conflict(40)),
+            (5, MADE, Done(3), GONE_40, &[TOMB_40], Conflict(40)),
+            (5, LOST, Done(3), GONE_40, &[META_30, TOMB_40], Conflict(40)),
         ],
     ),
-    // Writes that another device has.
+    // Writes that another device has file no record.
     (
         NOTHING,
         SentPut(20),
@@ -380,12 +401,22 @@ const KINDS: &[Kind] = &[
     ),
 ];
 
+/// How many calls these steps make, which nothing refuses and which make nothing obsolete: a post puts its file alone, and a put its record before it.
+fn calls_of(rows: &[Row]) -> u64 {
+    let mut calls: u64 = 0;
+    for (_, asked, _) in rows {
+        calls = calls.saturating_add(match asked {
+            Post(_) => 2,
+            _ => 3,
+        });
+    }
+    calls
+}
+
 /// Whether it goes as the fault has it.
 fn fails_so(alloc: Global, first: &[Row], asked: Asked, fault: &Fault) -> Result<bool, Fail> {
     let (call, outcomes, told, got, left, again) = fault;
-    let call = call
-        .saturating_add(first.len() as u64)
-        .saturating_add(first.len() as u64);
+    let call = call.saturating_add(calls_of(first));
     let read = [(O, asked, *told), (O, Get, *got)];
     let repeated = [(O, asked, *told), (O, asked, *again)];
     for made in *outcomes {
@@ -457,17 +488,17 @@ const COURSES: &[Course] = &[
     // What a failure left to be unlinked goes with the next write.
     (
         AMPLE,
-        &[(3, true)],
+        &[(5, true)],
         &[
             (O, Put(20), Done(1)),
             (O, Put(30), Failed),
-            (O, Put(40), Done(3)),
+            (O, Put(40), Done(4)),
         ],
         &[DATA_40],
     ),
     (
         AMPLE,
-        &[(4, false)],
+        &[(6, false)],
         &[
             (O, Put(20), Done(1)),
             (O, Put(30), Done(2)),
@@ -477,171 +508,225 @@ const COURSES: &[Course] = &[
     ),
     (
         AMPLE,
-        &[(3, true)],
+        &[(5, true)],
         &[
             (O, Put(20), Done(1)),
             (O, Delete(30), Failed),
-            (O, Delete(40), Buried(3)),
+            (O, Delete(40), Buried(4)),
         ],
         &[TOMB_40],
     ),
-    // A doubt counts for the limits, until it is found that it wasn't made.
+    // A doubt counts for the limits, until it is found that it wasn't made. The record that was filed before it stays an entry.
     (
-        (1, 100),
-        &[(1, false)],
+        (2, 100),
+        &[(2, false)],
         &[
             (O, Put(20), Failed),
             (P, Put(20), Full),
-            (O, Put(30), Done(1)),
+            (O, Put(30), Done(2)),
         ],
         &[DATA_30],
     ),
     (
-        (1, 100),
-        &[(1, true)],
+        (2, 100),
+        &[(2, true)],
         &[(O, Put(20), Failed), (P, Put(20), Full), (O, Put(30), Full)],
         &[DATA_20],
     ),
     (
-        (2, 100),
-        &[(1, false), (3, true)],
+        (4, 100),
+        &[(2, false), (5, true)],
         &[
             (O, Put(20), Failed),
             (P, Put(20), Failed),
             (S, Put(20), Full),
-            (P, Get, Object(20, 1)),
+            (P, Get, Object(20, 3)),
             (S, Put(20), Full),
             (O, Get, NotFound),
-            (S, Put(20), Done(2)),
+            (S, Put(20), Done(4)),
         ],
         &[DATA_20, DATA_20],
     ),
     (
         (10, 3),
-        &[(1, false)],
+        &[(2, false)],
         &[
             (O, Put(20), Failed),
             (P, Put(20), Full),
             (O, Get, NotFound),
-            (P, Put(20), Done(1)),
+            (P, Put(20), Done(2)),
+        ],
+        &[DATA_20],
+    ),
+    // So does that of a record. Only a step that comes to its file settles it: no listing does, nor a step of another time, nor one that is refused.
+    (
+        (1, 100),
+        &[(1, false)],
+        &[
+            (O, Put(20), Failed),
+            (O, Get, NotFound),
+            (P, Put(20), Full),
+            (O, Put(30), Full),
+            (O, Post(20), NotFound),
+            (O, Put(20), Done(1)),
+        ],
+        &[DATA_20],
+    ),
+    (
+        (1, 100),
+        &[(1, true)],
+        &[
+            (O, Put(20), Failed),
+            (P, Put(20), Full),
+            (O, Put(20), Full),
+            (O, Restart, Nothing),
+            (O, Put(20), Done(1)),
+        ],
+        &[DATA_20],
+    ),
+    // The doubt of an earlier write's record stays beside later writes. Its own name and time are refused then, so that nothing settles it.
+    (
+        (3, 100),
+        &[(1, false)],
+        &[
+            (O, Put(20), Failed),
+            (O, Put(30), Done(1)),
+            (O, Put(20), Conflict(30)),
+            (O, Put(40), Done(2)),
+            (O, Put(50), Full),
+            (O, Restart, Nothing),
+            (O, Put(50), Done(1)),
+        ],
+        &[DATA_50],
+    ),
+    // A read of the record fails, and then its second put: its doubt is there at each new try.
+    (
+        AMPLE,
+        &[(1, true), (3, false), (6, false)],
+        &[
+            (O, Put(20), Failed),
+            (O, Put(20), Failed),
+            (O, Put(20), Failed),
+            (O, Get, NotFound),
+            (O, Put(20), Done(3)),
         ],
         &[DATA_20],
     ),
     // Of two doubts the first was made, or the second, or both; they are settled in either order.
     (
         AMPLE,
-        &[(1, true), (3, false)],
+        &[(2, true), (5, false)],
         &[
             (O, Put(20), Failed),
             (P, Put(30), Failed),
-            (O, Get, Object(20, 1)),
+            (O, Get, Object(20, 3)),
             (P, Get, NotFound),
         ],
         &[DATA_20],
     ),
     (
         AMPLE,
-        &[(1, true), (3, false)],
+        &[(2, true), (5, false)],
         &[
             (O, Put(20), Failed),
             (P, Put(30), Failed),
             (P, Get, NotFound),
-            (O, Get, Object(20, 1)),
+            (O, Get, Object(20, 3)),
         ],
         &[DATA_20],
     ),
     (
         AMPLE,
-        &[(1, false), (3, true)],
+        &[(2, false), (5, true)],
         &[
             (O, Put(20), Failed),
             (P, Put(30), Failed),
             (O, Get, NotFound),
-            (P, Get, Object(30, 1)),
+            (P, Get, Object(30, 3)),
         ],
         &[DATA_30],
     ),
     (
         AMPLE,
-        &[(1, false), (3, true)],
+        &[(2, false), (5, true)],
         &[
             (O, Put(20), Failed),
             (P, Put(30), Failed),
-            (P, Get, Object(30, 1)),
-            (O, Put(40), Done(2)),
+            (P, Get, Object(30, 3)),
+            (O, Put(40), Done(4)),
         ],
         &[DATA_30, DATA_40],
     ),
     (
         AMPLE,
-        &[(1, true), (3, true)],
+        &[(2, true), (5, true)],
         &[
             (O, Put(20), Failed),
             (P, Put(30), Failed),
-            (P, Get, Object(30, 1)),
-            (O, Get, Object(20, 2)),
+            (P, Get, Object(30, 3)),
+            (O, Get, Object(20, 4)),
         ],
         &[DATA_30, DATA_20],
     ),
     (
         AMPLE,
-        &[(1, true), (3, true)],
+        &[(2, true), (5, true)],
         &[
             (O, Put(20), Failed),
             (P, Put(30), Failed),
-            (O, Put(40), Done(2)),
-            (P, Delete(40), Done(4)),
+            (O, Put(40), Done(4)),
+            (P, Delete(40), Done(6)),
         ],
         &[TOMB_40, DATA_40],
     ),
     // A step of another object settles none.
     (
         AMPLE,
-        &[(1, true)],
+        &[(2, true)],
         &[
             (O, Put(20), Failed),
-            (P, Put(30), Done(1)),
+            (P, Put(30), Done(2)),
             (S, Get, NotFound),
-            (P, Get, Object(30, 1)),
-            (O, Get, Object(20, 2)),
+            (P, Get, Object(30, 2)),
+            (O, Get, Object(20, 3)),
         ],
         &[DATA_30, DATA_20],
     ),
     // A doubt stays where the listing fails. One of the same object is settled before the next comes.
     (
         AMPLE,
-        &[(1, true), (2, false)],
+        &[(2, true), (3, false)],
         &[
             (O, Put(20), Failed),
             (O, Get, Failed),
-            (O, Get, Object(20, 1)),
+            (O, Get, Object(20, 2)),
         ],
         &[DATA_20],
     ),
     (
         AMPLE,
-        &[(1, true), (3, true)],
+        &[(2, true), (5, true)],
         &[
             (O, Put(20), Failed),
             (O, Put(30), Failed),
-            (O, Get, Object(30, 2)),
+            (O, Get, Object(30, 4)),
         ],
         &[DATA_20, DATA_30],
     ),
     (
         AMPLE,
-        &[(1, true), (3, false)],
+        &[(2, true), (5, false)],
         &[
             (O, Put(20), Failed),
             (O, Put(30), Failed),
-            (O, Get, Object(20, 1)),
+            (O, Get, Object(20, 3)),
         ],
         &[DATA_20],
     ),
     // A restart begins with what was made.
     (
         AMPLE,
-        &[(1, true), (3, false)],
+        &[(2, true), (5, false)],
         &[
             (O, Put(20), Failed),
             (P, Put(30), Failed),
@@ -668,15 +753,18 @@ fn change_by_name(alloc: Global, dir: &mut ObjDir<MemVolume>, name: &Name, chang
     requires hashed { IsHashed dir.old.secrets name.now }
     ensures same { dir.new.secrets ≡ dir.old.secrets }
 {
+    let mut settled = Vec::new(alloc);
     match change {
         Change::Put {
             time,
             content,
             none_match,
-        } => dir.put(alloc, name, time, content, none_match),
-        Change::Post { time, heads } => dir.post(alloc, name, time, heads),
-        Change::Delete { time, if_delete_at } => dir.delete(alloc, name, time, if_delete_at),
-        Change::Receive { write } => dir.receive(alloc, name, write),
+        } => dir.put(alloc, name, time, content, none_match, &mut settled),
+        Change::Post { time, heads } => dir.post(alloc, name, time, heads, &mut settled),
+        Change::Delete { time, if_delete_at } => {
+            dir.delete(alloc, name, time, if_delete_at, &mut settled)
+        }
+        Change::Receive { write } => dir.receive(alloc, name, write, &mut settled),
         // Those at records have tests of their own.
         Change::MarkRecord { .. } | Change::DropRecord { .. } => Answer::NoMemory,
     }

@@ -43,13 +43,17 @@ use Asked::{Delete, Drop, Mark, MarkOther, Put};
 use Told::{Done, Failed, Full, Other, Took};
 
 /// What a trail shows of what came.
+const FILED: BriefKind = BriefKind::Files;
+
 const MARKED: BriefKind = BriefKind::Marked;
 
 const DROPPED: BriefKind = BriefKind::Dropped;
 
 const WROTE: BriefKind = BriefKind::Wrote(Tag::Put);
 
-/// A step, what it is answered, and what it tells of the entries that came, where it is a step at a record.
+const BURIED: BriefKind = BriefKind::Wrote(Tag::Del);
+
+/// A step, what it is answered, and what it tells of the entries that came: a write tells of all but its own.
 type Row = (Asked, Told, &'static [BriefKind]);
 
 /// No call fails.
@@ -91,12 +95,64 @@ const MARK_UNMADE: &[Row] = &[
     (Mark(1), Took(true), &[]),
 ];
 
-/// The put of a write fails, and was made: a drop that lists its directory settles it, and a mark leaves it.
+/// The put of a write fails, and was made: a drop that lists its directory settles it, and a mark leaves it. Its record was filed before.
 const WRITE_IN_DOUBT: &[Row] = &[
-    (Put(30), Failed, &[]),
+    (Put(30), Failed, &[FILED]),
     (Mark(1), Took(true), &[MARKED]),
     (Drop(&[1, 2]), Took(false), &[WROTE]),
     (Drop(&[1]), Took(true), &[DROPPED]),
+];
+
+/// A write that settles the one before it tells of that, which then refuses it.
+const WRITE_AGAIN: &[Row] = &[
+    (Put(30), Failed, &[FILED]),
+    (Put(30), Other, &[WROTE]),
+    (Put(40), Done(3), &[]),
+];
+
+/// It tells of a doubt and of its own record, where its own file fails too.
+const WRITE_AFTER: &[Row] = &[
+    (Put(30), Failed, &[FILED]),
+    (Delete(40), Failed, &[WROTE, FILED]),
+    (Put(50), Done(5), &[BURIED]),
+];
+
+/// The put of a write's record fails, and was made: the same write finds it.
+const RECORD_IN_DOUBT: &[Row] = &[
+    (Put(30), Failed, &[]),
+    (Put(30), Done(2), &[FILED]),
+    (Delete(40), Done(3), &[]),
+];
+
+/// It fails, and wasn't made.
+const RECORD_UNMADE: &[Row] = &[(Put(30), Failed, &[]), (Put(30), Done(1), &[])];
+
+/// It stands until its file can be read.
+const RECORD_UNREAD: &[Row] = &[
+    (Put(30), Failed, &[]),
+    (Put(30), Failed, &[]),
+    (Put(30), Done(2), &[FILED]),
+];
+
+/// No other write settles it, nor one that is refused.
+const RECORD_LEFT: &[Row] = &[
+    (Put(30), Failed, &[]),
+    (Put(40), Done(1), &[]),
+    (Put(30), Other, &[]),
+    (Delete(50), Done(2), &[]),
+];
+
+/// A mark at the record settles it: there it stood before, so that it was made in any case.
+const RECORD_MARKED: &[Row] = &[
+    (Put(20), Failed, &[]),
+    (Mark(1), Took(true), &[FILED, MARKED]),
+];
+
+/// A new record takes the place of the one that stood, with its marks.
+const RECORD_ANEW: &[Row] = &[
+    (Mark(1), Took(true), &[MARKED]),
+    (Put(20), Done(2), &[]),
+    (Mark(1), Took(true), &[MARKED]),
 ];
 
 /// The unlink fails, and was made.
@@ -123,7 +179,15 @@ const COURSES: &[(u64, &[(u64, bool)], &[Row])] = &[
     (10, CALM, GONE),
     (10, &[(2, true)], MARK_IN_DOUBT),
     (10, &[(2, false)], MARK_UNMADE),
-    (10, &[(2, true)], WRITE_IN_DOUBT),
+    (10, &[(3, true)], WRITE_IN_DOUBT),
+    (10, &[(3, true)], WRITE_AGAIN),
+    (10, &[(3, true), (6, true)], WRITE_AFTER),
+    (10, &[(2, true)], RECORD_IN_DOUBT),
+    (10, &[(2, false)], RECORD_UNMADE),
+    (10, &[(2, true), (4, false)], RECORD_UNREAD),
+    (10, &[(2, true)], RECORD_LEFT),
+    (10, &[(2, false)], RECORD_MARKED),
+    (10, CALM, RECORD_ANEW),
     (10, &[(3, true)], DROP_IN_DOUBT),
     (10, &[(1, false)], UNREAD),
     (1, CALM, ONE_ENTRY),
@@ -174,7 +238,7 @@ impl Lock {
         let change = change_of(alloc, &self.secrets, asked)?;
         let mut briefs = Vec::new(alloc);
         let answer = if change.is_write() {
-            self.dir.change(alloc, &name, change)
+            self.dir.change(alloc, &name, change, &mut briefs)
         } else {
             self.dir.record(alloc, &name, &change, &mut briefs)
         };
@@ -306,7 +370,8 @@ fn what_is_filed_is_read_and_its_row_told(rt: HostRuntime) -> Result<(), Fail> {
     assert!(rt; lock.has_records(alloc, &[&[2]]));
     let _ = lock.step(alloc, Delete(30))?;
     assert!(rt; lock.tells(alloc, Some((30, 0, true)))?);
+    assert!(rt; lock.has_records(alloc, &[&[2], &[]]));
     let _ = lock.step(alloc, Drop(&[2]))?;
-    assert!(rt; lock.has_records(alloc, &[]));
+    assert!(rt; lock.has_records(alloc, &[&[]]));
     Ok(())
 }

@@ -89,7 +89,7 @@ const THREE_BYTES: &[Row] = &[
 /// Limits of the journal, calls of the volume that fail with or without their change, and steps.
 type Run = (Limits, &'static [(u64, bool)], &'static [Row]);
 
-const RUNS: [Run; 14] = [
+const RUNS: [Run; 15] = [
     (AMPLE, &[], STEPS),
     (AMPLE, &[], MORE_STEPS),
     (AMPLE, &[], TRANSFERS),
@@ -97,29 +97,39 @@ const RUNS: [Run; 14] = [
     (AMPLE, &[], RESTARTED),
     ((1, 100), &[], ONE_ENTRY),
     ((10, 3), &[], THREE_BYTES),
-    // The second call puts the write's file. Where it fails, the next step finds out whether the write was made.
+    // The third call puts the write's file. Where it fails, the next step finds out whether the write was made.
+    (
+        AMPLE,
+        &[(2, true)],
+        &[
+            (O, Put(20), Failed),
+            (O, Get, Object(20, 2)),
+            (O, Put(30), Done(3)),
+        ],
+    ),
+    (
+        AMPLE,
+        &[(2, false)],
+        &[
+            (O, Put(20), Failed),
+            (O, Get, NotFound),
+            (O, Put(30), Done(2)),
+        ],
+    ),
+    // The second one files its record. Where that fails, nothing came of the write.
     (
         AMPLE,
         &[(1, true)],
         &[
             (O, Put(20), Failed),
-            (O, Get, Object(20, 1)),
-            (O, Put(30), Done(2)),
-        ],
-    ),
-    (
-        AMPLE,
-        &[(1, false)],
-        &[
-            (O, Put(20), Failed),
             (O, Get, NotFound),
-            (O, Put(30), Done(1)),
+            (O, Put(20), Done(2)),
         ],
     ),
     // A restart begins with what was made.
     (
         AMPLE,
-        &[(1, true)],
+        &[(2, true)],
         &[
             (O, Put(20), Failed),
             (O, Restart, Nothing),
@@ -129,11 +139,11 @@ const RUNS: [Run; 14] = [
     // The settling itself fails, and is tried again.
     (
         AMPLE,
-        &[(1, true), (2, true)],
+        &[(2, true), (3, true)],
         &[
             (O, Put(20), Failed),
             (O, Get, Failed),
-            (O, Get, Object(20, 1)),
+            (O, Get, Object(20, 2)),
         ],
     ),
     // What stands couldn't be listed.
@@ -146,16 +156,16 @@ const RUNS: [Run; 14] = [
             (O, Put(20), Done(1)),
         ],
     ),
-    // A doubt counts for the limits once it is settled.
+    // A doubt counts for the limits once it is settled, and the record that was filed for it does in any case.
     (
-        (1, 100),
-        &[(1, true)],
+        (2, 100),
+        &[(2, true)],
         &[(O, Put(20), Failed), (O, Put(30), Full)],
     ),
     (
-        (1, 100),
-        &[(1, false)],
-        &[(O, Put(20), Failed), (O, Put(30), Done(1))],
+        (2, 100),
+        &[(2, false)],
+        &[(O, Put(20), Failed), (O, Put(30), Done(2))],
     ),
 ];
 
