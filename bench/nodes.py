@@ -17,6 +17,7 @@ import tempfile
 TOP = pathlib.Path(__file__).resolve().parent.parent
 RING = TOP / "examples" / "two-devices.ring.json"
 FILE_NAME = re.compile(r"[0-9]{10}\.[0-9]{5}\.(data|meta|ts)")
+RECORD_NAME = re.compile(r"[0-9a-f]{29}([0-9a-f]{3})-([0-9]{10}\.[0-9]{5})")
 
 
 @functools.lru_cache(maxsize=None)
@@ -136,6 +137,28 @@ def fault_of(path):
 def files_below(folder):
     """All files below `objects` of all locks."""
     return [path for path in pathlib.Path(folder, "swc-data").glob("*/*/objects/**/*") if path.is_file()]
+
+
+def records_below(folder):
+    """All records of updates of all locks."""
+    return [path for path in pathlib.Path(folder, "swc-data").glob("*/*/async_pending/**/*") if path.is_file()]
+
+
+def record_of(path):
+    """Where the record of the write stands that put this file below `objects`, or None of metadata, which has none."""
+    directory, (time, _, kind) = path.parent, path.name.rpartition(".")
+    return directory.parents[3] / "async_pending" / directory.parent.name / f"{directory.name}-{time}" if kind != "meta" else None
+
+
+def fault_of_record(path):
+    """What is wrong with a record of an update, or None: it is to be whole, with its own time, in the folder of its suffix, and no device was told yet."""
+    named = RECORD_NAME.fullmatch(path.name)
+    if not named:
+        return "its name isn't a record's"
+    if named[1] != path.parent.name:
+        return "it is in the folder of another suffix"
+    whole = rf"SWC1 pending\npath /[^ \n]+\ntime {re.escape(named[2])}\nqueue 0\ndone -\n\n"
+    return None if re.fullmatch(whole.encode(), path.read_bytes()) else "it isn't a record of its time that no device was told of"
 
 
 def databases_below(folder):

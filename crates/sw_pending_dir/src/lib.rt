@@ -8,8 +8,8 @@
 //! say what each call makes of it, for this key and for all others, under whatever secrets, and that no call changes any other file. A file below
 //! `async_pending` whose name hasn't the form of a record's, or which is in another folder than that of its key, is passed over.
 //!
-//! There is no journal here and nothing is remembered between two calls. The next layer up is `sw_objdir`, whose steps at records are made of these
-//! calls; no command files any record yet.
+//! There is no journal here and nothing is remembered between two calls. The next layer up is `sw_objdir`, which files a record for each put and
+//! deletion of a client, and whose steps at records are made of these calls.
 #![tactic(auto)]
 
 mod fault;
