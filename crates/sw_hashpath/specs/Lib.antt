@@ -2,3 +2,4 @@ pub mod BadFiles
 pub mod BadNames
 pub mod HashParts
 pub mod Paths
+pub mod Places

@@ -1,3 +1,4 @@
 mod Accepted
 mod JsonTexts
 pub mod Repeats
+mod Stripes

@@ -72,6 +72,15 @@ impl Ring {
         Some(place as u8)
     }
 
+    /// How many locks for objects a device has.
+    pub fn stripes(&self) -> u8
+        ensures value { result ≡ 2 ^ self.now.lock_bits }
+        ensures least { 1 ≤ result }
+        ensures most { result ≤ 16 }
+    {
+        1 << self.lock_bits
+    }
+
     /// A ring that is equal to this one, or [`NoMemory`].
     pub fn copy(&self, alloc: Global) -> Result<Ring, NoMemory>
         ensures { IfOk result (λ copy. copy ≡ self.now) }
