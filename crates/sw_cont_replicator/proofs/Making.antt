@@ -8,9 +8,9 @@ use Rattle.sw_container_steps.specs.declared.cont_change.ContChange.TheVariants.
 use Rattle.sw_container_steps.specs.declared.syncing.Parcel.{Parcel}
 use Rattle.sw_cont_replicator.proofs.Entering.{BringsOnly, Merges, Sets, merges-same, merges-trans, step-has, step-merges, step-sets}
 use Rattle.sw_cont_replicator.specs.Meeting.{HasRow, IsTold, replica}
-use Rattle.sw_cont_replicator.specs.Pushing.{is_acknowledged}
 use Rattle.sw_hashpath.specs.declared.place.Place.{Place}
 use Rattle.sw_keeper.specs.declared.tables.Tables.{Tables}
+use Rattle.sw_pass.specs.Outcomes.{is_acknowledged}
 use Rattle.sw_peer.proofs.Calls.{comes-moves}
 use Rattle.sw_peer.proofs.ContCalls.{cont-made-step, cont-moves-refl, cont-moves-trans, look-step}
 use Rattle.sw_peer.specs.ContSights.{ContMoves, IsContMade, IsIn, IsLooked}

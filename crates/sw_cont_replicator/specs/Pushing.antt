@@ -2,13 +2,12 @@
 -- (OpenStack Swift's container replicator sends the rows above a sync point; that each row is a message of its own is this project's own.)
 use Rattle.std.specs.Prelude.{◌≡◌, ◌≢◌, ℕ, Bool, true, false, None, Some, ◌⊎◌, Result, Ok, Err}
 use Rattle.sw_container_steps.specs.Reads.{parcel_of}
-use Rattle.sw_container_steps.specs.Rules.{cont_ending}
 use Rattle.sw_container_steps.specs.declared.cont_answer.ContAnswer.{ContAnswer}
 use Rattle.sw_container_steps.specs.declared.cont_change.ContChange.TheVariants.{MergeRow, SetSync}
 use Rattle.sw_container_steps.specs.declared.syncing.Parcel.{Parcel}
 use Rattle.sw_hashpath.specs.declared.place.Place.{Place}
 use Rattle.sw_outside.specs.declared.errors.NoMemory.{NoMemory}
-use Rattle.sw_pass.specs.Outcomes.{Hinders, cont_hindrance, finished_where, keeping, losing, nothing_yet, sending}
+use Rattle.sw_pass.specs.Outcomes.{Hinders, cont_hindrance, finished_where, is_acknowledged, keeping, losing, nothing_yet, sending}
 use Rattle.sw_pass.specs.Turns.{InTurn}
 use Rattle.sw_pass.specs.declared.hindrance.Hindrance.{Hindrance}
 use Rattle.sw_pass.specs.declared.outcome.Outcome.{Outcome}
@@ -18,7 +17,6 @@ use Rattle.sw_peer.specs.declared.cont_event.ContEvent.TheVariants.{Parceled}
 use Rattle.sw_peer.specs.declared.link.Link.TheVariants.{Local, Sent}
 use Rattle.sw_peer.specs.declared.link.Lost.{Lost}
 use Rattle.sw_rows.specs.declared.row.Row.{Row}
-use Rattle.sw_step.specs.Rules.{has_made}
 
 -- the container at these two devices
 abbrev pub IsOfPair : ℕ → ℕ → Place → ℕ → Place → Type 0
@@ -28,10 +26,6 @@ abbrev pub PairMoves : ℕ → ℕ → Place → Sight → Sight → Type 0
 PairMoves from to place old new = ContMoves (IsOfPair from to place) old new
 
 -- ---- counts
-
--- whether the step was made, or had nothing to change: the device has what it brought
-abbrev pub is_acknowledged : ContAnswer → Bool
-is_acknowledged answer = has_made (cont_ending answer)
 
 -- what the answer to a row's message counts for
 abbrev pub CountsFor : Result ContAnswer Lost → Outcome → Outcome → Bool → Type 0

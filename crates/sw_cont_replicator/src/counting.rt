@@ -1,11 +1,11 @@
 ghost use Rattle.std.specs.Prelude.{◌≡◌, Ok};
 ghost use Rattle.std.specs.Result.{is_ok};
-ghost use Rattle.sw_cont_replicator.specs.Pushing.{CountsFor, PointCounts, is_acknowledged as is_acknowledged_by, point_told};
+ghost use Rattle.sw_cont_replicator.specs.Pushing.{CountsFor, PointCounts, point_told};
 ghost use Rattle.sw_pass.specs.Outcomes.{Hinders};
 
 use sw_container_steps::ContAnswer;
 use sw_outside::NoMemory;
-use sw_pass::{Hindrance, Outcome};
+use sw_pass::{Hindrance, Outcome, is_acknowledged};
 
 /// Counts an answer that gave nothing. Want of memory is none of these: it ends the push.
 pub(crate) fn hinder(hindrance: Option<Hindrance>, outcome: &mut Outcome) -> Result<(), NoMemory>
@@ -45,14 +45,4 @@ pub(crate) fn count_point(answer: &ContAnswer, outcome: &mut Outcome) -> Result<
         }
         None => Err(NoMemory),
     }
-}
-
-/// Whether the step was made, or had nothing to change.
-fn is_acknowledged(answer: &ContAnswer) -> bool
-    ensures { result ≡ is_acknowledged_by answer.now }
-{
-    matches!(
-        answer,
-        ContAnswer::New(_) | ContAnswer::There(_) | ContAnswer::Done(_)
-    )
 }

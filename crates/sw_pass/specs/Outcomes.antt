@@ -1,12 +1,14 @@
 -- What a pass came to, and what each event counts for. (This project's own.)
 use Rattle.std.specs.Prelude.{◌≡◌, ◌==◌, ◌&&◌, ℕ, Bool, true, false, Option, None, Some}
 use Rattle.sw_outside.specs.Counts.{raised}
+use Rattle.sw_container_steps.specs.Rules.{cont_ending}
 use Rattle.sw_container_steps.specs.declared.cont_answer.ContAnswer.{ContAnswer}
 use Rattle.sw_container_steps.specs.declared.cont_answer.ContAnswer.TheVariants as conts
 use Rattle.sw_object_steps.specs.declared.answer.Answer.{Answer}
 use Rattle.sw_object_steps.specs.declared.answer.Answer.TheVariants as answers
 use Rattle.sw_object_steps.specs.declared.dir_fault.DirFault.{DirFault}
 use Rattle.sw_object_steps.specs.declared.dir_fault.DirFault.TheVariants as faults
+use Rattle.sw_step.specs.Rules.{has_made}
 use Rattle.sw_pass.specs.declared.hindrance.Hindrance.{Hindrance}
 use Rattle.sw_pass.specs.declared.hindrance.Hindrance.TheVariants.{Conflict, Failed, JournalFull, Missing}
 use Rattle.sw_pass.specs.declared.outcome.Outcome.{Outcome}
@@ -50,6 +52,10 @@ cont_hindrance (conts.NotEmpty count) = Some Conflict
 cont_hindrance conts.JournalFull = Some JournalFull
 cont_hindrance conts.Failed = Some Failed
 cont_hindrance conts.NoMemory = None
+
+-- a step at a container is acknowledged where it was made, or had nothing to change: the device has what it brought
+abbrev pub is_acknowledged : ContAnswer → Bool
+is_acknowledged answer = has_made (cont_ending answer)
 
 -- ---- counts
 

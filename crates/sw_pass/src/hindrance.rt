@@ -1,5 +1,5 @@
 ghost use Rattle.std.specs.Prelude.{◌≡◌};
-ghost use Rattle.sw_pass.specs.Outcomes.{answer_hindrance, cont_hindrance, fault_hindrance, status_of};
+ghost use Rattle.sw_pass.specs.Outcomes.{answer_hindrance, cont_hindrance, fault_hindrance, is_acknowledged as is_acknowledged_by, status_of};
 
 use sw_container_steps::ContAnswer;
 use sw_object_steps::{Answer, DirFault};
@@ -77,4 +77,14 @@ impl Hindrance {
             ContAnswer::NoMemory => None,
         }
     }
+}
+
+/// Whether a step at a container was made, or had nothing to change.
+pub fn is_acknowledged(answer: &ContAnswer) -> bool
+    ensures { result ≡ is_acknowledged_by answer.now }
+{
+    matches!(
+        answer,
+        ContAnswer::New(_) | ContAnswer::There(_) | ContAnswer::Done(_)
+    )
 }

@@ -10,5 +10,5 @@
 mod hindrance;
 mod outcome;
 
-pub use hindrance::Hindrance;
+pub use hindrance::{Hindrance, is_acknowledged};
 pub use outcome::Outcome;
