@@ -1,8 +1,6 @@
 -- Reading stripes, one after the other.
-use Rattle.std.proofs.Common.{◌≡◌, ◌≢◌, ◌∙◌, ℕ, ◌+◌, ◌-◌, ◌*◌, ◌%◌, ◌^◌, ◌<◌, ◌≤◌, zero, suc, List, ◌∷◌, ◌++◌, ap, inl, inr, refl, subst, sym, arith}
+use Rattle.std.proofs.Common.{◌≡◌, ◌≢◌, ◌∙◌, ℕ, ◌+◌, ◌-◌, zero, suc, List, ◌∷◌, ◌++◌, ap, inl, inr, refl, subst, sym, arith}
 use Rattle.std.proofs.Common.{Result, Ok, Err, IsErr}
-use Rattle.std.proofs.Math.Nat.{pow-le-pow_right}
-use Rattle.std.proofs.lemmas.Nat.{one_shl}
 use Rattle.std.specs.List.{range_with_len}
 use Rattle.std.specs.declared.alloc.Global.{Global}
 use Rattle.std.specs.declared.vec.Vec.{Vec}
@@ -15,10 +13,6 @@ use Rattle.sw_peer.specs.declared.link.Lost.{Lost}
 use Rattle.sw_pending.specs.declared.filed.Filed.{Filed}
 use Rattle.sw_updater.specs.Reading.{AreRead, joined_with}
 use Rattle.sw_updater.specs.Tasks.{Gives}
-
--- a device has 16 stripes at most
-pub few : (bits : ℕ) → bits ≤ 4 → 1 * 2 ^ bits % 2 ^ 8 ≤ 16
-few bits h = let within : bits < 8 = omega (arith, h) in rw (one_shl bits 8 within) (pow-le-pow_right {n = 2} (omega arith) h)
 
 stripes-are : (stripe count : ℕ) → count ≢ 0 → range_with_len stripe count ≡ stripe ∷ range_with_len (stripe + 1) (count - 1)
 stripes-are stripe zero some = absurd (some refl)

@@ -1,16 +1,9 @@
 -- What the events of an update count for. A record that wasn't settled is left once, however many of its devices weren't told. (This project's own.)
 use Rattle.std.specs.Prelude.{◌≡◌, Bool, true, false, Option, None, Some, if◌then◌else◌}
-use Rattle.sw_container_steps.specs.Rules.{cont_ending}
-use Rattle.sw_container_steps.specs.declared.cont_answer.ContAnswer.{ContAnswer}
 use Rattle.sw_outside.specs.Counts.{raised}
 use Rattle.sw_pass.specs.Outcomes.{keeping}
 use Rattle.sw_pass.specs.declared.hindrance.Hindrance.{Hindrance}
 use Rattle.sw_pass.specs.declared.outcome.Outcome.{Outcome}
-use Rattle.sw_step.specs.Rules.{has_made}
-
--- whether the container has the row that was sent to it
-abbrev pub is_acknowledged : ContAnswer → Bool
-is_acknowledged answer = has_made (cont_ending answer)
 
 -- a message wasn't answered
 abbrev pub unanswered : Outcome → Outcome

@@ -1,15 +1,18 @@
 -- Which records an update goes over: those of all stripes of its device, in order of folder and name. (This project's own.)
-use Rattle.std.specs.Prelude.{◌≡◌, ℕ, Bool, List, [], ◌∷◌, ◌++◌, ◌⊎◌, Result, Ok, Err}
+use Rattle.std.specs.Prelude.{◌≡◌, ℕ, ◌^◌, Bool, List, [], ◌∷◌, ◌++◌, ◌⊎◌, Result, Ok, Err}
+use Rattle.std.specs.List.{range_with_len}
 use Rattle.std.specs.List.Sorted.{IsPermutation, IsSortedBy}
 use Rattle.std.specs.Ordering.{is_lt}
 use Rattle.std.specs.declared.alloc.Global.{Global}
 use Rattle.std.specs.declared.vec.Vec.{Vec}
 use Rattle.sw_object_steps.specs.declared.dir_fault.DirFault.{DirFault}
+use Rattle.sw_outside.specs.declared.errors.NoMemory.{NoMemory}
 use Rattle.sw_peer.specs.Sights.{Calls, IsRecordsRead, Sight}
 use Rattle.sw_peer.specs.declared.link.Link.TheVariants.{Local}
 use Rattle.sw_pending.specs.Orders.{key_cmp}
 use Rattle.sw_pending.specs.Records.{key_of}
 use Rattle.sw_pending.specs.declared.filed.Filed.{Filed}
+use Rattle.sw_ring.specs.declared.ring.Ring.{Ring}
 
 -- what was read of one stripe, in front of what was read of the later ones
 abbrev pub joined_with : List Filed → Result (List Filed) DirFault → Result (List Filed) DirFault
@@ -32,3 +35,13 @@ comes_before filed other = is_lt (key_cmp (key_of filed) (key_of other))
 pub record IsOrderOf (records ordered : List Filed) : Type 0 where
   pub same : IsPermutation records ordered
   pub sorted : IsSortedBy comes_before ordered
+
+-- all stripes of a device of the ring were read
+abbrev pub AreAllRead : Ring → ℕ → Sight → Result (List Filed) DirFault → Sight → Type 0
+AreAllRead ring device = AreRead device (range_with_len 0 (2 ^ ring.lock_bits))
+
+-- what that answered: all records in their order, or the first fault. Memory for joining them is wanted only after all were read
+abbrev pub ArePending : Ring → ℕ → Sight → Result (Result (Vec Filed Global) DirFault) NoMemory → Sight → Type 0
+ArePending ring device s (Ok (Ok ordered)) t = (records : List Filed) × AreAllRead ring device s (Ok records) t × IsOrderOf records ordered.items
+ArePending ring device s (Ok (Err fault)) t = AreAllRead ring device s (Err fault) t
+ArePending ring device s (Err wanting) t = (records : List Filed) × AreAllRead ring device s (Ok records) t

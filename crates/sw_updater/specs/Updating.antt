@@ -1,16 +1,16 @@
 -- The calls of an update, one after the other, and what it counts. (OpenStack Swift's object updater sends each pending update to the containers that
 -- haven't had it. That it sends the row of what stands now, and marks each device by itself, is this project's own.)
-use Rattle.std.specs.Prelude.{◌≡◌, ℕ, ◌^◌, Bool, true, false, not, filter, List, Option, None, Some, ◌⊎◌, Result, Ok, Err}
-use Rattle.std.specs.List.{range_with_len}
+use Rattle.std.specs.Prelude.{◌≡◌, ℕ, Bool, true, false, not, filter, List, Option, None, Some, ◌⊎◌, Result, Ok, Err}
 use Rattle.sw_container_steps.specs.declared.cont_answer.ContAnswer.{ContAnswer}
 use Rattle.sw_container_steps.specs.declared.cont_change.ContChange.TheVariants.{MergeRow}
+use Rattle.sw_hashpath.specs.Places.{IsPlaceOf}
 use Rattle.sw_hashpath.specs.declared.place.Place.{Place}
 use Rattle.sw_object_steps.specs.declared.answer.Answer.{Answer}
 use Rattle.sw_object_steps.specs.declared.answer.Answer.TheVariants as answers
 use Rattle.sw_object_steps.specs.declared.change.Change.TheVariants.{DropRecord, MarkRecord}
 use Rattle.sw_object_steps.specs.declared.dir_fault.DirFault.{DirFault}
 use Rattle.sw_outside.specs.declared.errors.NoMemory.{NoMemory}
-use Rattle.sw_pass.specs.Outcomes.{Hinders, answer_hindrance, cont_hindrance, fault_hindrance, finished, nothing_yet, sending}
+use Rattle.sw_pass.specs.Outcomes.{Hinders, answer_hindrance, cont_hindrance, fault_hindrance, finished, is_acknowledged, nothing_yet, sending}
 use Rattle.sw_pass.specs.Turns.{InTurn}
 use Rattle.sw_pass.specs.declared.outcome.Outcome.{Outcome}
 use Rattle.sw_peer.specs.ContSights.{IsContMade}
@@ -21,9 +21,9 @@ use Rattle.sw_pending.specs.Rules.{is_done}
 use Rattle.sw_pending.specs.declared.filed.Filed.{Filed}
 use Rattle.sw_ring.specs.declared.ring.Ring.{Ring}
 use Rattle.sw_rows.specs.declared.row.Row.{Row}
-use Rattle.sw_updater.specs.Counting.{Keeps, is_acknowledged, leaving, unanswered}
-use Rattle.sw_updater.specs.Places.{AreReplicas, IsPlaceOf}
-use Rattle.sw_updater.specs.Reading.{AreRead, IsOrderOf}
+use Rattle.sw_updater.specs.Counting.{Keeps, leaving, unanswered}
+use Rattle.sw_updater.specs.Places.{AreReplicas}
+use Rattle.sw_updater.specs.Reading.{AreAllRead, IsOrderOf}
 
 -- what is known of the nodes, and whether anything was missed for the record so far
 pub record Course : Type 0 where
@@ -136,6 +136,6 @@ IsGoneOver ring device (Err fault) s t p on = (t ≡ s) × Hinders (fault_hindra
 -- and what it is answered
 abbrev pub IsUpdate : Ring → ℕ → Sight → Result Outcome NoMemory → Sight → Type 0
 IsUpdate ring device s (Ok outcome) t = (got : Result (List Filed) DirFault) × (mid : Sight) × (p : Outcome)
-    × AreRead device (range_with_len 0 (2 ^ ring.lock_bits)) s got mid × IsGoneOver ring device got mid t p true × (outcome ≡ finished p)
+    × AreAllRead ring device s got mid × IsGoneOver ring device got mid t p true × (outcome ≡ finished p)
 IsUpdate ring device s (Err wanting) t = (got : Result (List Filed) DirFault) × (mid : Sight) × (p : Outcome)
-    × AreRead device (range_with_len 0 (2 ^ ring.lock_bits)) s got mid × IsGoneOver ring device got mid t p false
+    × AreAllRead ring device s got mid × IsGoneOver ring device got mid t p false

@@ -1,9 +1,8 @@
 ghost use Rattle.std.specs.Prelude.{◌≡◌, true};
 ghost use Rattle.std.specs.Result.{is_ok};
 ghost use Rattle.sw_pass.specs.Outcomes.{Hinders};
-ghost use Rattle.sw_updater.specs.Counting.{Keeps, is_acknowledged as is_acknowledged_by, leaving, unanswered};
+ghost use Rattle.sw_updater.specs.Counting.{Keeps, leaving, unanswered};
 
-use sw_container_steps::ContAnswer;
 use sw_outside::NoMemory;
 use sw_pass::{Hindrance, Outcome};
 
@@ -53,14 +52,4 @@ pub(crate) fn leave(missed: bool, outcome: &mut Outcome)
     if missed {
         outcome.left = outcome.left.saturating_add(1);
     }
-}
-
-/// Whether the container has the row that was sent to it.
-pub(crate) fn is_acknowledged(answer: &ContAnswer) -> bool
-    ensures { result ≡ is_acknowledged_by answer.now }
-{
-    matches!(
-        answer,
-        ContAnswer::New(_) | ContAnswer::There(_) | ContAnswer::Done(_)
-    )
 }

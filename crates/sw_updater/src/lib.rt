@@ -6,12 +6,13 @@
 //! would have to be told. So a lost message or an answer that refuses leaves the record, and a later pass goes on with the devices that aren't marked.
 //!
 //! `specs/Updating` has the calls of a pass in their order and what each counts for, `specs/Reading` which records it goes over, `specs/Places` which
-//! container a record tells, and `specs/Causes` why a pass isn't done.
+//! devices keep the container that a record tells, `specs/Causes` why a pass isn't done, and `specs/Laws` what became of the records where it is.
 //!
-//! No command makes a pass yet. The next layer up will be `sw_steps`, which makes passes among the steps of all nodes.
+//! [`pending`] reads these records alone, for who wants to look at them. The next layer up is `sw_steps`, where messages of a pass are lost and repeated.
 #![tactic(auto)]
 
 mod counting;
+pub mod laws;
 mod ordering;
 mod reading;
 mod settling;
@@ -19,4 +20,4 @@ mod task;
 mod telling;
 mod updating;
 
-pub use updating::update;
+pub use updating::{pending, update};

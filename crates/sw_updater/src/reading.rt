@@ -10,15 +10,6 @@ use sw_object_steps::DirFault;
 use sw_outside::NoMemory;
 use sw_peer::{ContainerDoor, Link, PendingDoor};
 use sw_pending::Filed;
-use sw_ring::Ring;
-
-/// How many stripes a device of the ring has.
-pub(crate) fn stripes(ring: &Ring) -> u8
-    ensures value { result ≡ 2 ^ ring.now.lock_bits }
-    ensures most { result ≤ 16 }
-{
-    1 << ring.lock_bits
-}
 
 /// The records of so many stripes of the device, from one on.
 ///

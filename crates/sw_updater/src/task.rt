@@ -1,6 +1,7 @@
 ghost use Rattle.std.specs.Prelude.{◌≡◌, None, Some, Ok, IfOk, true};
 ghost use Rattle.sw_pending.specs.Outcomes.{IsRecord};
-ghost use Rattle.sw_updater.specs.Places.{AreReplicas, IsPlace, IsPlaceOf};
+ghost use Rattle.sw_hashpath.specs.Places.{IsPlace, IsPlaceOf};
+ghost use Rattle.sw_updater.specs.Places.{AreReplicas};
 ghost use Rattle.sw_updater.specs.Tasks.{AreKnown};
 
 use std::alloc::Global;

@@ -8,13 +8,13 @@ ghost use Rattle.sw_rows.specs.declared.row.Row.{Row as ToldRow};
 ghost use Rattle.sw_updater.specs.Tasks.{IsFor};
 ghost use Rattle.sw_updater.specs.Updating.{IsHeard, IsMarkCounted, IsMarked, IsTold, course, to_tell};
 
-use crate::counting::{count_unanswered, is_acknowledged, miss};
+use crate::counting::{count_unanswered, miss};
 use crate::task::Task;
 use std::alloc::Global;
 use sw_container_steps::{ContAnswer, ContChange};
 use sw_object_steps::{Answer, Change};
 use sw_outside::NoMemory;
-use sw_pass::{Hindrance, Outcome};
+use sw_pass::{Hindrance, Outcome, is_acknowledged};
 use sw_peer::{ContainerDoor, Link, Lost, PendingDoor};
 use sw_rows::Row;
 
