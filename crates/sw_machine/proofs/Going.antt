@@ -8,8 +8,8 @@ use Rattle.sw_peer.specs.declared.link.Link.{Link}
 use Rattle.sw_peer.specs.declared.link.Link.TheVariants.{Local, Sent}
 use Rattle.sw_peer.specs.declared.link.Lost.{Lost}
 use Rattle.sw_machine.proofs.Runs.{joins, sends}
-use Rattle.sw_machine.specs.Doors.{ChangesGoOn, GoesOn, GoesOnBy, GoesOnUnsent, GoingOnJoins, ReadsGoOn, RunsOnJoin, SameGoesOn, SendingGoesOn}
-use Rattle.sw_machine.specs.Doors.{StandsFor}
+use Rattle.sw_machine.specs.Doors.{AreLinesOf, ChangesGoOn, EndsAsHeard, GoesOn, GoesOnBy, GoesOnByLines, GoingOnJoins, LeaveRecords, ReadsGoOn}
+use Rattle.sw_machine.specs.Doors.{RunsOn, RunsOnJoin, RunsOnLeaving, SameGoesOn, SendingGoesOn, StandsFor, leaves_records}
 use Rattle.sw_machine.specs.Machine.{Came, Machine, RunLine, Runs, Went, came_in, went_in}
 use Rattle.sw_machine.specs.Messages.{Message, WasSent}
 
@@ -92,15 +92,32 @@ sending-goes s m from message stands carries = (
 alone-before : (s t : Sight) → IsSame s t → t.alone ≡ true → s.alone ≡ true
 alone-before s t same alone = sym (ap (λ (x : Sight). x.alone) same.same) ∙ alone
 
-went-append : (xs ys : List RunLine) → went_in xs ≡ [] → went_in (xs ++ ys) ≡ went_in ys
-went-append [] ys none = refl
-went-append (Came line ∷ xs) ys none = went-append xs ys none
-went-append (Went from message ∷ xs) ys none = cc
+module _ {A E : Type 0} (line : A → List E → Line) (wanting : A → Bool) where
+  -- lines of such steps send nothing
+  none-sent : (lines : List RunLine) → AreLinesOf line wanting lines → went_in lines ≡ []
+  none-sent [] are = refl
+  none-sent (Came one ∷ lines) are = none-sent lines are.1
+  none-sent (Went from message ∷ lines) are = absurd are
 
--- a step goes on and sends nothing
-unsent : {E : Type 0} (s t : Sight) (m : Machine) (line : List E → Line) (wanting : Bool) → GoesOnBy s m line wanting t → GoesOnUnsent s m t
-unsent s t m line wanting (lines, inl is, goes) = (lines, ap went_in is.1, goes)
-unsent s t m line wanting (lines, inr none, goes) = (lines, ap went_in none.1, goes)
+  lines-append : (xs ys : List RunLine) → AreLinesOf line wanting xs → AreLinesOf line wanting ys → AreLinesOf line wanting (xs ++ ys)
+  lines-append [] ys are more = more
+  lines-append (Came one ∷ xs) ys are more = (are.0, lines-append xs ys are.1 more)
+  lines-append (Went from message ∷ xs) ys are more = absurd are
+
+  -- a step goes on by its line, or by none
+  one-line : (s t : Sight) (m : Machine) (x : A) → GoesOnBy s m (line x) (wanting x) t → GoesOnByLines line wanting s m (Ok x) t
+  one-line s t m x (lines, inl is, goes) =
+      (lines, subst (AreLinesOf line wanting) (sym is.1) ((x, is.0, refl), tt), inl ([], is.0, is.1), goes)
+  one-line s t m x (lines, inr none, goes) = (lines, subst (AreLinesOf line wanting) (sym none.1) tt, inr none.0, goes)
+
+  -- what was heard last was heard behind other lines too
+  ends-behind : (xs ys : List RunLine) (x : A) → EndsAsHeard line wanting (Ok x) ys → EndsAsHeard line wanting (Ok x) (xs ++ ys)
+  ends-behind xs ys x (inl is) = inl (
+    xs ++ is.0,
+    is.1,
+    ap (λ (zs : List RunLine). xs ++ zs) is.2 ∙ sym (append_assoc xs is.0 (Came (line x is.1) ∷ [])),
+  )
+  ends-behind xs ys x (inr wants) = inr wants
 
 -- each step goes on where what was sent lets it come
 module _ {A E : Type 0} (step : Sight → A → Sight → Type 0) (line : A → List E → Line) (wanting : A → Bool) (Lets : List Message → Type 0)
@@ -111,19 +128,51 @@ module _ {A E : Type 0} (step : Sight → A → Sight → Type 0) (line : A → 
     comes-back s [] t same alone = alone-before s t same alone
     comes-back s (x ∷ xs) t comes alone = back s x comes.0 comes.1 (comes-back comes.0 xs t comes.2 alone)
 
-    comes-run : (s : Sight) (xs : List A) (t : Sight) (m : Machine) → StandsFor s m → t.alone ≡ true → Lets m.sent → Comes step s xs t → GoesOnUnsent s m t
-    comes-run s [] t m stands alone lets same = ([], refl, (same-goes s m t stands same).0)
-    comes-run s (x ∷ xs) t m stands alone lets comes =
-        let first = unsent s comes.0 m (line x) (wanting x) (goes s x comes.0 m stands (comes-back comes.0 xs t comes.2 alone) lets comes.1) in
-        let sent : first.2.after.sent ≡ m.sent =
-        sends s.nodes m first.0 first.2.after first.2.run ∙ (ap (λ (ms : List Message). m.sent ++ ms) first.1 ∙ append-nil m.sent) in
-        let rest = comes-run comes.0 xs t first.2.after first.2.stands alone (subst Lets (sym sent) lets) comes.2 in
-        (first.0 ++ rest.0, went-append first.0 rest.0 first.1 ∙ rest.1, (going-joins s m first.0 comes.0 rest.0 t first.2 rest.2).0)
+    -- one step, and more of them behind it
+    then-more : (s : Sight) (x : A) (mid t : Sight) (m : Machine) (result : Result A Lost) → (first : GoesOnByLines line wanting s m (Ok x) mid)
+        → ((lets : first.3.after.sent ≡ m.sent) → GoesOnByLines line wanting mid first.3.after result t)
+        → ((ys : List RunLine) → EndsAsHeard line wanting result ys → EndsAsHeard line wanting result (first.0 ++ ys))
+        → GoesOnByLines line wanting s m result t
+    then-more s x mid t m result first more ends =
+        let sent : first.3.after.sent ≡ m.sent =
+        sends s.nodes m first.0 first.3.after first.3.run
+        ∙ (ap (λ (ms : List Message). m.sent ++ ms) (none-sent line wanting first.0 first.1) ∙ append-nil m.sent) in
+        let rest = more sent in (
+          first.0 ++ rest.0,
+          lines-append line wanting first.0 rest.0 first.1 rest.1,
+          ends rest.0 rest.2,
+          (going-joins s m first.0 mid rest.0 t first.3 rest.3).0,
+        )
+
+    first-of : (s : Sight) (x : A) (xs : List A) (t : Sight) (m : Machine) → StandsFor s m → t.alone ≡ true → Lets m.sent → (comes : Comes step s (x ∷ xs) t)
+        → GoesOnByLines line wanting s m (Ok x) comes.0
+    first-of s x xs t m stands alone lets comes =
+        one-line line wanting s comes.0 m x (goes s x comes.0 m stands (comes-back comes.0 xs t comes.2 alone) lets comes.1)
+
+    comes-run : (s : Sight) (xs : List A) (t : Sight) (m : Machine) → StandsFor s m → t.alone ≡ true → Lets m.sent → Comes step s xs t → (lost : Lost)
+        → GoesOnByLines line wanting s m (Err lost) t
+    comes-run s [] t m stands alone lets same lost = ([], tt, tt, (same-goes s m t stands same).0)
+    comes-run s (x ∷ xs) t m stands alone lets comes lost =
+        let first = first-of s x xs t m stands alone lets comes in
+        then-more s x comes.0 t m (Err lost) first
+        (λ sent. comes-run comes.0 xs t first.3.after first.3.stands alone (subst Lets (sym sent) lets) comes.2 lost) (λ ys is. tt)
+
+    -- the last of them was heard
+    heard-run : (s : Sight) (xs : List A) (y : A) (t : Sight) (m : Machine) → StandsFor s m → t.alone ≡ true → Lets m.sent → Comes step s (xs ++ y ∷ []) t
+        → GoesOnByLines line wanting s m (Ok y) t
+    heard-run s [] y t m stands alone lets comes =
+        let first = first-of s y [] t m stands alone lets comes in
+        (first.0, first.1, first.2, then-same s comes.0 t m first.0 first.3 comes.2)
+    heard-run s (x ∷ xs) y t m stands alone lets comes =
+        let first = first-of s x (xs ++ y ∷ []) t m stands alone lets comes in
+        then-more s x comes.0 t m (Ok y) first
+        (λ sent. heard-run comes.0 xs y t first.3.after first.3.stands alone (subst Lets (sym sent) lets) comes.2)
+        (λ ys is. ends-behind line wanting first.0 ys y is)
 
     calls-run : (link : Link) (s : Sight) (result : Result A Lost) (t : Sight) (m : Machine) → StandsFor s m → t.alone ≡ true → Lets m.sent
-        → Calls step s link result t → GoesOnUnsent s m t
-    calls-run link s (Ok answer) t m stands alone lets calls = comes-run s (calls.0 ++ answer ∷ []) t m stands alone lets calls.2
-    calls-run link s (Err lost) t m stands alone lets calls = comes-run s calls.2.0 t m stands alone lets calls.2.1
+        → Calls step s link result t → GoesOnByLines line wanting s m result t
+    calls-run link s (Ok answer) t m stands alone lets calls = heard-run s calls.0 answer t m stands alone lets calls.2
+    calls-run link s (Err lost) t m stands alone lets calls = comes-run s calls.2.0 t m stands alone lets calls.2.1 lost
 
     -- one at the device itself is one step, and then only counts of the door change
     call-once : (s : Sight) (x : A) (t : Sight) (m : Machine) → StandsFor s m → t.alone ≡ true → Lets m.sent → Calls step s Local (Ok x) t
@@ -161,7 +210,32 @@ module _ {A E : Type 0} (step : Link → Sight → A → Sight → Type 0) (line
         call-once (step Local) (line Local) wanting (λ sent. Unit {0}) (back Local) (λ s x t m stands alone lets made. goes Local s x t m stands alone made)
         s x t m stands alone tt calls;
     calls = λ link s result t alone calls m stands.
-        let run = calls-run (step link) (line link) wanting (λ sent. Unit {0}) (back link)
-        (λ s x t m stands alone lets made. goes link s x t m stands alone made) link s result t m stands alone tt calls in
-        (run.0, run.2);
+        calls-run (step link) (line link) wanting (λ sent. Unit {0}) (back link)
+        (λ s x t m stands alone lets made. goes link s x t m stands alone made) link s result t m stands alone tt calls;
   }
+
+-- ---- lines that leave records as they are
+
+pub leaving-append : (xs ys : List RunLine) → LeaveRecords xs → LeaveRecords ys → LeaveRecords (xs ++ ys)
+leaving-append [] ys leave more = more
+leaving-append (line ∷ xs) ys leave more = (leave.0, leaving-append xs ys leave.1 more)
+
+-- steps that all leave them
+pub lines-leaving : {A E : Type 0} (line : A → List E → Line) (wanting : A → Bool)
+    → ((x : A) (added : List E) → leaves_records (line x added).event ≡ true) → (lines : List RunLine) → AreLinesOf line wanting lines → LeaveRecords lines
+lines-leaving line wanting each [] are = tt
+lines-leaving line wanting each (Came one ∷ lines) are =
+    (ap (λ (l : Line). leaves_records l.event) are.0.2 ∙ each are.0.0 are.0.1, lines-leaving line wanting each lines are.1)
+lines-leaving line wanting each (Went from message ∷ lines) are = absurd are
+
+pub leaving-runs : (s t : Sight) → RunsOnLeaving s t → RunsOn s t
+leaving-runs s t runs m stands = let one = runs m stands in (one.0, one.2)
+
+pub leaving-join : (s t u : Sight) → RunsOnLeaving s t → RunsOnLeaving t u → RunsOnLeaving s u
+leaving-join s t u first next m stands =
+    let one = first m stands in
+    let two = next one.2.after one.2.stands in
+    (one.0 ++ two.0, leaving-append one.0 two.0 one.1 two.1, (going-joins s m one.0 t two.0 u one.2 two.2).0)
+
+pub leaving-same : (s t : Sight) → IsSame s t → RunsOnLeaving s t
+leaving-same s t same m stands = ([], tt, (same-goes s m t stands same).0)

@@ -1,5 +1,5 @@
 -- How a door that is alone stands for the machine, with a trail or without: each of its steps goes on with a run. (This project's own.)
-use Rattle.std.specs.Prelude.{◌≡◌, ℕ, Bool, true, List, [], ◌∷◌, ◌++◌, Option, Result, Ok, ◌⊎◌}
+use Rattle.std.specs.Prelude.{◌≡◌, ⊤, ℕ, Bool, true, List, [], ◌∷◌, ◌++◌, Option, Result, Ok, Err, ◌⊎◌}
 use Rattle.std.specs.Option.{option_map}
 use Rattle.sw_container_steps.specs.Reads.{info_of, listing_of, parcel_of, times_of}
 use Rattle.sw_container_steps.specs.declared.cont_answer.ContAnswer.{ContAnswer}
@@ -11,6 +11,7 @@ use Rattle.sw_hashpath.specs.declared.place.Place.{Place}
 use Rattle.sw_keeper.specs.declared.tables.Tables.{Tables}
 use Rattle.sw_listing.specs.declared.query.Query.{Query}
 use Rattle.sw_object_steps.specs.Journals.{Hash}
+use Rattle.sw_object_steps.specs.Recorded.{is_write}
 use Rattle.sw_object_steps.specs.declared.change.Change.{Change}
 use Rattle.sw_object_steps.specs.declared.entry.ObjEntry.{ObjEntry}
 use Rattle.sw_pending.specs.declared.filed.Filed.{Filed}
@@ -26,7 +27,7 @@ use Rattle.sw_peer.specs.declared.link.Link.{Link}
 use Rattle.sw_peer.specs.declared.link.Link.TheVariants.{Local}
 use Rattle.sw_peer.specs.declared.link.Lost.{Lost}
 use Rattle.sw_peer.specs.declared.part_read.PartRead.TheVariants.{Base, Files, Hashes, Records, Write}
-use Rattle.sw_machine.specs.Machine.{Came, Carries, Machine, RunLine, Runs, Went, came_in, went_in}
+use Rattle.sw_machine.specs.Machine.{Came, Carries, Machine, RunLine, Runs, Went, came_in}
 use Rattle.sw_machine.specs.Messages.{Message, WasSent}
 
 -- what is known of the nodes, and what they hold, is the machine's
@@ -55,6 +56,25 @@ GoingOnJoins = (s : Sight) (m : Machine) (lines : List RunLine) (t : Sight) (mor
 abbrev pub RunsOnJoin : Type 0
 RunsOnJoin = (s t u : Sight) → RunsOn s t → RunsOn t u → RunsOn s u
 
+-- ---- lines that leave records as they are
+
+-- it marks no record, and drops none
+abbrev pub leaves_records : Event → Bool
+leaves_records (Changed name change answer) = is_write change
+leaves_records event = true
+
+abbrev pub LeavesRecords : RunLine → Type 0
+LeavesRecords (Came line) = leaves_records line.event ≡ true
+LeavesRecords (Went from message) = ⊤
+
+abbrev pub LeaveRecords : List RunLine → Type 0
+LeaveRecords [] = ⊤
+LeaveRecords (line ∷ lines) = LeavesRecords line × LeaveRecords lines
+
+-- every machine for which the door stood goes on to it as it is then, and no record is marked or dropped
+abbrev pub RunsOnLeaving : Sight → Sight → Type 0
+RunsOnLeaving s t = (m : Machine) → StandsFor s m → (lines : List RunLine) × LeaveRecords lines × GoesOn s m lines t
+
 -- where only counts of the door changed, nothing came
 abbrev pub SameGoesOn : Type 0
 SameGoesOn = (s : Sight) (m : Machine) (t : Sight) → StandsFor s m → IsSame s t → (goes : GoesOn s m [] t) × (goes.after ≡ m)
@@ -78,9 +98,21 @@ abbrev pub GoesOnBy : {E : Type 0} → Sight → Machine → (List E → Line) �
 GoesOnBy {E} s m line wanting t =
     (lines : List RunLine) × (((added : List E) × (lines ≡ Came (line added) ∷ [])) ⊎ ((wanting ≡ true) × (lines ≡ []))) × GoesOn s m lines t
 
--- it goes on, and nothing is sent
-abbrev pub GoesOnUnsent : Sight → Machine → Sight → Type 0
-GoesOnUnsent s m t = (lines : List RunLine) × (went_in lines ≡ []) × GoesOn s m lines t
+module _ {A E : Type 0} (line : A → List E → Line) (wanting : A → Bool) where
+  -- each of the lines is one of such a step
+  abbrev pub AreLinesOf : List RunLine → Type 0
+  AreLinesOf [] = ⊤
+  AreLinesOf (Came one ∷ lines) = ((x : A) × (added : List E) × (one ≡ line x added)) × AreLinesOf lines
+  AreLinesOf (Went from message ∷ lines) = ⊥
+
+  -- the last of them is that of the step whose answer was heard, but where that wanted memory
+  abbrev pub EndsAsHeard : Result A Lost → List RunLine → Type 0
+  EndsAsHeard (Ok x) lines = ((before : List RunLine) × (added : List E) × (lines ≡ before ++ Came (line x added) ∷ [])) ⊎ (wanting x ≡ true)
+  EndsAsHeard (Err lost) lines = ⊤
+
+  -- it goes on by lines of such steps, and nothing is sent
+  abbrev pub GoesOnByLines : Sight → Machine → Result A Lost → Sight → Type 0
+  GoesOnByLines s m result t = (lines : List RunLine) × AreLinesOf lines × EndsAsHeard result lines × GoesOn s m lines t
 
 module _ {A E : Type 0} (step : Link → Sight → A → Sight → Type 0) (line : Link → A → List E → Line) (wanting : A → Bool) where
   -- a call at the device itself goes on by the line of its step
@@ -95,14 +127,16 @@ module _ {A E : Type 0} (step : Link → Sight → A → Sight → Type 0) (line
     pub call : CallGoesOn
     -- over any link it came once, several times or never, and was heard or not
     pub calls : (link : Link) (s : Sight) (result : Result A Lost) (t : Sight) (m : Machine) → StandsFor s m → t.alone ≡ true
-        → ((x : A) (added : List E) → WasSent m.sent (line link x added)) → Calls (step link) s link result t → GoesOnUnsent s m t
+        → ((x : A) (added : List E) → WasSent m.sent (line link x added)) → Calls (step link) s link result t
+        → GoesOnByLines (line link) wanting s m result t
 
   -- reads always do
   pub record ReadsGoOn : Type 0 where
     pub one : (link : Link) (s : Sight) (x : A) (t : Sight) (m : Machine) → StandsFor s m → t.alone ≡ true → step link s x t
         → GoesOnBy s m (line link x) (wanting x) t
     pub call : CallGoesOn
-    pub calls : (link : Link) (s : Sight) (result : Result A Lost) (t : Sight) → t.alone ≡ true → Calls (step link) s link result t → RunsOn s t
+    pub calls : (link : Link) (s : Sight) (result : Result A Lost) (t : Sight) → t.alone ≡ true → Calls (step link) s link result t → (m : Machine)
+        → StandsFor s m → GoesOnByLines (line link) wanting s m result t
 
 -- ---- at objects
 

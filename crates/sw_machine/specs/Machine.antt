@@ -1,6 +1,6 @@
 -- The machine: all nodes, with objects and containers, step by step; what became known at each device, and the messages that were ever sent. (This
 -- project's own; the answers are those of OpenStack Swift's object and container servers, as `sw_object_steps` and `sw_container_steps` have them.)
-use Rattle.std.specs.Prelude.{◌≡◌, ◌≢◌, ℕ, ◌≤◌, Bool, true, false, List, [], ◌∷◌, ◌++◌, map, Contains, Option, Result, Err, if◌then◌else◌}
+use Rattle.std.specs.Prelude.{◌≡◌, ◌≢◌, ℕ, ◌≤◌, Bool, true, false, List, [], ◌∷◌, ◌++◌, map, Contains, Option, Some, Result, Err, if◌then◌else◌}
 use Rattle.std.specs.List.{All}
 use Rattle.std.specs.Str.{bytes_eq}
 use Rattle.std.specs.declared.alloc.Global.{Global}
@@ -13,6 +13,7 @@ use Rattle.sw_container_steps.specs.declared.cont_change.ContChange.{ContChange}
 use Rattle.sw_container_steps.specs.declared.cont_change.ContChange.TheVariants.{Create, Remove, MergeRow, MergeRows, SetSync}
 use Rattle.sw_container_steps.specs.declared.cont_entry.ContEntry.{ContEntry}
 use Rattle.sw_hashpath.specs.HashParts.{partition_of}
+use Rattle.sw_hashpath.specs.Places.{IsPlaceOf}
 use Rattle.sw_hashpath.specs.declared.decode_error.BadFile.{BadFile}
 use Rattle.sw_hashpath.specs.declared.name.Name.{Name}
 use Rattle.sw_hashpath.specs.declared.place.Place.{Place}
@@ -47,7 +48,7 @@ use Rattle.sw_state.specs.States.{writes_of}
 use Rattle.sw_state.specs.declared.state.State.{State}
 use Rattle.sw_state.specs.declared.write.Write.{Write}
 use Rattle.sw_step.specs.Rules.{has_made}
-use Rattle.sw_machine.specs.Messages.{Message, Row_of, Rows_of, WasSent, Write_of}
+use Rattle.sw_machine.specs.Messages.{Message, Row_of, Rows_of, Update_of, WasSent, Write_of}
 use Rattle.sw_machine.specs.Sides.{Side, SideMakes, SideReads, SideRestarts, TellsAt, known_at, side_of}
 
 -- ---- what becomes known
@@ -144,12 +145,16 @@ abbrev pub HasRow : Machine → ℕ → Place → Row → Type 0
 HasRow m device place row = Contains (map (λ n. n.row) (rows_of (m.containers.half.holds device place)).list) row
 
 module _ (nodes : Nodes) where
-  -- A write that it stands for, and rows of a container that it has. Of a lock that doesn't tell its contents nobody knows what it has
+  -- A write that it stands for, rows of a container that it has, and the row of what stands under the name of a record, to that name's container. Of a lock
+  -- that doesn't tell its contents nobody knows what it has
   abbrev pub Carries : Machine → ℕ → Message → Type 0
   Carries m from (Write_of to name write) =
       TellsAt nodes.lock m.objects from name.hash → Contains (writes_of (m.objects.half.holds from name.hash).state) write
   Carries m from (Row_of to place row) = TellsAt (cont_lock nodes) m.containers from place → HasRow m from place row
   Carries m from (Rows_of to place rows) = TellsAt (cont_lock nodes) m.containers from place → All (λ row. HasRow m from place row) rows
+  Carries m from (Update_of to filed place row) =
+      IsPlaceOf nodes.secrets filed.name place
+      × (TellsAt nodes.lock m.objects from filed.name.hash → IsBaseFor filed (m.objects.half.holds from filed.name.hash).state (Some row))
 
   -- ---- what comes to a device at its objects
 

@@ -10,6 +10,7 @@ use Rattle.sw_peer.specs.declared.line.Event.{Event}
 use Rattle.sw_peer.specs.declared.line.Event.TheVariants.{AtContainer, Changed}
 use Rattle.sw_peer.specs.declared.line.Line.{Line}
 use Rattle.sw_peer.specs.declared.link.Link.TheVariants.{Sent}
+use Rattle.sw_pending.specs.declared.filed.Filed.{Filed}
 use Rattle.sw_rows.specs.declared.row.Row.{Row}
 use Rattle.sw_state.specs.declared.write.Write.{Write}
 
@@ -17,12 +18,15 @@ pub data Message : Type 0 where
   Write_of : (to : ℕ) (name : Name) (write : Write) → Message
   Row_of : (to : ℕ) (place : Place) (row : Row) → Message
   Rows_of : (to : ℕ) (place : Place) (rows : List Row) → Message
+  Update_of : (to : ℕ) (filed : Filed) (place : Place) (row : Row) → Message  -- the row that this record is for, to its container
 
 -- it comes to this device as this step
 abbrev pub Arrives : Message → ℕ → Event → Type 0
 Arrives (Write_of to name write) device (Changed n change answer) = (to ≡ device) × (n ≡ name) × (change ≡ Receive write)
 Arrives (Row_of to place row) device (AtContainer (cont_events.Changed p change answer) entries) = (to ≡ device) × (p ≡ place) × (change ≡ MergeRow row)
 Arrives (Rows_of to place rows) device (AtContainer (cont_events.Changed p change answer) entries) = (to ≡ device) × (p ≡ place) × (change ≡ MergeRows rows)
+Arrives (Update_of to filed place row) device (AtContainer (cont_events.Changed p change answer) entries) =
+    (to ≡ device) × (p ≡ place) × (change ≡ MergeRow row)
 Arrives message device event = ⊥
 
 -- it may change something
