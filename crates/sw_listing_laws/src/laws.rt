@@ -1,0 +1,22 @@
+//! Laws of listings. Each function does nothing: its clause is the law.
+
+ghost use Rattle.sw_listing_laws.specs.Laws.{HonestRunsAreSound, ListingsAreExact, LiveRowsAreThere, SettledContainersListExactly};
+ghost use Rattle.sw_listing_laws.specs.Laws.{SettledContainersShowExactly};
+
+/// Of a container that isn't hidden, and of which no record is pending, each replica shows exactly the live objects.
+pub fn settled_containers_show_exactly()
+    ensures { SettledContainersShowExactly }
+{}
+
+/// So its rows that aren't deleted are those of the live objects; whatever it is asked, each of these lists exactly what is asked of them; and each listing
+/// that comes in a run is that.
+pub fn listings_are_exact()
+    ensures there { LiveRowsAreThere }
+    ensures lists { SettledContainersListExactly }
+    ensures comes { ListingsAreExact }
+{}
+
+/// An honest run, of which each line is plain and named, is one of which these laws speak.
+pub fn honest_runs_are_sound()
+    ensures { HonestRunsAreSound }
+{}
