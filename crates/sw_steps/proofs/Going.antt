@@ -1,16 +1,15 @@
 -- What goes on by the calls of a push at nodes that nobody else changes: the run of the machine, and what the sender holds.
 use Rattle.std.proofs.Common.{◌≡◌, ◌≢◌, ℕ, true, List, [], ◌∷◌, ◌++◌, refl, sym, ◌∙◌, ap, subst, inl, Option, Result, Ok, Err}
-use Rattle.std.proofs.lemmas.List.Elements.{Contains-push}
 use Rattle.std.specs.Prelude.{Contains}
 use Rattle.std.specs.declared.alloc.Global.{Global}
 use Rattle.std.specs.declared.vec.Vec.{Vec}
 use Rattle.sw_diskfile.specs.declared.file_name.FileName.{FileName}
 use Rattle.sw_hashpath.specs.declared.name.Name.{Name}
 use Rattle.sw_machine.proofs.Doors.{files-reads, hashes-reads, object-changes, write-reads}
-use Rattle.sw_machine.proofs.Going.{going-joins, runs-join, same-goes, sending-goes}
-use Rattle.sw_machine.specs.Doors.{RunsOn, StandsFor}
+use Rattle.sw_machine.proofs.Going.{leaving-join, leaving-same}
+use Rattle.sw_machine.specs.Doors.{RunsOnLeaving, StandsFor}
 use Rattle.sw_machine.specs.Machine.{Machine}
-use Rattle.sw_machine.specs.Messages.{Message, Write_of}
+use Rattle.sw_machine.specs.Messages.{Write_of}
 use Rattle.sw_machine.specs.Sides.{TellsAt}
 use Rattle.sw_object_steps.specs.Halves.{ObjHalf}
 use Rattle.sw_object_steps.specs.Journals.{Hash}
@@ -28,6 +27,7 @@ use Rattle.sw_replicator.proofs.Reading.{IsOne, files-pair, hashes-pair, made-pa
 use Rattle.sw_replicator.specs.Meeting.{IsOfPair, PairMoves, known, state_at}
 use Rattle.sw_state.specs.States.{writes_of}
 use Rattle.sw_state.specs.declared.write.Write.{Write}
+use Rattle.sw_steps.proofs.Leaving.{reads-leave, sent-leaves}
 use Rattle.sw_suffix.specs.declared.dir_line.DirLine.{DirLine}
 use Rattle.sw_suffix.specs.declared.told.SuffixHash.{SuffixHash}
 
@@ -55,7 +55,7 @@ module _ (from to part : ℕ) where
   pub record Goes (a b : Sight) : Type 0 where
     pub moves : PairMoves from to part a b
     pub kept : Sure b → (h : Hash) → b.objects.holds from h ≡ a.objects.holds from h
-    pub runs : b.alone ≡ true → RunsOn a b
+    pub runs : b.alone ≡ true → RunsOnLeaving a b
 
   pub sure-before : (a b : Sight) → PairMoves from to part a b → Sure b → Sure a
   sure-before a b p sure = (p.alone sure.0, told-before from to part from a b p sure.1)
@@ -69,14 +69,14 @@ module _ (from to part : ℕ) where
       (record {
         moves = moves-refl (IsOfPair a.nodes.power from to part) a;
         kept = λ sure h. refl;
-        runs = λ alone m stands. ([], (same-goes a m a stands (same-refl a)).0);
+        runs = λ alone. leaving-same a a (same-refl a);
       })
 
   pub goes-join : (a b c : Sight) → Goes a b → Goes b c → Goes a c
   goes-join a b c p q = record {
     moves = pair-trans from to part a b c p.moves q.moves;
     kept = λ sure h. q.kept sure h ∙ p.kept (sure-before b c q.moves sure) h;
-    runs = λ alone. runs-join a b c (p.runs (q.moves.alone alone)) (q.runs alone);
+    runs = λ alone. leaving-join a b c (p.runs (q.moves.alone alone)) (q.runs alone);
   }
 
   -- ---- reads
@@ -86,7 +86,7 @@ module _ (from to part : ℕ) where
   hashes-goes link d one a r b p = record {
     moves = hashes-pair link d part from to one a r b p;
     kept = λ sure h. call-holds (IsHashesRead link d part) (λ s x t read. read.moves.alone) (λ s x t read. read.holds_all) link a r b p sure.0 from h;
-    runs = λ alone. (hashes-reads d part).calls link a r b alone p;
+    runs = λ alone. reads-leave (hashes-reads d part) (λ way got added. refl) link a r b p alone;
   }
 
   pub files-goes : (link : Link) (d suffix : ℕ) → IsOne from to d → (a : Sight) (r : Result (Result (Vec DirLine Global) DirFault) Lost) (b : Sight)
@@ -94,7 +94,7 @@ module _ (from to part : ℕ) where
   files-goes link d suffix one a r b p = record {
     moves = files-pair link d part suffix from to one a r b p;
     kept = λ sure h. call-holds (IsFilesRead link d part suffix) (λ s x t read. read.moves.alone) (λ s x t read. read.holds_all) link a r b p sure.0 from h;
-    runs = λ alone. (files-reads d part suffix).calls link a r b alone p;
+    runs = λ alone. reads-leave (files-reads d part suffix) (λ way got added. refl) link a r b p alone;
   }
 
   -- at the sender itself
@@ -104,7 +104,7 @@ module _ (from to part : ℕ) where
     moves = write-pair from part h file from to (inl refl) a r b p;
     kept = λ sure k.
         call-holds (IsWriteRead Local from part h file) (λ s x t read. read.moves.alone) (λ s x t read. read.holds_all) Local a r b p sure.0 from k;
-    runs = λ alone. (write-reads from part h file).calls Local a r b alone p;
+    runs = λ alone. reads-leave (write-reads from part h file) (λ way got added. refl) Local a r b p alone;
   }
 
   -- ---- transfers
@@ -123,9 +123,6 @@ module _ (from to part : ℕ) where
       moves : PairMoves from to part a b
       moves = made-pair from to part name (Receive w) a r b is p
 
-      message : Message
-      message = Write_of to name w
-
       -- the sender's lock tells what it has of the partition, where it does of this hash
       told : (a.objects.seen (a.nodes.lock from name.hash)).told ≡ true → (known a from part).told ≡ true
       told tells =
@@ -141,11 +138,7 @@ module _ (from to part : ℕ) where
                 (subst (λ (half : ObjHalf). (half.seen (a.nodes.lock from name.hash)).told ≡ true) (sym stands.objects) tells),
           ))
 
-      runs : b.alone ≡ true → RunsOn a b
-      runs alone m stands =
-          let went = sending-goes a m from message stands (carried m stands alone) in
-          let is_sent : Contains went.0.after.sent message =
-          subst (λ (x : Machine). Contains x.sent message) (sym went.1) (Contains-push m.sent message) in
-          let came = (object-changes to name (Receive w)).calls Sent a r b went.0.after went.0.stands alone
-          (λ answer added is_message may. (message, is_sent, (refl, refl, refl))) p in
-          (_, (going-joins a m _ a came.0 b went.0 came.2).0)
+      runs : b.alone ≡ true → RunsOnLeaving a b
+      runs alone =
+          sent-leaves (object-changes to name (Receive w)) from (Write_of to name w) (λ answer added. (refl, refl, refl)) (λ answer added. refl) a r b p alone
+          (λ m stands. carried m stands alone)

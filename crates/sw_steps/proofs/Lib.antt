@@ -1,6 +1,13 @@
 pub mod Along
 pub mod Exchanging
 pub mod Going
+pub mod GoingBy
+mod Honestly
+mod Leaving
+mod Marking
 pub mod RowRunning
 pub mod Running
 pub mod Stepping
+mod Telling
+pub mod UpdateRunning
+mod Within

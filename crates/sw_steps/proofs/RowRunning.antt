@@ -1,7 +1,6 @@
--- A push of rows is a run of the machine: each row that is sent is one that its sender has.
-use Rattle.std.proofs.Common.{◌≡◌, ◌≢◌, ℕ, Bool, true, false, cond, nat_lt, map, filter, length, List, [], ◌∷◌, ◌++◌, refl, sym, ◌∙◌, ap, subst}
-use Rattle.std.proofs.Common.{inl, inr, Option, None, Some}
-use Rattle.std.proofs.Common.{Result, Ok, Err}
+-- A push of rows is a run of the machine, and leaves records as they are: each row that is sent is one that its sender has.
+use Rattle.std.proofs.Common.{◌≡◌, ◌≢◌, ℕ, Bool, true, false, cond, nat_lt, map, filter, length, List, [], ◌∷◌, refl, sym, ◌∙◌, subst}
+use Rattle.std.proofs.Common.{inl, inr, Option, None, Some, Result, Ok, Err}
 use Rattle.std.proofs.lemmas.List.Elements.{Contains-append_left, Contains-append_right, Contains-push}
 use Rattle.std.specs.List.{AllByRecursion}
 use Rattle.std.specs.Option.{option_map_or}
@@ -20,19 +19,18 @@ use Rattle.sw_keeper.specs.declared.tables.Tables.{Tables}
 use Rattle.sw_lossy.specs.Losses.{around, begun}
 use Rattle.sw_lossy.specs.declared.acts.Acts.{Acts}
 use Rattle.sw_machine.proofs.Doors.{container-changes, parcels}
-use Rattle.sw_machine.proofs.Going.{going-joins, runs-join, same-goes, sending-goes}
-use Rattle.sw_machine.specs.Doors.{RunsOn, StandsFor}
+use Rattle.sw_machine.specs.Doors.{RunsOnLeaving, StandsFor}
 use Rattle.sw_machine.specs.Machine.{HasRow, Machine}
-use Rattle.sw_machine.specs.Messages.{Message, Row_of}
+use Rattle.sw_machine.specs.Messages.{Row_of}
 use Rattle.sw_machine.specs.Sides.{TellsAt}
 use Rattle.sw_outside.specs.declared.errors.NoMemory.{NoMemory}
 use Rattle.sw_pass.specs.Outcomes.{nothing_yet}
 use Rattle.sw_pass.specs.Turns.{InTurn}
 use Rattle.sw_pass.specs.declared.outcome.Outcome.{Outcome}
-use Rattle.sw_peer.proofs.Calls.{calls-moves, same-refl}
+use Rattle.sw_peer.proofs.Calls.{calls-moves}
 use Rattle.sw_peer.proofs.ContCalls.{cont-made-step, look-step}
 use Rattle.sw_peer.specs.ContSights.{ContMoves, IsContMade, IsIn, IsLooked}
-use Rattle.sw_peer.specs.Sights.{Calls, Comes, IsSame, Nodes, Sight, cont_lock}
+use Rattle.sw_peer.specs.Sights.{Calls, Nodes, Sight, cont_lock}
 use Rattle.sw_peer.specs.declared.cont_event.ContEvent.TheVariants.{Parceled}
 use Rattle.sw_peer.specs.declared.link.Link.TheVariants.{Local, Sent}
 use Rattle.sw_peer.specs.declared.link.Lost.{Lost}
@@ -40,14 +38,11 @@ use Rattle.sw_rows.specs.Rows.{rows_above}
 use Rattle.sw_rows.specs.declared.numbered.Numbered.{Numbered}
 use Rattle.sw_rows.specs.declared.row.Row.{Row}
 use Rattle.sw_sync.specs.Points.{point_at}
-use Rattle.sw_steps.proofs.Running.{run-within}
+use Rattle.sw_steps.proofs.GoingBy.{GoesOnBy, all-so, came-local, goes-join, goes-same}
+use Rattle.sw_steps.proofs.Leaving.{made-leaves, reads-leave, sent-leaves}
+use Rattle.sw_steps.proofs.Within.{leaving-within}
 use Rattle.sw_steps.specs.Laws.{RowPushesRun}
 use Rattle.sw_steps.specs.Passing.{AreRowsPushedOver}
-
--- a call at the device itself is one step
-came-local : {A : Type 0} (step : Sight → A → Sight → Type 0) (s : Sight) (x : A) (t : Sight) → Calls step s Local (Ok x) t
-    → (mid : Sight) × step s x mid × IsSame mid t
-came-local {A} step s x t p = subst (λ (earlier : List A). Comes step s (earlier ++ x ∷ []) t) (p.1 refl) p.2
 
 -- ---- rows above a number are among all rows
 
@@ -84,30 +79,6 @@ parcel-among to (Some t) front parcel is = by (is_no_time (deletion_after t.put_
         (above-among (option_map_or (λ rowid. rowid) (point_at t.syncs 0 to) 0) t.rows.list)
     by false same = cc
 
-all-so : {A : Type 0} (P Q : A → Type 0) (xs : List A) → ((x : A) → P x → Q x) → AllByRecursion P xs → AllByRecursion Q xs
-all-so P Q [] so all = tt
-all-so P Q (x ∷ xs) so all = (so x all.0, all-so P Q xs so all.1)
-
--- what goes on whoever sends
-pub record GoesOnBy (a b : Sight) : Type 0 where
-  pub nodes : b.nodes ≡ a.nodes
-  pub alone : b.alone ≡ true → a.alone ≡ true
-  pub runs : b.alone ≡ true → RunsOn a b
-
-goes-same : (a b : Sight) → b ≡ a → GoesOnBy a b
-goes-same a b same = subst (λ (x : Sight). GoesOnBy a x) (sym same)
-    (record { nodes = refl; alone = λ is. is; runs = λ is m stands. ([], (same-goes a m a stands (same-refl a)).0) })
-
-goes-join : (a b c : Sight) → GoesOnBy a b → GoesOnBy b c → GoesOnBy a c
-goes-join a b c p q = record {
-  nodes = q.nodes ∙ p.nodes;
-  alone = λ is. p.alone (q.alone is);
-  runs = λ is. runs-join a b c (p.runs (q.alone is)) (q.runs is);
-}
-
-local-sent : Local ≡ Sent → ⊥
-local-sent is = cc
-
 module _ (from to : ℕ) (place : Place) (apart : from ≢ to) where
   -- the sender's lock, where it tells what it has, has the row
   abbrev Has : Sight → Row → Type 0
@@ -132,24 +103,16 @@ module _ (from to : ℕ) (place : Place) (apart : from ≢ to) where
     moves : ContMoves (IsIn to place) a b
     moves = calls-moves (ContMoves (IsIn to place)) (IsContMade Sent to place (MergeRow row)) (cont-made-step Sent to place (MergeRow row)) a Sent r b p
 
-    message : Message
-    message = Row_of to place row
-
     carried : (m : Machine) → StandsFor a m → b.alone ≡ true → TellsAt (cont_lock a.nodes) m.containers from place → HasRow m from place row
     carried m stands alone tells =
         subst (λ (half : ContHalf). Contains (map (λ n. n.row) (rows_of (half.holds from place)).list) row) stands.containers
         (own (moves.alone alone)
         (subst (λ (half : ContHalf). (half.seen (cont_lock a.nodes from place)).told ≡ true) (sym stands.containers) tells))
 
-    row-runs : b.alone ≡ true → RunsOn a b
-    unfolding message
-    row-runs alone m stands =
-        let went = sending-goes a m from message stands (carried m stands alone) in
-        let is_sent : Contains went.0.after.sent message =
-        subst (λ (x : Machine). Contains x.sent message) (sym went.1) (Contains-push m.sent message) in
-        let came = (container-changes to place (MergeRow row)).calls Sent a r b went.0.after went.0.stands alone
-        (λ answer added is_message may. (message, is_sent, (refl, refl, refl))) p in
-        (_, (going-joins a m _ a came.0 b went.0 came.2).0)
+    row-runs : b.alone ≡ true → RunsOnLeaving a b
+    row-runs alone =
+        sent-leaves (container-changes to place (MergeRow row)) from (Row_of to place row) (λ answer added. (refl, refl, refl)) (λ answer added. refl) a r b p
+        alone (λ m stands. carried m stands alone)
 
     row-keeps : Keeps a b
     row-keeps = record {
@@ -182,10 +145,7 @@ module _ (from to : ℕ) (place : Place) (apart : from ≢ to) where
       record {
         nodes = moves.nodes;
         alone = moves.alone;
-        runs = λ alone m stands.
-            let came = (container-changes from place (SetSync to top)).calls Local a (Ok none.1.0) b m stands alone
-            (λ answer added is_message may. absurd (local-sent is_message)) call in
-            (came.0, came.2);
+        runs = made-leaves (container-changes from place (SetSync to top)) (λ answer added. refl) a none.1.0 b call;
       }
 
   -- ---- the rows are read at the sender itself
@@ -197,7 +157,7 @@ module _ (from to : ℕ) (place : Place) (apart : from ≢ to) where
   read-goes a got b call =
       let moves : ContMoves (IsIn from place) a b =
       calls-moves (ContMoves (IsIn from place)) Read (look-step Local from place (parcel_of to) (λ read. Parceled place to read)) a Local (Ok got) b call in
-      record { nodes = moves.nodes; alone = moves.alone; runs = λ alone. (parcels from place to).calls Local a (Ok got) b alone call }
+      record { nodes = moves.nodes; alone = moves.alone; runs = reads-leave (parcels from place to) (λ way read added. refl) Local a (Ok got) b call }
 
   -- a row that the read tells of is one that the sender has as it is read
   row-had : (a : Sight) (parcel : Parcel) (b : Sight) (read : Read a (Ok parcel) b) (row : Row)
@@ -247,7 +207,7 @@ rows_sight_after {t = t} over = around t over.acts_behind over.messages over.fau
 
 pub row_pushes_run : RowPushesRun
 row_pushes_run from to place acts s result t over apart alone =
-    run-within s t acts over.acts_behind 0 0 0 over.messages over.faults over.asks
+    leaving-within s t acts over.acts_behind 0 0 0 over.messages over.faults over.asks
     ((rows-go-on from to place apart (begun acts s) result (rows_sight_after over) over.pushes).runs alone)
 
 pub rows-over-nodes : (from to : ℕ) (place : Place) (acts : Acts) (s : Sight) (result : Result Outcome NoMemory) (t : Sight) → from ≢ to

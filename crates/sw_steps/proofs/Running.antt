@@ -1,6 +1,6 @@
--- A push is a run of the machine.
+-- A push is a run of the machine, and leaves records as they are.
 use Rattle.std.proofs.Common.{◌≡◌, ◌≢◌, ℕ, true, false, ◌∙◌, ap, Result, Ok, Err}
-use Rattle.sw_machine.specs.Doors.{RunsOn}
+use Rattle.sw_machine.specs.Doors.{RunsOnLeaving}
 use Rattle.sw_lossy.specs.Losses.{around, begun}
 use Rattle.sw_lossy.specs.declared.acts.Acts.{Acts}
 use Rattle.sw_outside.specs.declared.errors.NoMemory.{NoMemory}
@@ -10,29 +10,15 @@ use Rattle.sw_replicator.proofs.Keeping.{run-keeps}
 use Rattle.sw_replicator.specs.Meeting.{PairMoves}
 use Rattle.sw_replicator.specs.Pushing.{IsPush}
 use Rattle.sw_steps.proofs.Along.{run-goes}
+use Rattle.sw_steps.proofs.Within.{leaving-within}
 use Rattle.sw_steps.specs.Laws.{PushingRuns}
 use Rattle.sw_steps.specs.Passing.{IsPushedOver}
 
 -- at nodes that nobody else changes the run goes on by a push
 push-runs : (from to part : ℕ) → from ≢ to → (s : Sight) (result : Result Outcome NoMemory) (t : Sight) → IsPush from to part s result t → t.alone ≡ true
-    → RunsOn s t
+    → RunsOnLeaving s t
 push-runs from to part apart s (Ok outcome) t push = (run-goes from to part apart s t push.0 true push.1).runs
 push-runs from to part apart s (Err wanting) t push = (run-goes from to part apart s t push.0 false push.1).runs
-
--- a run knows nothing of what a door around counts
-pub run-within : (s t : Sight) (acts now : Acts) (sent faults asks messages more asked : ℕ)
-    → RunsOn (around s acts sent faults asks) (around t now messages more asked) → RunsOn s t
-run-within s t acts now sent faults asks messages more asked runs m stands =
-    let run = runs m (record { objects = stands.objects; containers = stands.containers }) in (
-      run.0,
-      record {
-        nodes = run.1.nodes;
-        after = run.1.after;
-        run = run.1.run;
-        stands = record { objects = run.1.stands.objects; containers = run.1.stands.containers };
-        kept = run.1.kept;
-      },
-    )
 
 -- a door that begins a pass
 pub begun-as : {D : Type 0} (sight : D → Sight) (old new : D) (acts now : Acts) (messages faults asks : ℕ) → new ≡ old → now ≡ acts → messages ≡ 0
@@ -50,7 +36,7 @@ sight_after {t = t} over = around t over.acts_behind over.messages over.faults o
 
 pub pushing_runs : PushingRuns
 pushing_runs from to part acts s result t over apart alone =
-    run-within s t acts over.acts_behind 0 0 0 over.messages over.faults over.asks
+    leaving-within s t acts over.acts_behind 0 0 0 over.messages over.faults over.asks
     (push-runs from to part apart (begun acts s) result (sight_after over) over.pushes alone)
 
 -- where it moves

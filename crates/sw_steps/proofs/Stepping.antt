@@ -53,7 +53,8 @@ changed-runs device name change s answer t alone calls m stands =
 
 pub read-runs : (device : ℕ) (name : Name) (s : Sight) (got : Got) (t : Sight) → t.alone ≡ true → Calls (IsRead Local device name) s Local (Ok got) t
     → RunsOn s t
-read-runs device name s got t = (object-reads device name).calls Local s (Ok got) t
+read-runs device name s got t alone calls m stands =
+    let one = (object-reads device name).call s got t alone calls m stands in (one.0, one.2)
 
 pub listed-runs : (device : ℕ) (failed : Bool) (s t : Sight) → IsListed device failed s t → RunsOn s t
 listed-runs device failed s t listed m stands = (_, device-listings device failed s t m stands listed)

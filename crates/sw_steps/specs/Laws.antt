@@ -1,6 +1,7 @@
 -- What is promised of steps and passes. (This project's own.)
 use Rattle.std.specs.Prelude.{◌≡◌, ◌≢◌, ℕ, true, List, Result}
-use Rattle.sw_machine.specs.Doors.{RunsOn}
+use Rattle.sw_listing_laws.specs.Honest.{RunsHonestly}
+use Rattle.sw_machine.specs.Doors.{RunsOnLeaving}
 use Rattle.sw_machine.specs.Laws.{LocksAreApart}
 use Rattle.sw_core.specs.Worlds.{nodes_of}
 use Rattle.sw_hashpath.specs.declared.secrets.Secrets.{Secrets}
@@ -10,20 +11,28 @@ use Rattle.sw_pass.specs.declared.outcome.Outcome.{Outcome}
 use Rattle.sw_peer.specs.Sights.{Sight}
 use Rattle.sw_steps.specs.Exchanging.{AreMet}
 use Rattle.sw_hashpath.specs.declared.place.Place.{Place}
-use Rattle.sw_steps.specs.Passing.{AreRowsPushedOver, IsPushedOver}
+use Rattle.sw_ring.specs.declared.ring.Ring.{Ring}
+use Rattle.sw_steps.specs.Passing.{AreRowsPushedOver, IsPushedOver, IsUpdateOver}
 use Rattle.sw_steps.specs.Stepping.{AreMade}
+use Rattle.sw_updater.specs.Places.{replicas_in}
 use Rattle.sw_steps.specs.declared.step.Step.{Step}
 
 -- A push is a run of the machine, whatever comes of it: what was lost, came twice, hindered it or wanted memory. Each transfer carries a
--- write that its sender stands for, as far as the sender's lock tells what it has
+-- write that its sender stands for, as far as the sender's lock tells what it has. No record is marked or dropped
 abbrev pub PushingRuns : Type 0
 PushingRuns = (from to part : ℕ) (acts : Acts) (s : Sight) (result : Result Outcome NoMemory) (t : Sight) → IsPushedOver from to part acts s result t
-    → from ≢ to → t.alone ≡ true → RunsOn s t
+    → from ≢ to → t.alone ≡ true → RunsOnLeaving s t
 
 -- So is a push of rows. Each message carries a row that its sender has, as far as the sender's lock tells what it has
 abbrev pub RowPushesRun : Type 0
 RowPushesRun = (from to : ℕ) (place : Place) (acts : Acts) (s : Sight) (result : Result Outcome NoMemory) (t : Sight)
-    → AreRowsPushedOver from to place acts s result t → from ≢ to → t.alone ≡ true → RunsOn s t
+    → AreRowsPushedOver from to place acts s result t → from ≢ to → t.alone ≡ true → RunsOnLeaving s t
+
+-- So is an update, and an honest one. Each message carries to the container of a record's name what stands under that name at the device, as far as its lock
+-- tells that; a device is marked once it took such a row; and a record is dropped by all devices of its container
+abbrev pub UpdatesRun : Type 0
+UpdatesRun = (ring : Ring) (device : ℕ) (acts : Acts) (s : Sight) (result : Result Outcome NoMemory) (t : Sight)
+    → IsUpdateOver ring device acts s result t → s.nodes.secrets ≡ ring.secrets → t.alone ≡ true → RunsHonestly ring.secrets (replicas_in ring) s t
 
 -- Where a list of steps is made that has a push from a to b and a later one back, and what the list told of both says that they are done, both
 -- devices hold the join of what both held, of each hash that the steps between them left

@@ -8,6 +8,8 @@ use Rattle.sw_outside.specs.declared.errors.NoMemory.{NoMemory}
 use Rattle.sw_pass.specs.declared.outcome.Outcome.{Outcome}
 use Rattle.sw_peer.specs.Sights.{Sight}
 use Rattle.sw_replicator.specs.Pushing.{IsPush}
+use Rattle.sw_ring.specs.declared.ring.Ring.{Ring}
+use Rattle.sw_updater.specs.Updating.{IsUpdate}
 
 -- A push through such a door, around nodes that were seen so before it, and so after it. The door counts from 0 and delivers the messages of
 -- the push as the acts say; what it says of messages behind the push tells nothing
@@ -25,3 +27,11 @@ pub record AreRowsPushedOver (from to : ℕ) (place : Place) (acts : Acts) (s : 
   pub faults : ℕ
   pub asks : ℕ
   pub pushes : rows.IsPush from to place (begun acts s) result (around t acts_behind messages faults asks)
+
+-- the same of an update of the containers of a ring
+pub record IsUpdateOver (ring : Ring) (device : ℕ) (acts : Acts) (s : Sight) (result : Result Outcome NoMemory) (t : Sight) : Type 0 where
+  pub acts_behind : Acts
+  pub messages : ℕ
+  pub faults : ℕ
+  pub asks : ℕ
+  pub updates : IsUpdate ring device (begun acts s) result (around t acts_behind messages faults asks)

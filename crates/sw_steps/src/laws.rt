@@ -1,15 +1,21 @@
 //! Laws of steps and passes. Each function does nothing: its clause is the law.
 
-ghost use Rattle.sw_steps.specs.Laws.{PushingRuns, RowPushesRun, StepsMeet, WorldsAreApart};
+ghost use Rattle.sw_steps.specs.Laws.{PushingRuns, RowPushesRun, StepsMeet, UpdatesRun, WorldsAreApart};
 
-/// A push at nodes that nobody else changes is a run of the machine, whatever comes of it.
+/// A push at nodes that nobody else changes is a run of the machine, whatever comes of it. It marks no record, and drops none.
 pub fn pushing_runs()
     ensures { PushingRuns }
 {}
 
-/// A push of rows at nodes that nobody else changes is a run of the machine, whatever comes of it.
+/// A push of rows at nodes that nobody else changes is a run of the machine, whatever comes of it. It marks no record, and drops none.
 pub fn row_pushes_run()
     ensures { RowPushesRun }
+{}
+
+/// An update at nodes that nobody else changes is an honest run of the machine, whatever comes of it: it marks a device in a record once that
+/// device took a row for it, and the drop of a record names all devices of its container.
+pub fn updates_run()
+    ensures { UpdatesRun }
 {}
 
 /// A push that is told as done and a later one back, in a list of steps, leave both devices with the join of what both held.

@@ -1,5 +1,6 @@
 ghost use Rattle.std.specs.Prelude.{◌≡◌, ◌≢◌, ◌<◌, ◌^◌, true};
-ghost use Rattle.sw_steps.specs.Passing.{AreRowsPushedOver, IsPushedOver};
+ghost use Rattle.sw_steps.specs.Passing.{AreRowsPushedOver, IsPushedOver, IsUpdateOver};
+ghost use Rattle.sw_updater.specs.Places.{IsRingOf};
 
 use std::alloc::Global;
 use sw_cont_replicator::push_rows;
@@ -7,8 +8,10 @@ use sw_hashpath::Place;
 use sw_lossy::{Acts, Lossy};
 use sw_outside::NoMemory;
 use sw_pass::Outcome;
-use sw_peer::{ContainerDoor, FaithfulDoor, ReplicaDoor};
+use sw_peer::{ContainerDoor, FaithfulDoor, PendingDoor, ReplicaDoor};
 use sw_replicator::push;
+use sw_ring::Ring;
+use sw_updater::update;
 
 /// Pushes a partition through a door that loses and repeats messages; `acts` says which, by their numbers in this push, from 1. The door
 /// inside delivers each message once.
@@ -47,4 +50,20 @@ pub fn push_rows_over<D: ContainerDoor + FaithfulDoor + Drop>(
 {
     door.begin(acts);
     push_rows(alloc, door, from, to, place)
+}
+
+/// Updates the containers of the ring of what the records of a device are for, through such a door.
+pub fn update_over<D: PendingDoor + ContainerDoor + FaithfulDoor + Drop>(
+    alloc: Global,
+    door: &mut Lossy<D>,
+    ring: &Ring,
+    device: u8,
+    acts: Acts,
+) -> Result<Outcome, NoMemory>
+    requires device { device < (D.sight door.old.door).nodes.devices }
+    requires ring { IsRingOf ring.now (D.sight door.old.door).nodes }
+    ensures { IsUpdateOver ring.now device acts (D.sight door.old.door) result (D.sight door.new.door) }
+{
+    door.begin(acts);
+    update(alloc, door, ring, device)
 }

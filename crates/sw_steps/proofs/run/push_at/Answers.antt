@@ -1,6 +1,7 @@
 use Rattle.std.proofs.Common.{refl, ap}
 use Rattle.sw_core.proofs.Wholes.{still-whole}
 use Rattle.sw_core.specs.Worlds.{keeper_seen, sight_of}
+use Rattle.sw_machine.proofs.Going.{leaving-runs}
 use Rattle.sw_peer.specs.Sights.{Nodes}
 use Rattle.sw_steps.proofs.Running.{over-nodes, pushing_runs}
 use Rattle.sw_steps.proofs.Stepping.{over-made, over-tried}
@@ -26,5 +27,6 @@ returns-clause-tried g c =
 pub returns-clause-runs : goal.returns-clause-runs
 returns-clause-runs g c =
     let v = g.V.Volume in let k = g.K.Keeper in let see = sight_of v.tells v.holds v.faults (keeper_seen k.tells k.holds k.faults) in
-    pushing_runs c.args.from c.args.to c.args.part c.args.acts (see c.args.door.now.door) c.push_over.result (see c.push_over.new.door.door)
-    c.push_over.ensures c.requires.apart refl
+    leaving-runs (see c.args.door.now.door) (see c.push_over.new.door.door)
+    (pushing_runs c.args.from c.args.to c.args.part c.args.acts (see c.args.door.now.door) c.push_over.result (see c.push_over.new.door.door)
+    c.push_over.ensures c.requires.apart refl)
