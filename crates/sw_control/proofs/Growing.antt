@@ -60,7 +60,7 @@ items_added {X} says a b c items i item within is first second =
     let here = ap says is in
     rw (more, ← here) (added_both a b c (map says (take i items)) (says item ∷ []) first second)
 
-flat_map-more : {X A : Type 0} (f : X → List A) (xs : List X) (i : ℕ) (d : X) → i < length xs
+pub flat_map-more : {X A : Type 0} (f : X → List A) (xs : List X) (i : ℕ) (d : X) → i < length xs
     → flat_map f (take (i + 1) xs) ≡ flat_map f (take i xs) ++ f (get_or xs i d)
 flat_map-more f xs i d within =
     let split = flat_map-append f (take i xs) (get_or xs i d ∷ []) in

@@ -1,4 +1,4 @@
--- Names, a number and fields ask for one push of a partition, and names and fields for one push of rows.
+-- Names, a number and fields ask for one push of a partition, names and fields for one push of rows, and a name and fields for one update.
 use Rattle.std.proofs.Common.{◌≡◌, ℕ, ◌≤◌, ◌<◌, ◌^◌, List, Option, None, Some, codes, refl, sym, ap, ◌∙◌, arith}
 use Rattle.std.proofs.Math.Pow.{pow_mono}
 use Rattle.std.proofs.lemmas.Fmt.{decimal_injective}
@@ -8,9 +8,10 @@ use Rattle.sw_message.specs.declared.fields.Field.{Field}
 use Rattle.sw_object_server.specs.Places.{IsDevice, IsPartition}
 use Rattle.sw_ring.proofs.Repeats.{one_place}
 use Rattle.sw_ring.specs.declared.ring.Ring.{Ring}
-use Rattle.sw_control.specs.Pushes.{AreActs, IsContainer, IsMessage, IsNumber, IsReplication, IsRowPush}
+use Rattle.sw_control.specs.Passes.{AreActs, IsContainer, IsMessage, IsNumber, IsReplication, IsRowPush, IsUpdate}
 use Rattle.sw_control.specs.declared.replication.Replication.{Replication}
 use Rattle.sw_control.specs.declared.row_push.RowPush.{RowPush}
+use Rattle.sw_control.specs.declared.update.Update.{Update}
 
 pub one_device : (ring : Ring) (name other : List ℕ) (i j : ℕ) → name ≡ other → IsDevice ring name (Some i) → IsDevice ring other (Some j) → i ≡ j
 one_device ring name other i j same p q = one_place name ring.devices i j ring.distinct_names p (rw (← same) at q)
@@ -99,3 +100,16 @@ one_row_push ring from to account container from' to' account' container' fields
     let place = one_container ring account container account' container' a.place b.place same_account same_container p.place q.place in
     let acts = one_acts fields a.acts b.acts p.acts q.acts in
     same_row_pushes a b sender receiver place acts
+
+same_updates : (a b : Update) → a.device ≡ b.device → a.acts ≡ b.acts → a ≡ b
+same_updates a b device acts =
+    let with_device : ℕ → Update = λ x. record a { device = x } in
+    let with_acts : Acts → Update = λ x. record b { acts = x } in
+    ap with_device device ∙ ap with_acts acts
+
+pub one_update : (ring : Ring) (name other : List ℕ) (fields : List Field) (a b : Update)
+    → name ≡ other → IsUpdate ring name fields a → IsUpdate ring other fields b → a ≡ b
+one_update ring name other fields a b same p q =
+    let device = one_device ring name other a.device b.device same p.device q.device in
+    let acts = one_acts fields a.acts b.acts p.acts q.acts in
+    same_updates a b device acts

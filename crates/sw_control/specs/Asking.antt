@@ -9,9 +9,9 @@ use Rattle.sw_message.specs.declared.request.Request.{Request}
 use Rattle.sw_object_server.specs.Places.{IsDevice}
 use Rattle.sw_object_server.specs.Targets.{behind_segment, first_segment, is_slash}
 use Rattle.sw_ring.specs.declared.ring.Ring.{Ring}
-use Rattle.sw_control.specs.Pushes.{IsReplication, IsRowPush}
+use Rattle.sw_control.specs.Passes.{IsReplication, IsRowPush, IsUpdate}
 use Rattle.sw_control.specs.declared.asking.Control.{Control}
-use Rattle.sw_control.specs.declared.asking.Control.TheVariants.{Trail, Files, Restart, Replicate, PushRows, Refused}
+use Rattle.sw_control.specs.declared.asking.Control.TheVariants.{Trail, Files, Pending, Restart, Replicate, PushRows, Update, Refused}
 
 -- whether the path's first segment is that of control requests
 abbrev pub is_control : List ℕ → Bool
@@ -25,15 +25,17 @@ segments_of path = map percent_decode (slice_split is_slash (behind_segment (dro
 abbrev pub words_of : Request → List (List ℕ)
 words_of r = r.method ∷ segments_of r.path
 
--- The requests that are known, each with the words that ask for it. A device is asked for by its name, and a push by fields as well
+-- The requests that are known, each with the words that ask for it. A device is asked for by its name, and a pass by fields as well
 abbrev pub AsksFor : Ring → List (List ℕ) → List Field → Control → Type 0
 AsksFor ring words fields Trail = words ≡ codes "GET" ∷ codes "trail" ∷ []
 AsksFor ring words fields (Files device) = (name : List ℕ) × IsDevice ring name (Some device) × (words ≡ codes "GET" ∷ codes "files" ∷ name ∷ [])
+AsksFor ring words fields (Pending device) = (name : List ℕ) × IsDevice ring name (Some device) × (words ≡ codes "GET" ∷ codes "pending" ∷ name ∷ [])
 AsksFor ring words fields (Restart device) = (name : List ℕ) × IsDevice ring name (Some device) × (words ≡ codes "POST" ∷ codes "restart" ∷ name ∷ [])
 AsksFor ring words fields (Replicate asked) = (from : List ℕ) × (to : List ℕ) × (part : List ℕ) × IsReplication ring from to part fields asked
     × (words ≡ codes "POST" ∷ codes "replicate" ∷ from ∷ to ∷ part ∷ [])
 AsksFor ring words fields (PushRows asked) = (from : List ℕ) × (to : List ℕ) × (account : List ℕ) × (container : List ℕ)
     × IsRowPush ring from to account container fields asked × (words ≡ codes "POST" ∷ codes "rows" ∷ from ∷ to ∷ account ∷ container ∷ [])
+AsksFor ring words fields (Update asked) = (name : List ℕ) × IsUpdate ring name fields asked × (words ≡ codes "POST" ∷ codes "update" ∷ name ∷ [])
 AsksFor ring words fields Refused = ⊥
 
 -- what these words and fields ask for. They are refused exactly where they ask for nothing that is known
@@ -50,9 +52,11 @@ IsControl ring r asked = IsAsked ring (words_of r) r.fields asked
 abbrev pub IsPlaced : Ring → Control → Type 0
 IsPlaced ring Trail = ⊤
 IsPlaced ring (Files device) = device < length ring.devices
+IsPlaced ring (Pending device) = device < length ring.devices
 IsPlaced ring (Restart device) = device < length ring.devices
 IsPlaced ring (Replicate asked) = (asked.from < length ring.devices) × (asked.to < length ring.devices) × (asked.from ≢ asked.to)
     × (asked.part < 2 ^ ring.power)
 IsPlaced ring (PushRows asked) = (asked.from < length ring.devices) × (asked.to < length ring.devices) × (asked.from ≢ asked.to)
     × IsHashed ring asked.place
+IsPlaced ring (Update asked) = asked.device < length ring.devices
 IsPlaced ring Refused = ⊤

@@ -1,11 +1,11 @@
-ghost use Rattle.std.specs.Prelude.{◌≡◌, List, ◌∷◌, [], codes, drop, map, nat_eq, true, IfOk, OnErr};
+ghost use Rattle.std.specs.Prelude.{◌≡◌, ◌∷◌, [], codes, drop, map, nat_eq, true, IfOk, OnErr};
 ghost use Rattle.std.specs.List.{slice_split, starts_with};
-ghost use Rattle.sw_message.specs.declared.fields.Field.{Field};
 ghost use Rattle.sw_object_server.specs.Targets.{is_slash};
 ghost use Rattle.sw_control.specs.Asking.{IsAsked, IsControl, IsPlaced, is_control as is_control_path, segments_of};
 
 use crate::replication::{Replication, replication_of};
 use crate::row_push::{RowPush, row_push_of};
+use crate::update::{Update, update_of};
 use std::alloc::{AllocError, Global};
 use sw_message::{FieldList, Request};
 use sw_object_server::{at_slash, decoded};
@@ -19,12 +19,16 @@ pub enum Control {
     Trail,
     /// The files of a device.
     Files(u8),
+    /// The records of a device that wait for an update.
+    Pending(u8),
     /// A restart of a device.
     Restart(u8),
     /// A push of a partition from one device to another.
     Replicate(Replication),
     /// A push of the rows of a container from one device to another.
     PushRows(RowPush),
+    /// An update of the containers, by the records of a device.
+    Update(Update),
     /// Nothing that is known: a 400.
     Refused,
 }
@@ -65,7 +69,15 @@ fn asked(
     let method = request.method.as_str();
     match words {
         [word] if method == "GET" && word.as_slice() == b"trail".as_slice() => Ok(Control::Trail),
-        [word, device] => Ok(of_device(ring, method, word.as_slice(), device.as_slice())),
+        [word, device] => {
+            Ok(of_device(
+                ring,
+                method,
+                word.as_slice(),
+                device.as_slice(),
+                &request.fields,
+            ))
+        }
         [word, from, to, part] if method == "POST" && word.as_slice() == b"replicate".as_slice() =>
             {
                 Ok(of_push(
@@ -92,20 +104,36 @@ fn asked(
     }
 }
 
-/// What a word and the name of a device ask for.
-fn of_device(ring: &Ring, method: &str, word: &[u8], device: &[u8]) -> Control
-    ensures asked { (fields : List Field) → IsAsked ring.now (method.now ∷ word.now ∷ device.now ∷ []) fields result }
+/// What a word, the name of a device and the fields ask for.
+fn of_device(ring: &Ring, method: &str, word: &[u8], device: &[u8], fields: &FieldList) -> Control
+    ensures asked { IsAsked ring.now (method.now ∷ word.now ∷ device.now ∷ []) fields.now result }
     ensures placed { IsPlaced ring.now result }
 {
+    if method == "POST" && word == b"update".as_slice() {
+        return of_update(ring, device, fields);
+    }
     let Some(device) = ring.device(device) else {
         return Control::Refused;
     };
     if method == "GET" && word == b"files".as_slice() {
         Control::Files(device)
+    } else if method == "GET" && word == b"pending".as_slice() {
+        Control::Pending(device)
     } else if method == "POST" && word == b"restart".as_slice() {
         Control::Restart(device)
     } else {
         Control::Refused
+    }
+}
+
+/// What the name of a device and the fields ask for behind the words of an update.
+fn of_update(ring: &Ring, device: &[u8], fields: &FieldList) -> Control
+    ensures asked { IsAsked ring.now (codes "POST" ∷ codes "update" ∷ device.now ∷ []) fields.now result }
+    ensures placed { IsPlaced ring.now result }
+{
+    match update_of(ring, device, fields) {
+        Some(update) => Control::Update(update),
+        None => Control::Refused,
     }
 }
 

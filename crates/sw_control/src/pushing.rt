@@ -1,5 +1,5 @@
 ghost use Rattle.std.specs.Prelude.{ℕ, Option, IfErr, IfNone, IfOk, IfSome};
-ghost use Rattle.sw_control.specs.Pushes.{AreActs, AreApart, IsMessage, IsNumber};
+ghost use Rattle.sw_control.specs.Passes.{AreActs, AreApart, IsMessage, IsNumber};
 ghost use Rattle.sw_lossy.specs.declared.acts.Acts.{Acts};
 
 use sw_fields::second_of;

@@ -1,5 +1,5 @@
 ghost use Rattle.std.specs.Prelude.{IfNone, IfSome};
-ghost use Rattle.sw_control.specs.Pushes.{IsReplication};
+ghost use Rattle.sw_control.specs.Passes.{IsReplication};
 ghost use Rattle.sw_control.specs.declared.replication.Replication.{Replication};
 
 use crate::pushing::{acts_of, two_devices};

@@ -1,5 +1,5 @@
 ghost use Rattle.std.specs.Prelude.{◌≡◌, None, Some, IfNone, IfOk, IfSome, OnErr};
-ghost use Rattle.sw_control.specs.Pushes.{IsContainer, IsRowPush};
+ghost use Rattle.sw_control.specs.Passes.{IsContainer, IsRowPush};
 ghost use Rattle.sw_control.specs.declared.row_push.RowPush.{RowPush};
 ghost use Rattle.sw_hashpath.specs.BadNames.{bad_name};
 

@@ -223,7 +223,7 @@ fn write_kind(tag: Tag) -> &'static [u8]
 }
 
 /// The name of a device.
-fn device_name(devices: &BytesList, device: u8) -> &[u8]
+pub(crate) fn device_name(devices: &BytesList, device: u8) -> &[u8]
     ensures { result.now ≡ slice_index_or devices.now device [] }
 {
     match devices.as_slice().get(usize::from(device)) {

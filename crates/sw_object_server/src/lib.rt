@@ -34,3 +34,4 @@ pub use replies::{at_time, bare, damaged, field, made_reply, reply_to, time_text
 pub use serving::answer;
 pub use showing::shown;
 pub use target::{Parts, at_slash, decoded, parts_of, slash_count};
+pub use verb::Verb;

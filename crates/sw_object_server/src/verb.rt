@@ -3,9 +3,9 @@ ghost use Rattle.sw_object_server.specs.Targets.{verb_of as verb_of_method};
 
 use http::Method;
 
-/// What a client may do with an object.
+/// What a client may do with an object, by the method of its request.
 #[derive(Clone, Copy, Debug, PartialEq, Eq)]
-pub(crate) enum Verb {
+pub enum Verb {
     Put,
     Get,
     Head,

@@ -21,7 +21,7 @@ mod texts;
 
 pub use asked::ReplicaAsked;
 pub use reading::read_replication;
-pub use replies::{files_reply, hashes_reply};
+pub use replies::{fault_reply, files_reply, hashes_reply};
 pub use serving::answer;
 pub use suffix_list::SuffixList;
 pub use target::is_replication;

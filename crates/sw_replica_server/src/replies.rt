@@ -39,8 +39,8 @@ pub fn files_reply(
     }
 }
 
-/// The reply to a read that gave nothing.
-fn fault_reply(alloc: Global, fault: DirFault) -> Result<Response, NoMemory>
+/// The reply to a read that gave nothing. Only one that shows what is damaged needs memory.
+pub fn fault_reply(alloc: Global, fault: DirFault) -> Result<Response, NoMemory>
     ensures ok { IfOk result (λ response. response ≡ fault_reply_to fault) }
     ensures err { OnErr result (shows_fault fault ≡ true) }
 {

@@ -54,7 +54,7 @@ pub returns-in-len2-clause-asked : goal.returns-in-len2-clause-asked
 returns-in-len2-clause-asked c =
     let words = two_words c.args.words.now c.word-item-then-words-lt3.result c.device-item.result c.in-len2.len_at_least c.in-len2.len_below
     c.word-item-then-words-lt3.is c.device-item.is in
-    along _ _ _ _ _ (cc) (c.of_device.ensures.asked c.args.request.now.fields)
+    along _ _ _ _ _ (cc) c.of_device.ensures.asked
 
 pub returns-in-len4-clause-asked : goal.returns-in-len4-clause-asked
 returns-in-len4-clause-asked c =

@@ -1,4 +1,4 @@
--- The pushes that control requests ask for. (This project's own.)
+-- The passes that control requests ask for. (This project's own.)
 use Rattle.std.specs.Prelude.{◌≡◌, ◌≢◌, ℕ, ◌≤◌, List, length, codes, Option, None, Some, IsSome, IsTrue}
 use Rattle.std.specs.Char.{is_ascii_digit}
 use Rattle.std.specs.List.{list_all}
@@ -13,6 +13,7 @@ use Rattle.sw_object_server.specs.Places.{IsDevice, IsPartition}
 use Rattle.sw_ring.specs.declared.ring.Ring.{Ring}
 use Rattle.sw_control.specs.declared.replication.Replication.{Replication}
 use Rattle.sw_control.specs.declared.row_push.RowPush.{RowPush}
+use Rattle.sw_control.specs.declared.update.Update.{Update}
 
 -- ---- which messages fail
 
@@ -60,4 +61,11 @@ pub record IsReplication (ring : Ring) (from to part : List ℕ) (fields : List 
 pub record IsRowPush (ring : Ring) (from to account container : List ℕ) (fields : List Field) (asked : RowPush) : Type 0 where
   pub devices : AreApart ring from to asked.from asked.to
   pub place : IsContainer ring account container (Some asked.place)
+  pub acts : AreActs fields asked.acts
+
+-- ---- what is updated
+
+-- an update of the containers, by the records of a device, is asked for by its name and by fields
+pub record IsUpdate (ring : Ring) (name : List ℕ) (fields : List Field) (asked : Update) : Type 0 where
+  pub device : IsDevice ring name (Some asked.device)
   pub acts : AreActs fields asked.acts
