@@ -73,11 +73,11 @@ module _ {A : Type 0} (step : Sight → A → Sight → Type 0) (calm : (s : Sig
   calm-comes s [] t p = calm-still s t p
   calm-comes s (x ∷ xs) t p = calm-join s p.0 t (calm s x p.0 p.1) (calm-comes p.0 xs t p.2)
 
-  calm-calls : (s : Sight) (link : Link) (r : Result A Lost) (t : Sight) → Calls step s link r t → IsCalm s t
+  pub calm-calls : (s : Sight) (link : Link) (r : Result A Lost) (t : Sight) → Calls step s link r t → IsCalm s t
   calm-calls s link (Ok x) t p = calm-comes s (p.0 ++ x ∷ []) t p.2
   calm-calls s link (Err lost) t p = calm-comes s p.2.0 t p.2.1
 
-made-calm : (link : Link) (device : ℕ) (name : Name) (change : Change) (s : Sight) (r : Result Answer Lost) (t : Sight)
+pub made-calm : (link : Link) (device : ℕ) (name : Name) (change : Change) (s : Sight) (r : Result Answer Lost) (t : Sight)
     → Calls (IsMade link device name change) s link r t → IsCalm s t
 made-calm link device name change s r t p =
     calm-calls (IsMade link device name change) (λ a x b made. calm-trails a b _ _ refl made.trail) s link r t p
@@ -101,7 +101,7 @@ write-calm : (device part : ℕ) (hash : Hash) (file : FileName) (s : Sight) (r 
 write-calm device part hash file s r t p = part-calm Local device part _ _ _ _ s r t p
 
 -- several things, one after the other
-turn-calm : {A : Type 0} (one : A → Sight → Outcome → Sight → Outcome → Bool → Type 0)
+pub turn-calm : {A : Type 0} (one : A → Sight → Outcome → Sight → Outcome → Bool → Type 0)
     → ((x : A) (s : Sight) (o : Outcome) (t : Sight) (p : Outcome) (on : Bool) → one x s o t p on → IsCalm s t)
     → (xs : List A) (s : Sight) (o : Outcome) (t : Sight) (p : Outcome) (on : Bool) → InTurn one xs s o t p on → IsCalm s t
 turn-calm {A} one each [] s o t p on is = calm-same s t is.0
@@ -170,7 +170,7 @@ module _ (from to part : ℕ) where
 
 -- ---- the same of a push of rows
 
-changed-calm : (link : Link) (device : ℕ) (place : Place) (change : ContChange) (s : Sight) (r : Result ContAnswer Lost) (t : Sight)
+pub changed-calm : (link : Link) (device : ℕ) (place : Place) (change : ContChange) (s : Sight) (r : Result ContAnswer Lost) (t : Sight)
     → Calls (IsContMade link device place change) s link r t → IsCalm s t
 changed-calm link device place change s r t p =
     calm-calls (IsContMade link device place change) (λ a x b made. calm-trails a b _ _ refl made.trail) s link r t p

@@ -20,6 +20,8 @@ use Rattle.sw_peer.specs.Sights.{Sight}
 use Rattle.sw_replica_server.specs.Targets.{is_replication_of}
 use Rattle.sw_ring.specs.declared.ring.Ring.{Ring}
 use Rattle.sw_volume.specs.Tree.{Folders}
+use Rattle.sw_listing_laws.proofs.Honesty.{honest-leaving}
+use Rattle.sw_updater.specs.Places.{replicas_in}
 use Rattle.sw_nodes.proofs.Controlling.{on_true}
 use Rattle.sw_nodes.proofs.Keeping.{Keeps, cont_change-keeps, inform-keeps, keeps-join, keeps-same, list-keeps}
 use Rattle.sw_nodes.proofs.Restarting.{none-called, same-restarts}
@@ -78,7 +80,7 @@ module _ {V K S : Type 0} (tells : V → Bool) (files : V → Folders) (faults :
       answers = on_false _ _ (is_control request.path) nodes (on_false _ _ (is_replication_of request) other
           (on_true _ _ (is_for_containers request) containers contained));
       nodes = still.nodes;
-      runs = still.runs refl;
+      runs = honest-leaving ring.secrets (replicas_in ring) (see w) (see after) (still.runs refl);
     };
     faults_are = refl;
     gained = 0;

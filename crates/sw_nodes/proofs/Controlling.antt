@@ -1,11 +1,9 @@
 -- What a control request makes of the nodes: a device whose files were listed, and one that went back to the stores and came again, or
 -- didn't.
-use Rattle.std.proofs.Common.{◌≡◌, ℕ, ◌+◌, ◌*◌, ◌%◌, ◌^◌, ◌≤◌, ◌<◌, Bool, true, false, MatchBool, Option, Some, Result, Ok, Err, IfOk, IfErr}
+use Rattle.std.proofs.Common.{◌≡◌, ℕ, ◌+◌, ◌^◌, Bool, true, false, MatchBool, Option, Some, Result, Ok, Err, IfOk, IfErr}
 use Rattle.std.proofs.Common.{OnErr, OnOk, refl, sym}
 use Rattle.std.proofs.Common.{◌∙◌}
 use Rattle.std.proofs.Common.{ap, subst, inl, inr, ◌⊎◌, arith, MutBor}
-use Rattle.std.proofs.lemmas.Nat.{one_shl}
-use Rattle.std.proofs.Math.Nat.{pow-le-pow_right}
 use Rattle.sw_message.specs.declared.request.Request.{Request}
 use Rattle.sw_message.specs.declared.response.Response.{Response}
 use Rattle.sw_object_server.specs.Replies.{bare}
@@ -14,7 +12,8 @@ use Rattle.sw_control.specs.declared.asking.Control.TheVariants as controls
 use Rattle.sw_control.specs.declared.replication.Replication.{Replication}
 use Rattle.sw_control.specs.declared.row_push.RowPush.{RowPush}
 use Rattle.sw_core.proofs.Anew.{restarts}
-use Rattle.sw_machine.specs.Doors.{RunsOn}
+use Rattle.sw_listing_laws.proofs.Honesty.{honest-leaving}
+use Rattle.sw_machine.specs.Doors.{RunsOnLeaving}
 use Rattle.sw_core.specs.Listing.{is_failed}
 use Rattle.sw_core.specs.Worlds.{KeeperSeen, AllNodes, sight_of}
 use Rattle.sw_outside.specs.declared.errors.NoMemory.{NoMemory}
@@ -23,6 +22,7 @@ use Rattle.sw_ring.specs.declared.ring.Ring.{Ring}
 use Rattle.sw_session.specs.declared.server.ServerFault.{ServerFault}
 use Rattle.sw_steps.proofs.RowRunning.{rows-over-nodes, row_pushes_run}
 use Rattle.sw_steps.proofs.Running.{over-nodes, pushing_runs}
+use Rattle.sw_updater.specs.Places.{replicas_in}
 use Rattle.sw_volume.specs.Tree.{Folders}
 use Rattle.sw_volume.specs.Volume.{raised_by}
 use Rattle.sw_nodes.proofs.Calming.{push-calm, rows-calm}
@@ -34,14 +34,6 @@ use Rattle.sw_nodes.specs.Restarts.{restarts_in}
 use Rattle.sw_nodes.specs.Nodes.{FailsToStart, IsReady, NodesAnswer, NodesHalt, faults_by}
 use Rattle.sw_nodes.specs.Server.{AreRowsPushed, IsControlDone, IsControlled, IsFiled, IsReplicated, IsRestarted, MayAnswer}
 
--- ---- how many locks a device has
-
-pub few : (bits : ℕ) → bits ≤ 4 → 2 ^ bits ≤ 16
-few bits h = pow-le-pow_right {n = 2} (omega arith) h
-
-pub shifted : (bits : ℕ) → bits ≤ 4 → 1 * 2 ^ bits % 2 ^ 8 ≤ 16
-shifted bits h = let within : bits < 8 = omega (arith, h) in rw (one_shl bits 8 within) (few bits h)
-
 -- ---- what a control request did
 
 pub on_true : (X Y : Type 0) (b : Bool) → b ≡ true → X → MatchBool b X Y
@@ -49,7 +41,7 @@ on_true X Y true is x = x
 on_true X Y false is x = cc
 
 module _ {V K : Type 0} (tells : V → Bool) (files : V → Folders) (faults : V → ℕ) (keeps : KeeperSeen K) where
-  abbrev see : AllNodes V K → Sight
+  abbrev pub see : AllNodes V K → Sight
   see w = sight_of tells files faults keeps w
 
   -- memory ran out before anything was done
@@ -59,7 +51,8 @@ module _ {V K : Type 0} (tells : V → Bool) (files : V → Folders) (faults : V
   wanted ring w after request moment response is same reply = record {
     answers = on_true _ _ (is_control request.path) is (inr (same, reply));
     nodes = ap (λ (x : AllNodes V K). (see x).nodes) same;
-    runs = subst (λ (x : AllNodes V K). RunsOn (see w) (see x)) (sym same) (runs-itself (see w));
+    runs = honest-leaving ring.secrets (replicas_in ring) (see w) (see after)
+        (subst (λ (x : AllNodes V K). RunsOnLeaving (see w) (see x)) (sym same) (runs-itself (see w)));
   }
 
   -- the files of a device were listed
@@ -69,7 +62,7 @@ module _ {V K : Type 0} (tells : V → Bool) (files : V → Folders) (faults : V
   may_list ring w after request moment response device is asked (inl filed) = record {
     answers = on_true _ _ (is_control request.path) is (inl (controls.Files device, asked, filed));
     nodes = filed.moves.nodes;
-    runs = listed-runs device (is_failed filed.listed) (see w) (see after) filed.moves;
+    runs = honest-leaving ring.secrets (replicas_in ring) (see w) (see after) (listed-runs device (is_failed filed.listed) (see w) (see after) filed.moves);
   }
   may_list ring w after request moment response device is asked (inr same) = wanted ring w after request moment response is same.0 same.1
 
@@ -85,7 +78,7 @@ module _ {V K : Type 0} (tells : V → Bool) (files : V → Folders) (faults : V
       record {
         answers = on_true _ _ (is_control request.path) is (inl (controls.Restart device, asked, done));
         nodes = begun.nodes;
-        runs = restart-runs device (see w) (see after) refl begun;
+        runs = honest-leaving ring.secrets (replicas_in ring) (see w) (see after) (restart-runs device (see w) (see after) refl begun);
       }
   may_restart ring w after request moment response device is asked (inr same) = wanted ring w after request moment response is same.0 same.1
 
@@ -113,7 +106,8 @@ module _ {V K : Type 0} (tells : V → Bool) (files : V → Folders) (faults : V
   may_push ring w after request moment response asked is asks placed done = record {
     answers = on_true _ _ (is_control request.path) is (inl (controls.Replicate asked, asks, done));
     nodes = over-nodes asked.from asked.to asked.part asked.acts (see w) done.outcome (see after) done.pushed;
-    runs = pushing_runs asked.from asked.to asked.part asked.acts (see w) done.outcome (see after) done.pushed placed.2 refl;
+    runs = honest-leaving ring.secrets (replicas_in ring) (see w) (see after)
+        (pushing_runs asked.from asked.to asked.part asked.acts (see w) done.outcome (see after) done.pushed placed.2 refl);
   }
 
   -- and leaves no line of a restart
@@ -132,7 +126,8 @@ module _ {V K : Type 0} (tells : V → Bool) (files : V → Folders) (faults : V
   may_push_rows ring w after request moment response asked is asks placed done = record {
     answers = on_true _ _ (is_control request.path) is (inl (controls.PushRows asked, asks, done));
     nodes = rows-over-nodes asked.from asked.to asked.place asked.acts (see w) done.outcome (see after) placed.2 done.pushed;
-    runs = row_pushes_run asked.from asked.to asked.place asked.acts (see w) done.outcome (see after) done.pushed placed.2 refl;
+    runs = honest-leaving ring.secrets (replicas_in ring) (see w) (see after)
+        (row_pushes_run asked.from asked.to asked.place asked.acts (see w) done.outcome (see after) done.pushed placed.2 refl);
   }
 
   -- and leaves no line of a restart
@@ -160,7 +155,11 @@ module _ {V K : Type 0} (tells : V → Bool) (files : V → Folders) (faults : V
       → NodesAnswer tells files faults keeps store_faults store_calls out ring ring w w stores stores request moment response
   done_nothing store_faults store_calls out ring w stores request moment response is ready done = record {
     ring_is = refl;
-    may = record { answers = on_true _ _ (is_control request.path) is done; nodes = refl; runs = runs-itself (see w) };
+    may = record {
+      answers = on_true _ _ (is_control request.path) is done;
+      nodes = refl;
+      runs = honest-leaving ring.secrets (replicas_in ring) (see w) (see w) (runs-itself (see w));
+    };
     faults_are = refl;
     gained = 0;
     gains = no-line w.lines w.lines refl;

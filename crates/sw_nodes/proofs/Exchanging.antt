@@ -28,7 +28,7 @@ use Rattle.sw_steps.proofs.Running.{sight_after}
 use Rattle.sw_steps.specs.Passing.{IsPushedOver}
 use Rattle.sw_volume.specs.Tree.{Folders}
 use Rattle.sw_nodes.specs.Exchanging.{ExchangeMeets, IsDonePush, TellsDone}
-use Rattle.sw_nodes.specs.Server.{IsControlDone, IsControlled, IsPushReply, IsReplicated}
+use Rattle.sw_nodes.specs.Server.{IsControlDone, IsControlled, IsPassReply, IsReplicated}
 
 from_true : (X Y : Type 0) (b : Bool) → b ≡ true → MatchBool b X Y → X
 from_true X Y true is x = x
@@ -46,7 +46,7 @@ never_bare : (response : Response) (o : Outcome) → response ≡ text_reply (ou
 never_bare response o is is_bare = let e : 200 ≡ 500 = ap (λ (r : Response). r.status) (sym is ∙ is_bare) in omega (arith, e)
 
 -- a reply that tells that a push is done is that to a push which is
-done_by : (result : Result Outcome NoMemory) (response : Response) → TellsDone response → IsPushReply result response →
+done_by : (result : Result Outcome NoMemory) (response : Response) → TellsDone response → IsPassReply result response →
     (o : Outcome) × (result ≡ Ok o) × (o.done ≡ true)
 done_by (Ok o) response told (inl reply) = (o, refl, tells_done o told.outcome (same_text o told.outcome (sym reply ∙ told.is_reply)) ∙ told.done)
 done_by (Ok o) response told (inr reply) = absurd (never_bare response told.outcome told.is_reply reply)

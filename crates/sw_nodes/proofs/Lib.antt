@@ -1,3 +1,4 @@
+pub mod Asking
 pub mod Calming
 pub mod Comparing
 pub mod Contained
@@ -9,3 +10,5 @@ pub mod Replicating
 pub mod Restarting
 pub mod RunningLemmas
 pub mod Serving
+pub mod UpdateCalming
+pub mod Updating

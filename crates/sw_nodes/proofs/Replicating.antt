@@ -11,6 +11,8 @@ use Rattle.sw_replica_server.specs.Targets.{is_replication_of}
 use Rattle.sw_ring.specs.declared.ring.Ring.{Ring}
 use Rattle.sw_volume.specs.Tree.{Folders}
 use Rattle.sw_container_server.specs.Targets.{is_for_containers}
+use Rattle.sw_listing_laws.proofs.Honesty.{honest-leaving}
+use Rattle.sw_updater.specs.Places.{replicas_in}
 use Rattle.sw_nodes.proofs.Comparing.{answered-keeps, given_up-keeps}
 use Rattle.sw_nodes.proofs.Controlling.{on_true}
 use Rattle.sw_nodes.proofs.Keeping.{Keeps, runs-itself}
@@ -35,7 +37,7 @@ module _ {V K S : Type 0} (tells : V → Bool) (files : V → Folders) (faults :
     may = record {
       answers = on_false _ _ (is_control request.path) nodes (on_true _ _ (is_replication_of request) replicas compared);
       nodes = still.nodes;
-      runs = still.runs refl;
+      runs = honest-leaving ring.secrets (replicas_in ring) (see w) (see after) (still.runs refl);
     };
     faults_are = refl;
     gained = 0;
@@ -80,7 +82,8 @@ module _ {V K S : Type 0} (tells : V → Bool) (files : V → Folders) (faults :
     may = record {
       answers = whatever (is_control request.path) (is_replication_of request) (is_for_containers request);
       nodes = refl;
-      runs = runs-itself (sight_of tells files faults keeps w);
+      runs = honest-leaving ring.secrets (replicas_in ring) (sight_of tells files faults keeps w) (sight_of tells files faults keeps w)
+          (runs-itself (sight_of tells files faults keeps w));
     };
     faults_are = refl;
     gained = 0;

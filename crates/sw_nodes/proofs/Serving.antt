@@ -16,6 +16,8 @@ use Rattle.sw_ring.specs.Faults.{has_repeat}
 use Rattle.sw_ring.specs.Rows.{AreGood, is_good}
 use Rattle.sw_ring.specs.declared.ring.Ring.{Ring}
 use Rattle.sw_volume.specs.Tree.{Folders}
+use Rattle.sw_listing_laws.proofs.Honesty.{honest-leaving}
+use Rattle.sw_updater.specs.Places.{replicas_in}
 use Rattle.sw_nodes.proofs.Readying.{ready-of}
 use Rattle.sw_nodes.proofs.Restarting.{none-called, same-restarts}
 use Rattle.sw_nodes.proofs.RunningLemmas.{answered_keeps, left_keeps}
@@ -97,7 +99,8 @@ module _ {V K : Type 0} (tells : V → Bool) (files : V → Folders) (faults : V
         answers = on_false _ _ (is_control request.path) is (on_false _ _ (is_replication_of request) other (on_false _ _ (is_for_containers request) object
             (inl answered)));
         nodes = (answered_keeps see ring w after request moment response answered).nodes;
-        runs = (answered_keeps see ring w after request moment response answered).runs refl;
+        runs = honest-leaving ring.secrets (replicas_in ring) (see w) (see after)
+            ((answered_keeps see ring w after request moment response answered).runs refl);
       };
       faults_are = refl;
       gained = 0;
@@ -119,7 +122,7 @@ module _ {V K : Type 0} (tells : V → Bool) (files : V → Folders) (faults : V
         answers = on_false _ _ (is_control request.path) is (on_false _ _ (is_replication_of request) other (on_false _ _ (is_for_containers request) object
             (inr (reply, left))));
         nodes = (left_keeps see ring w after request moment left).nodes;
-        runs = (left_keeps see ring w after request moment left).runs refl;
+        runs = honest-leaving ring.secrets (replicas_in ring) (see w) (see after) ((left_keeps see ring w after request moment left).runs refl);
       };
       faults_are = refl;
       gained = 0;

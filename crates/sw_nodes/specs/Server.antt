@@ -3,6 +3,8 @@
 -- A reply is a relation, since want of memory may be answered in place of any reply. Then no step came, or the one that the request asks
 -- for, which changed nothing.
 use Rattle.std.specs.Prelude.{◌≡◌, ℕ, Bool, true, false, List, [], MatchBool, ◌⊎◌, Result, Ok, Err, IfOk}
+use Rattle.std.specs.declared.alloc.Global.{Global}
+use Rattle.std.specs.declared.vec.Vec.{Vec}
 use Rattle.sw_message.specs.declared.request.Request.{Request}
 use Rattle.sw_message.specs.declared.response.Response.{Response}
 use Rattle.sw_ring.specs.declared.ring.Ring.{Ring}
@@ -14,19 +16,26 @@ use Rattle.sw_replica_server.specs.Serving as replicas
 use Rattle.sw_replica_server.specs.Targets.{is_replication_of}
 use Rattle.sw_control.specs.Asking.{IsControl, is_control}
 use Rattle.sw_control.specs.OutcomeText.{outcome_text}
+use Rattle.sw_control.specs.PendingText.{pending_text}
 use Rattle.sw_control.specs.Texts.{files_text, text_reply}
 use Rattle.sw_control.specs.TrailText.{trail_text}
 use Rattle.sw_control.specs.declared.asking.Control.{Control}
 use Rattle.sw_control.specs.declared.asking.Control.TheVariants as controls
 use Rattle.sw_control.specs.declared.replication.Replication.{Replication}
 use Rattle.sw_control.specs.declared.row_push.RowPush.{RowPush}
-use Rattle.sw_machine.specs.Doors.{RunsOn}
+use Rattle.sw_control.specs.declared.update.Update.{Update}
+use Rattle.sw_listing_laws.specs.Honest.{RunsHonestly}
 use Rattle.sw_core.specs.Listing.{AreCalm, ListsFiles, is_failed}
 use Rattle.sw_core.specs.Worlds.{KeeperSeen, AllNodes, IsSameWorld, Lifts, SetsDown, sight_of}
+use Rattle.sw_object_steps.specs.declared.dir_fault.DirFault.{DirFault}
 use Rattle.sw_outside.specs.declared.errors.NoMemory.{NoMemory}
 use Rattle.sw_pass.specs.declared.outcome.Outcome.{Outcome}
 use Rattle.sw_peer.specs.Sights.{IsListed}
-use Rattle.sw_steps.specs.Passing.{AreRowsPushedOver, IsPushedOver}
+use Rattle.sw_pending.specs.declared.filed.Filed.{Filed}
+use Rattle.sw_replica_server.specs.Replies.{fault_reply, shows_fault}
+use Rattle.sw_steps.specs.Passing.{AreRowsPushedOver, IsPushedOver, IsUpdateOver}
+use Rattle.sw_updater.specs.Places.{replicas_in}
+use Rattle.sw_updater.specs.Reading.{ArePending}
 use Rattle.sw_volume.specs.Tree.{Folders}
 use Rattle.sw_volume.specs.declared.errors.VolumeError.{VolumeError}
 use Rattle.sw_volume.specs.declared.errors.VolumeError.TheVariants as volume_errors
@@ -39,10 +48,16 @@ IsFilesReply (Ok paths) response = (response ≡ text_reply (files_text paths)) 
 IsFilesReply (Err volume_errors.Failed) response = response ≡ bare 507
 IsFilesReply (Err volume_errors.NoMemory) response = response ≡ bare 500
 
--- the reply to a push: only for the text of what came of it memory may be wanting yet
-abbrev pub IsPushReply : Result Outcome NoMemory → Response → Type 0
-IsPushReply (Ok outcome) response = (response ≡ text_reply (outcome_text outcome)) ⊎ (response ≡ bare 500)
-IsPushReply (Err wanting) response = response ≡ bare 500
+-- the reply to a read of records: for their text, or for that of what is damaged, memory may be wanting yet
+abbrev pub IsPendingReply : List (List ℕ) → Result (Result (Vec Filed Global) DirFault) NoMemory → Response → Type 0
+IsPendingReply devices (Ok (Ok records)) response = (response ≡ text_reply (pending_text devices records.items)) ⊎ (response ≡ bare 500)
+IsPendingReply devices (Ok (Err fault)) response = (response ≡ fault_reply fault) ⊎ ((shows_fault fault ≡ true) × (response ≡ bare 500))
+IsPendingReply devices (Err wanting) response = response ≡ bare 500
+
+-- the reply to a pass: only for the text of what came of it memory may be wanting yet
+abbrev pub IsPassReply : Result Outcome NoMemory → Response → Type 0
+IsPassReply (Ok outcome) response = (response ≡ text_reply (outcome_text outcome)) ⊎ (response ≡ bare 500)
+IsPassReply (Err wanting) response = response ≡ bare 500
 
 module _ {V K : Type 0} (tells : V → Bool) (files : V → Folders) (faults : V → ℕ) (keeps : KeeperSeen K) where
   -- the files of a device were listed
@@ -65,22 +80,36 @@ module _ {V K : Type 0} (tells : V → Bool) (files : V → Folders) (faults : V
   pub record IsReplicated (asked : Replication) (w : AllNodes V K) (response : Response) (after : AllNodes V K) : Type 0 where
     pub outcome : Result Outcome NoMemory
     pub pushed : IsPushedOver asked.from asked.to asked.part asked.acts (sight_of tells files faults keeps w) outcome (sight_of tells files faults keeps after)
-    pub reply : IsPushReply outcome response
+    pub reply : IsPassReply outcome response
 
   -- The rows of a container were pushed, and what came of it replied. A push that wanted memory was made as far as it came
   pub record AreRowsPushed (asked : RowPush) (w : AllNodes V K) (response : Response) (after : AllNodes V K) : Type 0 where
     pub outcome : Result Outcome NoMemory
     pub pushed : AreRowsPushedOver asked.from asked.to asked.place asked.acts (sight_of tells files faults keeps w) outcome
         (sight_of tells files faults keeps after)
-    pub reply : IsPushReply outcome response
+    pub reply : IsPassReply outcome response
+
+  -- the records of a device were read, and told
+  pub record ArePendingTold (ring : Ring) (device : ℕ) (w : AllNodes V K) (response : Response) (after : AllNodes V K) : Type 0 where
+    pub got : Result (Result (Vec Filed Global) DirFault) NoMemory
+    pub read : ArePending ring device (sight_of tells files faults keeps w) got (sight_of tells files faults keeps after)
+    pub reply : IsPendingReply ring.devices got response
+
+  -- The containers were updated by the records of a device, and what came of it replied. An update that wanted memory was made as far as it came
+  pub record IsUpdated (ring : Ring) (asked : Update) (w : AllNodes V K) (response : Response) (after : AllNodes V K) : Type 0 where
+    pub outcome : Result Outcome NoMemory
+    pub updated : IsUpdateOver ring asked.device asked.acts (sight_of tells files faults keeps w) outcome (sight_of tells files faults keeps after)
+    pub reply : IsPassReply outcome response
 
   -- what a control request asks for was done
   abbrev pub IsControlDone : Ring → AllNodes V K → Control → Response → AllNodes V K → Type 0
   IsControlDone ring w controls.Trail response after = (after ≡ w) × (response ≡ text_reply (trail_text ring.devices w.lines))
   IsControlDone ring w (controls.Files device) response after = IsFiled device w response after
+  IsControlDone ring w (controls.Pending device) response after = ArePendingTold ring device w response after
   IsControlDone ring w (controls.Restart device) response after = IsRestarted device w after × (response ≡ text_reply [])
   IsControlDone ring w (controls.Replicate asked) response after = IsReplicated asked w response after
   IsControlDone ring w (controls.PushRows asked) response after = AreRowsPushed asked w response after
+  IsControlDone ring w (controls.Update asked) response after = IsUpdated ring asked w response after
   IsControlDone ring w controls.Refused response after = (after ≡ w) × (response ≡ bare 400)
 
   -- a control request was answered, or memory ran out before anything was done
@@ -118,13 +147,13 @@ module _ {V K : Type 0} (tells : V → Bool) (files : V → Folders) (faults : V
   -- ---- any request
 
   -- A reply that may be given: the right one, or want of memory; and what the world is then. Whatever machine it stood for goes on to it as it is then,
-  -- by the lines that it kept of this request.
+  -- by the lines that it kept of this request, and honestly: what is marked in a record was heard, and what is dropped looks at all devices of its container.
   pub record MayAnswer (ring : Ring) (w : AllNodes V K) (r : Request) (moment : ℕ) (response : Response) (after : AllNodes V K) : Type 0 where
     pub answers : MatchBool (is_control r.path) (IsControlled ring w r response after)
         (MatchBool (is_replication_of r) (IsCompared ring w r response after)
         (MatchBool (is_for_containers r) (IsContained ring w r response after) (IsServedAt ring w r moment response after)))
     pub nodes : (sight_of tells files faults keeps after).nodes ≡ (sight_of tells files faults keeps w).nodes
-    pub runs : RunsOn (sight_of tells files faults keeps w) (sight_of tells files faults keeps after)
+    pub runs : RunsHonestly ring.secrets (replicas_in ring) (sight_of tells files faults keeps w) (sight_of tells files faults keeps after)
 
   -- A restart was asked for, and the device lifted, but its volumes and keepers couldn't be started again: it stays out, and no request comes after it
   pub record MayHalt (ring : Ring) (w : AllNodes V K) (r : Request) (after : AllNodes V K) : Type 0 where

@@ -1,5 +1,6 @@
 ghost use Rattle.sw_core.specs.Worlds.{keeper_seen};
 ghost use Rattle.std.specs.Prelude.{◌≡◌, ◌<◌, ◌≤◌, ◌^◌, ◌⊎◌, true, false, length, None, Ok, IfOk, IfErr, OnOk, OnErr};
+ghost use Rattle.sw_control.specs.PendingText.{pending_text as pending_text_of};
 ghost use Rattle.sw_control.specs.Texts.{files_text as files_text_of, text_reply as text_reply_of};
 ghost use Rattle.sw_object_server.specs.Replies.{bare as bare_of};
 ghost use Rattle.sw_volume.specs.Volume.{raised_by};
@@ -8,26 +9,29 @@ ghost use Rattle.sw_control.specs.Asking.{IsPlaced, is_control as is_control_pat
 ghost use Rattle.sw_container_server.specs.Targets.{is_for_containers as is_for_containers_of};
 ghost use Rattle.sw_replica_server.specs.Targets.{is_replication_of};
 ghost use Rattle.sw_control.specs.declared.asking.Control.TheVariants as controls;
-ghost use Rattle.sw_nodes.specs.Server.{AreRowsPushed, IsControlDone, IsFiled, IsPushReply, IsReplicated};
+ghost use Rattle.sw_nodes.specs.Server.{AreRowsPushed, ArePendingTold, IsControlDone, IsFiled, IsPassReply, IsPendingReply, IsReplicated, IsUpdated};
 
 use std::alloc::Global;
 use sw_container_server::is_for_containers;
 use sw_control::{
-    Control, Replication, RowPush, files_text, is_control, outcome_text, read_control, text_reply,
-    trail_text,
+    Control, Replication, RowPush, Update, files_text, is_control, outcome_text, pending_text,
+    read_control, text_reply, trail_text,
 };
 use sw_core::World;
 use sw_lossy::Lossy;
 use sw_message::{Request, Response};
 use sw_object_server::bare;
+use sw_object_steps::DirFault;
 use sw_outside::{Bytes, BytesList, NoMemory, StoreError};
 use sw_pass::Outcome;
-use sw_replica_server::is_replication;
+use sw_pending::Filed;
+use sw_replica_server::{fault_reply, is_replication};
 use sw_ring::Ring;
 use sw_session::{Server, ServerFault};
-use sw_steps::{push_over, push_rows_over};
+use sw_steps::{push_over, push_rows_over, update_over};
 use sw_stores::Stores;
 use sw_stores::ranges::restart_range;
+use sw_updater::pending;
 use sw_volume::VolumeError;
 
 /// The nodes of a ring, as the server of a session. A control request is answered by what the world tells or by what is done with it, and all
@@ -141,9 +145,11 @@ impl<S: Stores> Nodes<'_, S> {
         match read_control(alloc, self.ring, request) {
             Ok(Control::Trail) => Ok(or_wanting(alloc, self.trail(alloc))),
             Ok(Control::Files(device)) => Ok(self.files(alloc, device)),
+            Ok(Control::Pending(device)) => Ok(self.pending(alloc, device)),
             Ok(Control::Restart(device)) => self.restart(alloc, device),
             Ok(Control::Replicate(asked)) => Ok(self.replicate(alloc, asked)),
             Ok(Control::PushRows(asked)) => Ok(self.push_rows(alloc, &asked)),
+            Ok(Control::Update(asked)) => Ok(self.update(alloc, asked)),
             Ok(Control::Refused) => Ok(bare(alloc, 400)),
             Err(NoMemory) => Ok(bare(alloc, 500)),
         }
@@ -174,6 +180,20 @@ impl<S: Stores> Nodes<'_, S> {
         }
     }
 
+    /// Reads the records of a device, and replies to that.
+    fn pending(&mut self, alloc: Global, device: u8) -> Response
+        requires placed { IsPlaced self.old.ring.now (controls.Pending device) }
+        requires ready { IsReady S.out self.old.ring.now self.old.network.door self.old.stores.now }
+        ensures told { ArePendingTold S.V.tells S.V.holds S.V.faults (keeper_seen S.K.tells S.K.holds S.K.faults) self.old.ring.now device
+            self.old.network.door result self.new.network.door }
+        ensures same { (self.new.ring ≡ self.old.ring) × (self.new.stores ≡ self.old.stores) }
+    {
+        match pending(alloc, &mut self.network.door, self.ring, device) {
+            Ok(got) => pending_reply(alloc, &self.ring.devices, &got),
+            Err(NoMemory) => bare(alloc, 500),
+        }
+    }
+
     /// Pushes a partition from one device to another, and replies what came of it. A push that wanted memory was made as far as it came.
     fn replicate(&mut self, alloc: Global, asked: Replication) -> Response
         requires placed { IsPlaced self.old.ring.now (controls.Replicate asked) }
@@ -190,7 +210,7 @@ impl<S: Stores> Nodes<'_, S> {
             asked.part,
             asked.acts,
         ) {
-            Ok(outcome) => pushed(alloc, &outcome),
+            Ok(outcome) => passed(alloc, &outcome),
             Err(NoMemory) => bare(alloc, 500),
         }
     }
@@ -211,7 +231,27 @@ impl<S: Stores> Nodes<'_, S> {
             &asked.place,
             asked.acts,
         ) {
-            Ok(outcome) => pushed(alloc, &outcome),
+            Ok(outcome) => passed(alloc, &outcome),
+            Err(NoMemory) => bare(alloc, 500),
+        }
+    }
+
+    /// Updates the containers by the records of a device, and replies what came of it. An update that wanted memory was made as far as it came.
+    fn update(&mut self, alloc: Global, asked: Update) -> Response
+        requires placed { IsPlaced self.old.ring.now (controls.Update asked) }
+        requires ready { IsReady S.out self.old.ring.now self.old.network.door self.old.stores.now }
+        ensures updated { IsUpdated S.V.tells S.V.holds S.V.faults (keeper_seen S.K.tells S.K.holds S.K.faults) self.old.ring.now asked
+            self.old.network.door result self.new.network.door }
+        ensures same { (self.new.ring ≡ self.old.ring) × (self.new.stores ≡ self.old.stores) }
+    {
+        match update_over(
+            alloc,
+            &mut self.network,
+            self.ring,
+            asked.device,
+            asked.acts,
+        ) {
+            Ok(outcome) => passed(alloc, &outcome),
             Err(NoMemory) => bare(alloc, 500),
         }
     }
@@ -239,7 +279,7 @@ impl<S: Stores> Nodes<'_, S> {
         let Ok(parts) = self.network.door.lift(alloc, device) else {
             return Ok(bare(alloc, 500));
         };
-        let stripes = stripes(self.ring);
+        let stripes = self.ring.stripes();
         let first = usize::from(device) * usize::from(stripes);
         match restart_range(alloc, self.stores, stripes, first, parts) {
             Ok(parts) => {
@@ -265,9 +305,28 @@ fn listed(alloc: Global, paths: &BytesList) -> Response
     }
 }
 
-/// The reply that shows what came of a push.
-fn pushed(alloc: Global, outcome: &Outcome) -> Response
-    ensures { IsPushReply (Ok outcome.now) result }
+/// The reply that shows records, or why they couldn't be read.
+fn pending_reply(alloc: Global, devices: &BytesList, got: &Result<Vec<Filed>, DirFault>) -> Response
+    ensures { IsPendingReply devices.now (Ok got.now) result }
+{
+    let reply = match got {
+        Ok(records) => shown(alloc, devices, records),
+        Err(fault) => fault_reply(alloc, *fault),
+    };
+    or_wanting(alloc, reply)
+}
+
+/// The reply that shows records.
+fn shown(alloc: Global, devices: &BytesList, records: &[Filed]) -> Result<Response, NoMemory>
+    ensures { IfOk result (λ response. response ≡ text_reply_of (pending_text_of devices.now records.now)) }
+{
+    let text = pending_text(alloc, devices, records)?;
+    text_reply(alloc, text)
+}
+
+/// The reply that shows what came of a pass.
+fn passed(alloc: Global, outcome: &Outcome) -> Response
+    ensures { IsPassReply (Ok outcome.now) result }
 {
     let Ok(text) = outcome_text(alloc, outcome) else {
         return bare(alloc, 500);
@@ -276,15 +335,6 @@ fn pushed(alloc: Global, outcome: &Outcome) -> Response
         Ok(response) => response,
         Err(NoMemory) => bare(alloc, 500),
     }
-}
-
-/// How many object locks a device of the ring has.
-pub fn stripes(ring: &Ring) -> u8
-    ensures value { result ≡ 2 ^ ring.now.lock_bits }
-    ensures least { 1 ≤ result }
-    ensures most { result ≤ 16 }
-{
-    1 << ring.lock_bits
 }
 
 /// The reply, or that of want of memory.

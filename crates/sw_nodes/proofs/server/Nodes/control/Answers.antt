@@ -3,6 +3,7 @@ use Rattle.std.proofs.Common.{ap, subst, inl, inr, refl}
 use Rattle.sw_control.specs.Asking.{IsControl, IsPlaced}
 use Rattle.sw_nodes.proofs.Controlling.{came_again, done_nothing, files_listed, push_ready, row_push_ready, rows_were_pushed, stayed_away, trail_told}
 use Rattle.sw_nodes.proofs.Controlling.{was_pushed}
+use Rattle.sw_nodes.proofs.Updating.{pending_ready, pending_told, update_ready, was_updated}
 use Rattle.sw_control.specs.declared.asking.Control.TheVariants as controls
 use Rattle.sw_nodes.proofs.server.Nodes.control.Goals as goal
 
@@ -76,6 +77,42 @@ returns-in-Ok-PushRows-clause-ready g c =
     c.in-Ok-PushRows.asked c.push_rows.result
     (subst (IsPlaced c.args.self.now.ring.now) c.in-Ok-PushRows.field-0-is c.in-Ok-PushRows.ensures.placed)
     (ap (λ r. r.now) c.push_rows.ensures.same.0) c.push_rows.ensures.same.1 c.requires.ready c.push_rows.ensures.pushed
+
+pub returns-in-Ok-Update-clause-served : goal.returns-in-Ok-Update-clause-served
+returns-in-Ok-Update-clause-served g c =
+    was_updated g.S.V.Volume.tells g.S.V.Volume.holds g.S.V.Volume.faults (keeper_seen g.S.K.Keeper.tells g.S.K.Keeper.holds g.S.K.Keeper.faults)
+    g.S.Stores.faults g.S.Stores.calls g.S.Stores.out c.args.self.now.ring.now
+    c.update.new.self.ring.now c.args.self.now.network.door c.update.new.self.network.door c.args.self.now.stores c.update.new.self.stores
+    c.args.request.now
+    c.args._now c.update.result c.in-Ok-Update.asked c.requires.control
+    (subst (IsControl c.args.self.now.ring.now c.args.request.now) c.in-Ok-Update.field-0-is c.in-Ok-Update.ensures.exact)
+    (ap (λ r. r.now) c.update.ensures.same.0) c.update.ensures.same.1 c.requires.ready c.update.ensures.updated
+
+pub returns-in-Ok-Update-clause-ready : goal.returns-in-Ok-Update-clause-ready
+returns-in-Ok-Update-clause-ready g c =
+    update_ready g.S.V.Volume.tells g.S.V.Volume.holds g.S.V.Volume.faults (keeper_seen g.S.K.Keeper.tells g.S.K.Keeper.holds g.S.K.Keeper.faults)
+    g.S.Stores.faults g.S.Stores.calls g.S.Stores.out c.args.self.now.ring.now
+    c.update.new.self.ring.now c.args.self.now.network.door c.update.new.self.network.door c.args.self.now.stores c.update.new.self.stores
+    c.args.request.now
+    c.update.result c.in-Ok-Update.asked (ap (λ r. r.now) c.update.ensures.same.0) c.update.ensures.same.1 c.requires.ready c.update.ensures.updated
+
+pub returns-in-Ok-Pending-clause-served : goal.returns-in-Ok-Pending-clause-served
+returns-in-Ok-Pending-clause-served g c =
+    pending_told g.S.V.Volume.tells g.S.V.Volume.holds g.S.V.Volume.faults (keeper_seen g.S.K.Keeper.tells g.S.K.Keeper.holds g.S.K.Keeper.faults)
+    g.S.Stores.faults g.S.Stores.calls g.S.Stores.out c.args.self.now.ring.now
+    c.pending.new.self.ring.now c.args.self.now.network.door c.pending.new.self.network.door c.args.self.now.stores c.pending.new.self.stores
+    c.args.request.now
+    c.args._now c.pending.result c.in-Ok-Pending.device c.requires.control
+    (subst (IsControl c.args.self.now.ring.now c.args.request.now) c.in-Ok-Pending.field-0-is c.in-Ok-Pending.ensures.exact)
+    (ap (λ r. r.now) c.pending.ensures.same.0) c.pending.ensures.same.1 c.requires.ready c.pending.ensures.told
+
+pub returns-in-Ok-Pending-clause-ready : goal.returns-in-Ok-Pending-clause-ready
+returns-in-Ok-Pending-clause-ready g c =
+    pending_ready g.S.V.Volume.tells g.S.V.Volume.holds g.S.V.Volume.faults (keeper_seen g.S.K.Keeper.tells g.S.K.Keeper.holds g.S.K.Keeper.faults)
+    g.S.Stores.faults g.S.Stores.calls g.S.Stores.out c.args.self.now.ring.now
+    c.pending.new.self.ring.now c.args.self.now.network.door c.pending.new.self.network.door c.args.self.now.stores c.pending.new.self.stores
+    c.args.request.now
+    c.pending.result c.in-Ok-Pending.device (ap (λ r. r.now) c.pending.ensures.same.0) c.pending.ensures.same.1 c.requires.ready c.pending.ensures.told
 
 pub returns-in-Ok-Trail-clause-served : goal.returns-in-Ok-Trail-clause-served
 returns-in-Ok-Trail-clause-served g c =
