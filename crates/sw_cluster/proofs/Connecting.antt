@@ -1,5 +1,6 @@
 -- What a connection over a door leaves of its nodes, and how it follows from the session over its server.
-use Rattle.std.proofs.Common.{◌≡◌, ℕ, Bool, true, false, List, [], ◌∷◌, Option, Some, All, MatchBool, refl, sym, ◌∙◌, ap, subst, inl, inr, ◌⊎◌, MutBor, Result}
+use Rattle.std.proofs.Common.{◌≡◌, ℕ, Bool, true, false, List, [], ◌∷◌, Option, Some, All, MatchBool, refl, sym, ◌∙◌, ap, subst, inl}
+use Rattle.std.proofs.Common.{inr, ◌⊎◌, MutBor, Result, Err}
 use Rattle.std.specs.Bool.{⊤}
 use Rattle.std.proofs.lemmas.List.Elements.{All-nil, All-cons}
 use Rattle.sw_container_server.specs.Serving as containers
@@ -14,12 +15,12 @@ use Rattle.sw_peer.specs.Sights.{Sight}
 use Rattle.sw_replica_server.specs.Serving as replicas
 use Rattle.sw_replica_server.specs.Targets.{is_replication_of}
 use Rattle.sw_ring.specs.declared.ring.Ring.{Ring}
-use Rattle.sw_session.proofs.Mapping.{session-keeps, session-mapped}
+use Rattle.sw_session.proofs.Mapping.{session-keeps}
 use Rattle.sw_session.specs.Closing.{asks_to_close_of}
-use Rattle.sw_session.specs.Passages.{Passage}
-use Rattle.sw_session.specs.Session.{IsSession}
+use Rattle.sw_session.specs.Session.{IsSession, OwnPuts, WaitsForMore}
 use Rattle.sw_session.specs.declared.server.ServerFault.{ServerFault}
 use Rattle.sw_session.specs.declared.session.SessionFault.{SessionFault}
+use Rattle.sw_session.specs.declared.session.SessionFault.TheVariants as faults
 use Rattle.sw_nodes.proofs.Comparing.{answered-keeps, given_up-keeps}
 use Rattle.sw_nodes.proofs.Contained.{answered-keeps as contained-keeps, given_up-keeps as uncontained-keeps}
 use Rattle.sw_nodes.proofs.Controlling.{on_true}
@@ -28,7 +29,9 @@ use Rattle.sw_nodes.proofs.RunningLemmas.{answered_keeps, left_keeps}
 use Rattle.sw_nodes.proofs.Serving.{on_false}
 use Rattle.sw_nodes.specs.Nodes.{AreNodesOf}
 use Rattle.sw_cluster.specs.Connections.{DoorAnswers, IsConnection, NeverHalts}
-use Rattle.sw_cluster.specs.Ending.{status_by}
+use Rattle.sw_cluster.proofs.Mapped.{ends-mapped}
+use Rattle.sw_cluster.specs.Ending.{ReadsInTurn, status_by}
+use Rattle.sw_cluster.specs.Told.{Input, Output, read_of, written_of}
 use Rattle.sw_cluster.specs.declared.connection.DoorServer.{DoorServer}
 
 abbrev pub ring_in : {D : Type 0} → DoorServer D → Ring
@@ -112,14 +115,14 @@ module _ {D : Type 0} (sight : D → Sight) (ring : Ring) where
   module _ (P : D → Type 0) (keeps : (old : D) (r : Request) (moment : ℕ) (response : Response) (new : D) → P old
       → DoorAnswers sight ring old r moment response new → P new) where
     -- what each reply keeps of the door, a connection keeps
-    pub connection-keeps : (moment : ℕ) (old : D) (source sink : Passage) (new : D) (status : ℕ) → P old
+    pub connection-keeps : (moment : ℕ) (old : D) (source : Input) (sink : Output) (new : D) (status : ℕ) → P old
         → IsConnection sight ring moment old source sink new status → P new
     connection-keeps moment old source sink new status p c =
         session-keeps asks_to_close_of (DoorAnswers sight ring) NeverHalts P keeps (λ before r m fault after q halt. absurd halt)
-        old source sink c.moments new c.ends.ended p c.ends.session
+        old (read_of source) (written_of sink) c.moments new c.ends.ended p c.ends.session
 
   -- so the nodes are those that were there, and whatever machine they stood for goes on to them as they are then
-  pub connection-goes : (moment : ℕ) (old : D) (source sink : Passage) (new : D) (status : ℕ)
+  pub connection-goes : (moment : ℕ) (old : D) (source : Input) (sink : Output) (new : D) (status : ℕ)
       → IsConnection sight ring moment old source sink new status → Keeps (sight old) (sight new)
   connection-goes moment old source sink new status c =
       connection-keeps (λ (d : D). Keeps (sight old) (sight d))
@@ -136,8 +139,8 @@ module _ {D : Type 0} (sight : D → Sight) (ring : Ring) where
     abbrev pub HaltsBy : N → Request → ℕ → ServerFault → N → Type 0
     HaltsBy old r moment fault new = NeverHalts (door_of old).now r moment fault (door_of new).now
 
-    module _ (start : N) (source sink : Passage) (moments : List ℕ) (after : N) (result : Result ⊤ SessionFault) (same : ring_of start ≡ ring)
-        (session : IsSession asks_to_close_of ServesBy HaltsBy start source sink moments after result) where
+    module _ (start : N) (source : Input) (sink : Output) (moments : List ℕ) (after : N) (result : Result ⊤ SessionFault) (same : ring_of start ≡ ring)
+        (session : IsSession asks_to_close_of ServesBy HaltsBy start (read_of source) (written_of sink) moments after result) where
       abbrev IsOurs : N → Type 0
       IsOurs n = (ring_of n ≡ ring) × ((door_of n).ghost_name ≡ (door_of start).ghost_name)
 
@@ -146,19 +149,19 @@ module _ {D : Type 0} (sight : D → Sight) (ring : Ring) where
 
       pub same-door : (door_of after).ghost_name ≡ (door_of start).ghost_name
       same-door = (session-keeps asks_to_close_of ServesBy HaltsBy IsOurs ours-on (λ before r m fault then p halt. absurd halt)
-          start source sink moments after result (same, refl) session).1
+          start (read_of source) (written_of sink) moments after result (same, refl) session).1
 
       pub connection-of : (moment status : ℕ) → All (λ m. m ≡ moment) moments → status ≡ status_by result
+          → OwnPuts asks_to_close_of ServesBy HaltsBy start after source.before sink.before sink.now moments sink.calls sink.calls_now result
+          → ReadsInTurn asks_to_close_of ServesBy start moments source
+          → (result ≡ Err faults.ReadFault
+          → WaitsForMore asks_to_close_of ServesBy start after source.before source.now sink.before sink.now moments sink.calls sink.calls_now)
           → IsConnection sight ring moment (door_of start).now source sink (door_of after).now status
-      connection-of moment status still status_is = record {
+      connection-of moment status still status_is puts reads waits = record {
         moments = moments;
         still = still;
-        ends = record {
-          ended = result;
-          status_is = status_is;
-          session = session-mapped asks_to_close_of ServesBy HaltsBy IsOurs ours-on (DoorAnswers sight ring) NeverHalts (λ (n : N). (door_of n).now)
-              (λ old r m response new p answer.
-              subst (λ (x : Ring). DoorAnswers sight x (door_of old).now r m response (door_of new).now) p.0 answer.2)
-              (λ old r m fault new p halt. halt) start source sink moments after result (same, refl) session;
-        };
+        ends = ends-mapped asks_to_close_of ServesBy HaltsBy IsOurs ours-on (DoorAnswers sight ring) NeverHalts (λ (n : N). (door_of n).now)
+            (λ old r m response new p answer.
+            subst (λ (x : Ring). DoorAnswers sight x (door_of old).now r m response (door_of new).now) p.0 answer.2)
+            (λ old r m fault new p halt. halt) start source sink moments after result status (same, refl) status_is session puts reads waits;
       }

@@ -1,5 +1,7 @@
 mod Composing
 mod Connecting
+mod Listing
+mod Mapped
 mod OpeningLemmas
 mod Resting
 mod ReportLemmas

@@ -6,8 +6,8 @@ use Rattle.std.specs.Bool.{⊤}
 use Rattle.std.specs.List.{All}
 use Rattle.sw_container_locks.specs.Slots.{AreLocks}
 use Rattle.sw_hashpath.specs.declared.place.Place.{Place}
-use Rattle.sw_machine.proofs.Going.{runs-join}
-use Rattle.sw_machine.specs.Doors.{RunsOn, StandsFor}
+use Rattle.sw_machine.proofs.Going.{leaving-join}
+use Rattle.sw_machine.specs.Doors.{RunsOnLeaving, StandsFor}
 use Rattle.sw_machine.specs.Machine.{Machine, RunLine, Runs, machine_of}
 use Rattle.sw_core.specs.Worlds.{AllNodes, AreContainers, IsWorld, KeeperSeen, SlotTellsOn, nodes_of, opened, sight_of}
 use Rattle.sw_object_steps.specs.Journals.{Hash}
@@ -16,7 +16,6 @@ use Rattle.sw_quiet.specs.Quiet.{quiet_sight_of}
 use Rattle.sw_ring.specs.declared.ring.Ring.{Ring}
 use Rattle.sw_volume.specs.Tree.{Folders}
 use Rattle.sw_quiet.proofs.Trails.{lifting-restarts}
-use Rattle.sw_session.specs.Passages.{Passage}
 use Rattle.sw_cluster.proofs.Connecting.{connection-goes}
 use Rattle.sw_nodes.proofs.Keeping.{restart-runs, runs-itself}
 use Rattle.sw_nodes.proofs.Serving.{goes_on}
@@ -26,7 +25,7 @@ use Rattle.sw_cluster.specs.Connections.{IsConnection}
 use Rattle.sw_cluster.specs.Leaving.{AreLeft, IsOut}
 use Rattle.sw_nodes.specs.Nodes.{IsReady, out_but, places_at, places_of}
 use Rattle.sw_cluster.specs.Rounds.{EndsServing, HasServed, EndsConnections, RestartsDevice, RestartsFirst, Round, ServesAll, ServesOne}
-use Rattle.sw_cluster.specs.Told.{Counts, DoorsTold, Output}
+use Rattle.sw_cluster.specs.Told.{Counts, DoorsTold, Input, Output}
 use Rattle.sw_cluster.specs.Rounds.{StopsRestarting, StopsWaiting, read_in, written_in}
 use Rattle.sw_cluster.specs.declared.rounds.ServeFault.{ServeFault}
 use Rattle.sw_cluster.specs.Limits.{serve_bytes}
@@ -41,16 +40,16 @@ module _ {V K : Type 0} (tells : V → Bool) (files : V → Folders) (faults : V
   -- the nodes are those that were there, and whatever machine they stood for goes on to them as they are then
   pub record Goes (w after : AllNodes V K) : Type 0 where
     pub nodes : (see after).nodes ≡ (see w).nodes
-    pub runs : RunsOn (see w) (see after)
+    pub runs : RunsOnLeaving (see w) (see after)
 
   goes-same : (w after : AllNodes V K) → after ≡ w → Goes w after
   goes-same w after same = subst (Goes w) (sym same) (record { nodes = refl; runs = runs-itself (see w) })
 
   goes-join : (a b c : AllNodes V K) → Goes a b → Goes b c → Goes a c
-  goes-join a b c p q = record { nodes = q.nodes ∙ p.nodes; runs = runs-join (see a) (see b) (see c) p.runs q.runs }
+  goes-join a b c p q = record { nodes = q.nodes ∙ p.nodes; runs = leaving-join (see a) (see b) (see c) p.runs q.runs }
 
-  served-one : (w after : AllNodes V K) (moment : ℕ) (source sink : Passage) (status : ℕ) → IsConnection see ring moment w source sink after status → Goes w
-      after
+  served-one : (w after : AllNodes V K) (moment : ℕ) (source : Input) (sink : Output) (status : ℕ)
+      → IsConnection see ring moment w source sink after status → Goes w after
   served-one w after moment source sink status c =
       let keeps = connection-goes see ring moment w source sink after status c in
       record { nodes = keeps.nodes; runs = keeps.runs refl }
@@ -198,15 +197,16 @@ module _ {V K : Type 0} (tells : V → Bool) (files : V → Folders) (faults : V
     has-served =
         let went = goes.runs (machine_of (see (opened serve_bytes ring parts))) (record { objects = refl; containers = refl }) in
         let on = all-tell-on tells files faults keeps ring w told_on there locks in
-        let stands : StandsFor (sight_of tells files faults keeps whole) went.1.after =
-        record { objects = went.1.stands.objects; containers = went.1.stands.containers } in
+        let stands : StandsFor (sight_of tells files faults keeps whole) went.2.after =
+        record { objects = went.2.stands.objects; containers = went.2.stands.containers } in
         record {
           lines = went.0;
-          machine = went.1.after;
-          run = went.1.run;
-          stands = went.1.stands;
+          machine = went.2.after;
+          run = went.2.run;
+          leaves = went.1;
+          stands = went.2.stands;
           stored = left-stored store_calls rests out (opened serve_bytes ring parts) whole w stores rests_now is resting same_out
-              on went.0 went.1.after went.1.run stands left;
+              on went.0 went.2.after went.2.run stands left;
           kept = left-kept store_calls rests out (opened serve_bytes ring parts) whole w stores rests_now is resting same_out
-              on went.0 went.1.after went.1.run stands left;
+              on went.0 went.2.after went.2.run stands left;
         }

@@ -11,9 +11,10 @@ use Rattle.sw_outside.specs.Readings.{TicksEach}
 use Rattle.sw_peer.specs.Sights.{Nodes as SightNodes, Sight}
 use Rattle.sw_peer.specs.declared.line.Line.{Line}
 use Rattle.sw_ring.specs.declared.ring.Ring.{Ring}
-use Rattle.sw_session.proofs.Mapping.{session-ends, session-mapped}
+use Rattle.sw_session.proofs.Mapping.{session-ends}
 use Rattle.sw_session.specs.Passages.{Passage}
-use Rattle.sw_session.specs.Session.{EndsAs, IsSession, PutsForSession}
+use Rattle.sw_session.specs.Replies.{Halts, Serves}
+use Rattle.sw_session.specs.Session.{EndsAs, IsSession, OwnPuts, WaitsForMore}
 use Rattle.sw_session.specs.declared.server.ServerFault.{ServerFault}
 use Rattle.sw_session.specs.declared.server.ServerFault.TheVariants as servers
 use Rattle.sw_session.specs.declared.session.SessionFault.{SessionFault}
@@ -27,12 +28,16 @@ use Rattle.sw_nodes.proofs.Exchanging.{exchange_meets}
 use Rattle.sw_nodes.proofs.Keeping.{runs-itself}
 use Rattle.sw_nodes.proofs.Readying.{ready-of}
 use Rattle.sw_nodes.proofs.Restarting.{called-on, none-called, out-called, whole-called}
-use Rattle.sw_machine.proofs.Going.{runs-join}
-use Rattle.sw_machine.specs.Doors.{GoesOn, RunsOn}
+use Rattle.sw_listing_laws.proofs.Honesty.{honest-join, honest-leaving}
+use Rattle.sw_listing_laws.specs.Honest.{AreHonest, RunsHonestly}
+use Rattle.sw_machine.specs.Doors.{GoesOn}
+use Rattle.sw_updater.specs.Places.{replicas_in}
 use Rattle.sw_machine.specs.Machine.{RunLine, Runs, came_in, machine_of}
 use Rattle.sw_core.specs.Worlds.{AllNodes, AreContainers, IsWorld, KeeperSeen, Lifts, SlotTellsOn, first_of, nodes_of, opened, shown, sight_of, without_lines}
-use Rattle.sw_cluster.specs.Ending.{IsRunOver, IsTrail, status_by}
-use Rattle.sw_cluster.specs.Told.{Counts, counts, Output}
+use Rattle.sw_cluster.proofs.Listing.{lists-exactly}
+use Rattle.sw_cluster.proofs.Mapped.{ends-mapped}
+use Rattle.sw_cluster.specs.Ending.{Ends, IsRunOver, IsTrail, ReadsInTurn, status_by}
+use Rattle.sw_cluster.specs.Told.{Counts, Input, Output, counts, read_of, written_of}
 use Rattle.sw_nodes.specs.Nodes.{IsReady, NodesAnswer, NodesHalt, faults_by, out_but, places_at, places_of}
 use Rattle.sw_nodes.specs.Server.{MayAnswer, MayHalt}
 use Rattle.sw_cluster.specs.Statuses as statuses
@@ -68,7 +73,8 @@ module _ {V K : Type 0} (tells : V → Bool) (files : V → Folders) (faults : V
   -- has its lines
   module _ (began w after : AllNodes V K) (is : IsWorld w) (whole : w.lifted ≡ None)
       (nodes : nodes_of (shown w.lifted w.devices) w.lock_bits w.power w.secrets ≡ nodes_of (length ring.devices) ring.lock_bits ring.power ring.secrets)
-      (lines : List RunLine) (run : GoesOn (see began) (machine_of (see began)) lines (see w)) (rests : ℕ → ℕ → Option (V × K))
+      (lines : List RunLine) (honest : AreHonest ring.secrets (replicas_in ring) [] lines)
+      (run : GoesOn (see began) (machine_of (see began)) lines (see w)) (rests : ℕ → ℕ → Option (V × K))
       (new : began.lines ≡ []) (same_lines : after.lines ≡ w.lines) (resting : AllRest tells files faults keeps ring rests w)
       (told_on : AllTellOn tells files faults keeps ring w) where
     -- the lines of the run are those of the world
@@ -84,6 +90,8 @@ module _ {V K : Type 0} (tells : V → Bool) (files : V → Folders) (faults : V
       came = lines-are ∙ sym same_lines;
       machine = run.after;
       run = ran;
+      honest = honest;
+      lists = lists-exactly ring (see began) lines run.after ran honest;
       stored = stored tells files faults keeps ring began w is whole nodes lines run.after ran rests resting told_on run.stands.objects;
       kept = kept tells files faults keeps ring began w is whole nodes lines run.after ran rests resting told_on run.stands.containers;
     }
@@ -102,18 +110,25 @@ module _ {V K : Type 0} (tells : V → Bool) (files : V → Folders) (faults : V
     slots = is.slots;
   }
 
-  -- a session of a server that has nodes and stores
+  -- how a server that has nodes and stores answers, and how it halts
+  abbrev pub ServesOver : {S N : Type 0} → (S → ℕ) → (S → ℕ) → (S → ℕ → ℕ → Bool) → (N → Ring) → (N → AllNodes V K) → (N → MutBor S) → Serves N
+  ServesOver store_faults store_calls out ring_of world_of stores_of old request moment response new =
+      NodesAnswer tells files faults keeps store_faults store_calls out (ring_of old) (ring_of new) (world_of old) (world_of new) (stores_of old)
+      (stores_of new) request moment response
+
+  abbrev pub HaltsOver : {S N : Type 0} → (S → ℕ) → (S → ℕ) → (S → ℕ → ℕ → Option (V × K)) → (S → ℕ → ℕ → Bool) → (N → Ring) → (N → AllNodes V K)
+      → (N → MutBor S) → Halts N
+  HaltsOver store_faults store_calls rests out ring_of world_of stores_of old request moment fault new =
+      NodesHalt tells files faults keeps store_faults store_calls rests out (ring_of old) (ring_of new) (world_of old) (world_of new) (stores_of old)
+      (stores_of new) request fault
+
+  -- a session of such a server
   abbrev pub SessionOver : {S N : Type 0} → (S → ℕ) → (S → ℕ) → (S → ℕ → ℕ → Option (V × K)) → (S → ℕ → ℕ → Bool) → (N → Ring) → (N → AllNodes V K) →
       (N → MutBor S) → N
       → Passage → Passage → List ℕ → N
       → Result ⊤ SessionFault → Type 0
-  SessionOver {S} {N} store_faults store_calls rests out ring_of world_of stores_of = IsSession (λ request. false)
-      (λ (old : N) (request : Request) (moment : ℕ) (response : Response) (new : N).
-      NodesAnswer tells files faults keeps store_faults store_calls out (ring_of old) (ring_of new) (world_of old) (world_of new) (stores_of old)
-      (stores_of new) request moment response)
-      (λ (old : N) (request : Request) (moment : ℕ) (fault : ServerFault) (new : N).
-      NodesHalt tells files faults keeps store_faults store_calls rests out (ring_of old) (ring_of new) (world_of old) (world_of new) (stores_of old)
-      (stores_of new) request fault)
+  SessionOver store_faults store_calls rests out ring_of world_of stores_of = IsSession (λ request. false)
+      (ServesOver store_faults store_calls out ring_of world_of stores_of) (HaltsOver store_faults store_calls rests out ring_of world_of stores_of)
 
   module _ {S : Type 0} (store_faults store_calls : S → ℕ) (rests : S → ℕ → ℕ → Option (V × K)) (out : S → ℕ → ℕ → Bool)
       (began : AllNodes V K) (stores : MutBor S) where
@@ -124,7 +139,7 @@ module _ {V K : Type 0} (tells : V → Bool) (files : V → Folders) (faults : V
       pub faults_are : store_faults stores_now.now ≡ store_faults stores.now
       pub calls_are : store_calls stores_now.now ≡ raised_by (restarts_in w.lines * 2 ^ ring.lock_bits) (store_calls stores.now)
       pub same_stores : stores_now.ghost_name ≡ stores.ghost_name
-      pub runs : RunsOn (see began) (see w)
+      pub runs : RunsHonestly ring.secrets (replicas_in ring) (see began) (see w)
       pub new : began.lines ≡ []
 
     -- then a device couldn't be restarted
@@ -168,7 +183,7 @@ module _ {V K : Type 0} (tells : V → Bool) (files : V → Folders) (faults : V
       calls_are = none-called (2 ^ ring.lock_bits) (store_calls stores.now) (store_calls stores.now) refl
           ∙ ap (λ (w : AllNodes V K). raised_by (restarts_in w.lines * 2 ^ ring.lock_bits) (store_calls stores.now)) (sym is);
       same_stores = refl;
-      runs = runs-itself (see began);
+      runs = honest-leaving ring.secrets (replicas_in ring) (see began) (see began) (runs-itself (see began));
       new = ap (λ (w : AllNodes V K). w.lines) is;
     }
 
@@ -186,7 +201,8 @@ module _ {V K : Type 0} (tells : V → Bool) (files : V → Folders) (faults : V
             (subst (λ (r : Ring). store_calls stores_after.now ≡ raised_by (answer.gained * 2 ^ r.lock_bits) (store_calls stores_now.now))
             way.ring_is answer.calls_are);
         same_stores = answer.same_stores ∙ way.same_stores;
-        runs = runs-join (see began) (see w) (see after) way.runs answer.may.runs;
+        runs = honest-join ring.secrets (replicas_in ring) (see began) (see w) (see after) way.runs
+            (subst (λ (r : Ring). RunsHonestly r.secrets (replicas_in r) (see w) (see after)) way.ring_is answer.may.runs);
         new = way.new;
       }
 
@@ -224,8 +240,9 @@ module _ {V K : Type 0} (tells : V → Bool) (files : V → Folders) (faults : V
     -- ---- the end
 
     -- from what the nodes began with
-    run-of : (w : AllNodes V K) → RunsOn (see began) (see w) → (lines : List RunLine) × GoesOn (see began) (machine_of (see began)) lines (see w)
-    run-of w runs = runs (machine_of (see began)) (record { objects = refl; containers = refl })
+    run-of : (w : AllNodes V K) → RunsHonestly ring.secrets (replicas_in ring) (see began) (see w)
+        → (lines : List RunLine) × AreHonest ring.secrets (replicas_in ring) [] lines × GoesOn (see began) (machine_of (see began)) lines (see w)
+    run-of w runs = let went = runs (machine_of (see began)) (record { objects = refl; containers = refl }) in (went.0, went.1 [], went.2)
 
     none-lifted : (device : ℕ) → None ≡ Some device → ⊥
     none-lifted device is = cc
@@ -241,7 +258,7 @@ module _ {V K : Type 0} (tells : V → Bool) (files : V → Folders) (faults : V
       same_stores = way.same_stores;
       tells_trail = λ now is resting same told_on.
           let run = run-of w way.runs in
-          trail-of began w w (relined w is) way.ready.whole way.ready.nodes run.0 run.1 now way.new refl resting told_on;
+          trail-of began w w (relined w is) way.ready.whole way.ready.nodes run.0 run.1 run.2 now way.new refl resting told_on;
     }
 
     module _ (fault : ServerFault) (after : AllNodes V K) (stores_now : MutBor S) (h : IsHalted fault after stores_now) where
@@ -277,7 +294,7 @@ module _ {V K : Type 0} (tells : V → Bool) (files : V → Folders) (faults : V
         same_stores = h.same_stores;
         tells_trail = λ now is resting same told_on.
             let run = run-of h.w h.way.runs in
-            trail-of began h.w after h.up.world h.up.whole h.way.ready.nodes run.0 run.1 now h.way.new (ap (λ (x : AllNodes V K). x.lines) h.up.rest)
+            trail-of began h.w after h.up.world h.up.whole h.way.ready.nodes run.0 run.1 run.2 now h.way.new (ap (λ (x : AllNodes V K). x.lines) h.up.rest)
             (rests-old now resting same)
             (tell-before tells files faults keeps ring h.w after old-bits h.device h.given h.up told_on);
       }
@@ -300,9 +317,10 @@ module _ {V K : Type 0} (tells : V → Bool) (files : V → Folders) (faults : V
       over n (Err session_faults.NoMemory) (inl way) = ended (ring_of n) (world_of n) (stores_of n) way
       over n (Err session_faults.NoMemory) (inr h) = halt-ended servers.NoMemory (world_of n) (stores_of n) h
 
-      module _ (start : N) (source sink : Passage) (moments : List ℕ) (after : N) (result : Result ⊤ SessionFault)
+      module _ (start : N) (source : Input) (sink : Output) (moments : List ℕ) (after : N) (result : Result ⊤ SessionFault)
           (way : IsUnderWay (ring_of start) (world_of start) (stores_of start))
-          (session : SessionOver store_faults store_calls rests out ring_of world_of stores_of start source sink moments after result) where
+          (session : SessionOver store_faults store_calls rests out ring_of world_of stores_of start (read_of source) (written_of sink) moments after
+          result) where
         pub session-over : IsEnded (faults_at (status_by result)) (world_of after) (stores_of after)
         session-over = over after result (session-ends _ _ _ (λ (n : N). IsUnderWay (ring_of n) (world_of n) (stores_of n))
             (λ old request moment response new p answer.
@@ -310,13 +328,19 @@ module _ {V K : Type 0} (tells : V → Bool) (files : V → Folders) (faults : V
             (λ (fault : ServerFault) (n : N). IsHalted fault (world_of n) (stores_of n))
             (λ old request moment fault new p halt. halts (ring_of old) (ring_of new) (world_of old) (world_of new) (stores_of old)
             (stores_of new) request p fault halt)
-            start source sink moments after result way session)
+            start (read_of source) (written_of sink) moments after result way session)
 
-        pub session-said : IsSession (λ request. false) (MayAnswer tells files faults keeps ring)
-            (λ w r moment fault. MayHalt tells files faults keeps ring w r)
-            (world_of start) source sink moments
-            (world_of after) result
-        session-said = session-mapped _ _ _ (λ (n : N). IsUnderWay (ring_of n) (world_of n) (stores_of n))
+        pub session-said : (status : ℕ) → status ≡ status_by result
+            → OwnPuts (λ request. false) (ServesOver store_faults store_calls out ring_of world_of stores_of)
+            (HaltsOver store_faults store_calls rests out ring_of world_of stores_of) start after source.before sink.before sink.now moments sink.calls
+            sink.calls_now result
+            → ReadsInTurn (λ request. false) (ServesOver store_faults store_calls out ring_of world_of stores_of) start moments source
+            → (result ≡ Err session_faults.ReadFault
+            → WaitsForMore (λ request. false) (ServesOver store_faults store_calls out ring_of world_of stores_of) start after source.before source.now
+            sink.before sink.now moments sink.calls sink.calls_now)
+            → Ends (λ request. false) (MayAnswer tells files faults keeps ring) (λ w r moment fault. MayHalt tells files faults keeps ring w r)
+            (world_of start) source sink moments (world_of after) status
+        session-said status status_is puts reads waits = ends-mapped _ _ _ (λ (n : N). IsUnderWay (ring_of n) (world_of n) (stores_of n))
             (λ old request moment response new p answer.
             goes-on (ring_of old) (ring_of new) (world_of old) (world_of new) (stores_of old) (stores_of new) request p moment response answer)
             (MayAnswer tells files faults keeps ring) (λ w r moment fault. MayHalt tells files faults keeps ring w r) world_of
@@ -324,24 +348,13 @@ module _ {V K : Type 0} (tells : V → Bool) (files : V → Folders) (faults : V
             says (ring_of old) (ring_of new) (world_of old) (world_of new) (stores_of old) (stores_of new) request p moment response answer)
             (λ old request moment fault new p halt.
             says-halt (ring_of old) (ring_of new) (world_of old) (world_of new) (stores_of old) (stores_of new) request p fault halt)
-            start source sink moments after result way session
-
-  -- what a session made of its sink, with the counts of calls
-  abbrev output_of : Passage → ℕ → ℕ → Output
-  output_of sink calls calls_now = record {
-    before = sink.before;
-    now = sink.now;
-    faults = sink.faults;
-    faults_now = sink.faults_now;
-    calls = calls;
-    calls_now = calls_now;
-  }
+            start source sink moments after result status way status_is session puts reads waits
 
   -- ---- a session from nodes in which nothing has happened
 
   module _ {S : Type 0} (store_faults store_calls : S → ℕ) (rests : S → ℕ → ℕ → Option (V × K)) (out : S → ℕ → ℕ → Bool)
-      (start : Nodes S V K) (source sink : Passage) (moments : List ℕ) (after : Nodes S V K) (result : Result ⊤ SessionFault)
-      (session : SessionOver store_faults store_calls rests out ring_in world_in stores_in start source sink moments after result)
+      (start : Nodes S V K) (source : Input) (sink : Output) (moments : List ℕ) (after : Nodes S V K) (result : Result ⊤ SessionFault)
+      (session : SessionOver store_faults store_calls rests out ring_in world_in stores_in start (read_of source) (written_of sink) moments after result)
       (same : start.ring.now ≡ ring)
       (begun : (parts : List (V × K)) × (length parts ≡ length ring.devices * 2 ^ ring.lock_bits) × (start.network.door ≡ opened run_bytes ring parts))
       (are_out : (d s : ℕ) → out start.stores.now d s ≡ places_of ring d s) where
@@ -363,23 +376,23 @@ module _ {V K : Type 0} (tells : V → Bool) (files : V → Folders) (faults : V
         → ((device : ℕ) → world.lifted ≡ Some device → (d s : ℕ) → places_at ring device d s ≡ true → rests_now d s ≡ rests after.stores.now d s)
         → All (SlotTellsOn tells files faults) world.slots → AreContainers world.devices world.lock_bits world.lifted world.containers
         → AreLocks keeps.tells world.containers → stores_now.faults ≡ store_faults after.stores.now → stores_now.calls ≡ store_calls after.stores.now
-        → (calls calls_now : ℕ) → PutsForSession source.before moments calls calls_now result
+        → OwnPuts (λ request. false) (ServesOver store_faults store_calls out ring_in world_in stores_in)
+        (HaltsOver store_faults store_calls rests out ring_in world_in stores_in) start after source.before sink.before sink.now moments sink.calls
+        sink.calls_now result
+        → ReadsInTurn (λ request. false) (ServesOver store_faults store_calls out ring_in world_in stores_in) start moments source
+        → (result ≡ Err session_faults.ReadFault
+        → WaitsForMore (λ request. false) (ServesOver store_faults store_calls out ring_in world_in stores_in) start after source.before source.now
+        sink.before sink.now moments sink.calls sink.calls_now)
         → IsRunOver tells files faults keeps ring start.network.door rests_now (counts store_calls store_faults start.stores.now) stores_now source
-        (output_of sink calls calls_now) clock clock_now (record { steps = steps; moments = read }) status
+        sink clock clock_now (record { steps = steps; moments = read }) status
     nodes-run world rests_now stores_now clock clock_now steps read status status_is steps_are taken read_is ticks is resting same_out told_on there locks
         faults_are
-        calls_are calls calls_now puts = record {
+        calls_are puts reads waits = record {
           after = after.network.door;
-          ends = record {
-            ended = result;
-            status_is = status_is;
-            session = subst (λ (ms : List ℕ). IsSession (λ request. false) (MayAnswer tells files faults keeps ring)
-                (λ w r moment fault. MayHalt tells files faults keeps ring w r) start.network.door source sink ms
-                after.network.door result) (sym read_is)
-                (session-said store_faults store_calls rests out start.network.door start.stores ring_in world_in stores_in start source sink moments
-                after result way session);
-          };
-          puts = subst (λ (ms : List ℕ). PutsForSession source.before ms calls calls_now result) (sym read_is) puts;
+          ends = subst (λ (ms : List ℕ). Ends (λ request. false) (MayAnswer tells files faults keeps ring)
+              (λ w r moment fault. MayHalt tells files faults keeps ring w r) start.network.door source sink ms after.network.door status) (sym read_is)
+              (session-said store_faults store_calls rests out start.network.door start.stores ring_in world_in stores_in start source sink moments
+              after result way session status status_is puts reads waits);
           steps = steps_are;
           told = subst (λ (ls : List Line). IsTrail tells files faults keeps ring start.network.door after.network.door rests_now ls) (sym steps_are)
               (nodes-ended.tells_trail rests_now (subst (λ (w : AllNodes V K). IsWorld w) taken is)

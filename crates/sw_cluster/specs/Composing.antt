@@ -10,14 +10,13 @@ use Rattle.sw_machine.specs.Machine.{Machine, RunLine, Runs, machine_of, writes_
 use Rattle.sw_object_steps.specs.Journals.{Hash}
 use Rattle.sw_peer.specs.Sights.{Sight}
 use Rattle.sw_ring.specs.declared.ring.Ring.{Ring}
-use Rattle.sw_session.specs.Passages.{Passage}
 use Rattle.sw_state.specs.States.{state_of, writes_of}
 use Rattle.sw_stores.specs.Starting.{AreStarted}
 use Rattle.sw_volume.specs.Tree.{Folders}
 use Rattle.sw_cluster.specs.Ending.{IsKept, IsRun, IsStored}
 use Rattle.sw_cluster.specs.Limits.{run_bytes, serve_bytes}
 use Rattle.sw_cluster.specs.Rounds.{IsServing}
-use Rattle.sw_cluster.specs.Told.{Counts, DoorsTold, Output}
+use Rattle.sw_cluster.specs.Told.{Counts, DoorsTold, Input, Output}
 
 module _ {V K : Type 0} (tells : V → Bool) (files : V → Folders) (faults : V → ℕ) (keeps : KeeperSeen K) (first : V × K → Type 0) (ring : Ring) where
   -- what a command made of what rested in the stores, whichever it was: its nodes began with that, a run of the machine came, and what rests then stands for
@@ -41,7 +40,7 @@ module _ {V K : Type 0} (tells : V → Bool) (files : V → Folders) (faults : V
 
   -- a run of a session leads from what rested to what rests then, and so does serving
   abbrev pub RunsLead : Type 0
-  RunsLead = (rests rests_now : ℕ → ℕ → Option (V × K)) (stores stores_now : Counts) (source : Passage) (sink : Output) (clock clock_now : Option (List ℕ))
+  RunsLead = (rests rests_now : ℕ → ℕ → Option (V × K)) (stores stores_now : Counts) (source : Input) (sink : Output) (clock clock_now : Option (List ℕ))
       (trail : Trail) (status : ℕ)
       → IsRun tells files faults keeps first ring rests rests_now stores stores_now source sink clock clock_now trail status → Leads run_bytes rests rests_now
 

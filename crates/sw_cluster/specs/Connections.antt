@@ -1,5 +1,5 @@
 -- What is answered on a connection over a door. (HTTP/1.1, RFC 9112, as to where a connection ends; the rest is this project's own.)
-use Rattle.std.specs.Prelude.{◌≡◌, ⊤, ℕ, List, All, MatchBool, Option, Result, ◌⊎◌}
+use Rattle.std.specs.Prelude.{◌≡◌, ℕ, List, All, MatchBool, ◌⊎◌}
 use Rattle.sw_container_server.specs.Serving as containers
 use Rattle.sw_container_server.specs.Targets.{is_for_containers}
 use Rattle.sw_control.specs.Asking.{is_control}
@@ -12,11 +12,9 @@ use Rattle.sw_replica_server.specs.Serving as replicas
 use Rattle.sw_replica_server.specs.Targets.{is_replication_of}
 use Rattle.sw_ring.specs.declared.ring.Ring.{Ring}
 use Rattle.sw_session.specs.Closing.{asks_to_close_of}
-use Rattle.sw_session.specs.Passages.{Passage}
-use Rattle.sw_session.specs.Session.{PutsForSession}
 use Rattle.sw_session.specs.declared.server.ServerFault.{ServerFault}
-use Rattle.sw_session.specs.declared.session.SessionFault.{SessionFault}
-use Rattle.sw_cluster.specs.Ending.{Ends, status_by}
+use Rattle.sw_cluster.specs.Ending.{Ends}
+use Rattle.sw_cluster.specs.Told.{Input, Output}
 
 -- the nodes behind a door can always go on
 abbrev pub NeverHalts : {D : Type 0} → D → Request → ℕ → ServerFault → D → Type 0
@@ -34,13 +32,9 @@ module _ {D : Type 0} (sight : D → Sight) where
       (objects.IsAnswered sight old new ring r moment response ⊎ ((response ≡ bare 500) × objects.IsGivenUp sight old new ring r moment))))
 
   -- One connection, at one moment: each request is answered by what the nodes are after those before it, to the end of what its client sends, or
-  -- to the first request that asks to close. The status tells how it ended
-  pub record IsConnection (ring : Ring) (moment : ℕ) (old : D) (source sink : Passage) (new : D) (status : ℕ) : Type 0 where
+  -- to the first request that asks to close. The status tells how it ended. Nothing is read behind that request, and nothing while another waits for its
+  -- reply; and its client is told nothing but replies, to go on where it waits for that, and that a rest is refused
+  pub record IsConnection (ring : Ring) (moment : ℕ) (old : D) (source : Input) (sink : Output) (new : D) (status : ℕ) : Type 0 where
     pub moments : List ℕ
     pub still : All (λ m. m ≡ moment) moments
     pub ends : Ends asks_to_close_of (DoorAnswers ring) NeverHalts old source sink moments new status
-
--- the sink of a connection was called as often as a session over its input calls one that ends with this status
-abbrev pub PutsForConnection : Option (List ℕ) → ℕ → ℕ → ℕ → Type 0
-PutsForConnection input calls calls_now status =
-    (moments : List ℕ) × (ended : Result ⊤ SessionFault) × (status ≡ status_by ended) × PutsForSession input moments calls calls_now ended

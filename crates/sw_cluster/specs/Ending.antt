@@ -1,17 +1,20 @@
 -- How a session ends, by its status, and what its trail tells. (This project's own.)
 use Rattle.std.specs.Prelude.{◌≡◌, ⊤, ℕ, ◌*◌, ◌^◌, ◌<◌, ◌≤◌, ◌==◌, ◌&&◌, Bool, true, false, List, [], ◌++◌, length, Option, Some, Result}
 use Rattle.std.specs.Prelude.{Ok, Err, ◌⊎◌, if◌then◌else◌}
+use Rattle.sw_http.specs.Reads.{ReadsWhile}
+use Rattle.sw_outside.specs.Doors.{Giving}
 use Rattle.sw_outside.specs.Readings.{TicksEach}
 use Rattle.sw_message.specs.declared.request.Request.{Request}
-use Rattle.sw_session.specs.Passages.{Passage}
 use Rattle.sw_session.specs.Replies.{Halts, Serves}
-use Rattle.sw_session.specs.Session.{IsSession, PutsForSession}
+use Rattle.sw_session.specs.Session.{IsBetween, IsSession, OwnPuts, WaitsForMore}
 use Rattle.sw_session.specs.declared.session.SessionFault.{SessionFault}
 use Rattle.sw_session.specs.declared.session.SessionFault.TheVariants as faults
 use Rattle.sw_hashpath.specs.declared.place.Place.{Place}
 use Rattle.sw_object_steps.specs.Journals.{Hash}
 use Rattle.sw_ring.specs.declared.ring.Ring.{Ring}
+use Rattle.sw_listing_laws.specs.Honest.{AreHonest}
 use Rattle.sw_machine.specs.Machine.{Machine, RunLine, Runs, came_in, machine_of, writes_at}
+use Rattle.sw_updater.specs.Places.{replicas_in}
 use Rattle.sw_state.specs.States.{state_of, writes_of}
 use Rattle.sw_core.specs.Worlds.{KeeperSeen, AllNodes, lock_of, nodes_of, opened, place_lock, sight_of, stripe_at}
 use Rattle.sw_hashdir.specs.Places.{holds}
@@ -30,8 +33,9 @@ use Rattle.sw_nodes.specs.Restarts.{AreCalled}
 use Rattle.sw_nodes.specs.Server.{MayAnswer, MayHalt}
 use Rattle.sw_core.specs.declared.trail.Trail.{Trail}
 use Rattle.sw_cluster.specs.Limits.{run_bytes}
+use Rattle.sw_cluster.specs.Listing.{ListsExactly}
 use Rattle.sw_cluster.specs.Statuses as statuses
-use Rattle.sw_cluster.specs.Told.{Counts, IsSilent, Output, passage_of}
+use Rattle.sw_cluster.specs.Told.{Counts, Input, IsSilent, IsUnread, Output, given_before, given_now, read_of, written_of}
 
 -- the status of an outcome
 abbrev pub status_by : Result ⊤ SessionFault → ℕ
@@ -43,12 +47,23 @@ status_by (Err faults.BadInput) = statuses.bad_input
 status_by (Err faults.ServerFault) = statuses.store_fault
 status_by (Err faults.NoMemory) = statuses.no_memory
 
--- a session ended with this status, which tells how: no two outcomes have one status
-pub record Ends {S : Type 0} (last : Request → Bool) (may : Serves S) (halts : Halts S) (start : S) (source sink : Passage) (moments : List ℕ) (after : S)
-    (status : ℕ) : Type 0 where
+-- The input was read only where all that had come whole was answered: what was seen before the last read were the texts of requests that the session
+-- answered, none of them a last one, and a rest in which one may still come. So it was before each.
+abbrev pub ReadsInTurn : {S : Type 0} → (Request → Bool) → Serves S → S → List ℕ → Input → Type 0
+ReadsInTurn last may start moments source = ReadsWhile (λ (g : Giving). g.left) (λ (g : Giving). g.calls) (given_before source) (given_now source)
+    source.before (IsBetween last may start moments)
+
+-- A session ended with this status, which tells how: no two outcomes have one status. Its output was called for each reply, for each client that waits to
+-- be told to go on and for what refuses a rest, each once, and no further time. Where a read failed, every request that had come whole was answered.
+pub record Ends {S : Type 0} (last : Request → Bool) (may : Serves S) (halts : Halts S) (start : S) (source : Input) (sink : Output) (moments : List ℕ)
+    (after : S) (status : ℕ) : Type 0 where
   pub ended : Result ⊤ SessionFault
   pub status_is : status ≡ status_by ended
-  pub session : IsSession last may halts start source sink moments after ended
+  pub session : IsSession last may halts start (read_of source) (written_of sink) moments after ended
+  pub puts : OwnPuts last may halts start after source.before sink.before sink.now moments sink.calls sink.calls_now ended
+  pub reads : ReadsInTurn last may start moments source
+  pub waits : ended ≡ Err faults.ReadFault
+      → WaitsForMore last may start after source.before source.now sink.before sink.now moments sink.calls sink.calls_now
 
 module _ {V K : Type 0} (tells : V → Bool) (files : V → Folders) (faults : V → ℕ) (keeps : KeeperSeen K) where
   -- At the place of each object lock rests a volume, whose count of faults is the lock's in the machine. Where the lock told its contents as the run
@@ -76,24 +91,26 @@ module _ {V K : Type 0} (tells : V → Bool) (files : V → Folders) (faults : V
     pub counts : (machine.containers.half.seen (place_lock ring.lock_bits ring.power device place)).faults ≡ keeps.faults part.1
 
   -- The trail tells what happened: its steps are those that came in a run of the machine from what the nodes began with, so each is answered by
-  -- what had reached its device before, and what came in a message had been sent. In the end the files stand for what reached, and the keepers have the
-  -- machine's tables.
+  -- what had reached its device before, and what came in a message had been sent. The run is honest: what was marked in a record had been heard, and what was
+  -- dropped looked at all devices of its container. So where it began with nothing each listing in it of a container of which no record is pending is exactly
+  -- its live objects. In the end the files stand for what reached, and the keepers have the machine's tables.
   pub record IsTrail (ring : Ring) (began after : AllNodes V K) (rests : ℕ → ℕ → Option (V × K)) (steps : List Line) : Type 0 where
     pub lines : List RunLine
     pub came : came_in lines ≡ steps
     pub machine : Machine
     pub run : Runs (nodes_of (length ring.devices) ring.lock_bits ring.power ring.secrets) (machine_of (sight_of tells files faults keeps began)) lines machine
+    pub honest : AreHonest ring.secrets (replicas_in ring) [] lines
+    pub lists : ListsExactly ring (sight_of tells files faults keeps began) lines machine run
     pub stored : (device : ℕ) (hash : Hash) → device < length ring.devices → IsStored ring began machine rests device hash
     pub kept : (device : ℕ) (place : Place) → device < length ring.devices → IsKept ring began machine rests device place
 
   -- A session was run over these nodes of a ring, in which no request is a last one, and then their volumes and keepers were given back. Of its requests
   -- two that pushed a partition, there and back, and were told that it is done, meet
   pub record IsRunOver (ring : Ring) (began : AllNodes V K) (rests_now : ℕ → ℕ → Option (V × K)) (stores stores_now : Counts)
-      (source : Passage) (sink : Output) (clock clock_now : Option (List ℕ)) (trail : Trail) (status : ℕ) : Type 0 where
+      (source : Input) (sink : Output) (clock clock_now : Option (List ℕ)) (trail : Trail) (status : ℕ) : Type 0 where
     pub after : AllNodes V K
     pub ends : Ends (λ request. false) (MayAnswer tells files faults keeps ring) (λ w r moment fault. MayHalt tells files faults keeps ring w r) began source
-        (passage_of sink) trail.moments after status
-    pub puts : PutsForSession source.before trail.moments sink.calls sink.calls_now ends.ended
+        sink trail.moments after status
     pub steps : trail.steps ≡ after.lines
     pub told : IsTrail ring began after rests_now trail.steps
     pub meets : ExchangeMeets tells files faults keeps
@@ -103,7 +120,7 @@ module _ {V K : Type 0} (tells : V → Bool) (files : V → Folders) (faults : V
 
   -- the volumes and keepers of a ring's nodes were started, by one call of the stores for each lock, and a session run over them
   pub record IsRun (first : V × K → Type 0) (ring : Ring) (rests rests_now : ℕ → ℕ → Option (V × K)) (stores stores_now : Counts)
-      (source : Passage) (sink : Output) (clock clock_now : Option (List ℕ)) (trail : Trail) (status : ℕ) : Type 0 where
+      (source : Input) (sink : Output) (clock clock_now : Option (List ℕ)) (trail : Trail) (status : ℕ) : Type 0 where
     pub parts : List (V × K)
     pub started : AreStarted first rests (2 ^ ring.lock_bits) 0 parts
     pub count : length parts ≡ length ring.devices * 2 ^ ring.lock_bits
@@ -127,9 +144,9 @@ pub record AreUnstarted {V K : Type 0} (first : V × K → Type 0) (ring : Ring)
 
 -- so no session was run
 pub record IsUnbegun {V K : Type 0} (first : V × K → Type 0) (ring : Ring) (rests rests_now : ℕ → ℕ → Option (V × K)) (stores stores_now : Counts)
-    (source : Passage) (sink : Output) (clock clock_now : Option (List ℕ)) (trail : Trail) (status : ℕ) : Type 0 where
+    (source : Input) (sink : Output) (clock clock_now : Option (List ℕ)) (trail : Trail) (status : ℕ) : Type 0 where
   pub unstarted : AreUnstarted first ring rests rests_now stores stores_now status
-  pub nothing_read : (source.now ≡ source.before) × (source.faults_now ≡ source.faults)
+  pub nothing_read : IsUnread source
   pub nothing_written : IsSilent sink
   pub no_tick : clock_now ≡ clock
   pub no_steps : trail.steps ≡ []
@@ -138,7 +155,7 @@ pub record IsUnbegun {V K : Type 0} (first : V × K → Type 0) (ring : Ring) (r
 -- how `run` goes on with a ring, which it read by one call of the stores: from what rests in them then, which is what rested before
 pub record RunsRing {V K : Type 0} (tells : V → Bool) (files : V → Folders) (faults : V → ℕ) (keeps : KeeperSeen K) (first : V × K → Type 0) (ring : Ring)
     (rests rests_now : ℕ → ℕ → Option (V × K)) (stores stores_now : Counts)
-    (source : Passage) (sink : Output) (clock clock_now : Option (List ℕ)) (trail : Trail) (status : ℕ) : Type 0 where
+    (source : Input) (sink : Output) (clock clock_now : Option (List ℕ)) (trail : Trail) (status : ℕ) : Type 0 where
   pub began : ℕ → ℕ → Option (V × K)
   pub same : IsAsItWas rests began
   pub ends : IsRun tells files faults keeps first ring began rests_now (record stores { calls = raised stores.calls }) stores_now source sink

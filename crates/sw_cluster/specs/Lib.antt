@@ -3,6 +3,7 @@ pub mod Connections
 pub mod Ending
 pub mod Leaving
 pub mod Limits
+pub mod Listing
 pub mod Locating
 pub mod Opening
 pub mod Report

@@ -2,7 +2,7 @@
 use Rattle.std.specs.Prelude.{◌≡◌, ⊤, ℕ, zero, suc, ◌+◌, ◌*◌, ◌^◌, ◌<◌, ◌≤◌, Bool, List, [], ◌∷◌, ◌++◌, length, map, codes, decimal, Option, Result, Ok, Err}
 use Rattle.std.specs.Prelude.{◌⊎◌}
 use Rattle.std.specs.Io.KnownBytes.{Appends}
-use Rattle.sw_machine.specs.Doors.{StandsFor}
+use Rattle.sw_machine.specs.Doors.{LeaveRecords, StandsFor}
 use Rattle.sw_machine.specs.Machine.{Machine, RunLine, Runs, machine_of}
 use Rattle.sw_core.specs.Worlds.{KeeperSeen, AllNodes, Lifts, nodes_of, opened}
 use Rattle.sw_outside.specs.Counts.{raised}
@@ -14,16 +14,15 @@ use Rattle.sw_object_steps.specs.Journals.{Hash}
 use Rattle.sw_peer.specs.Sights.{Sight}
 use Rattle.sw_quiet.specs.Quiet.{SetsDownQuietly, quiet_sight_of}
 use Rattle.sw_ring.specs.declared.ring.Ring.{Ring}
-use Rattle.sw_session.specs.Passages.{Passage}
 use Rattle.sw_stores.specs.Places.{IsAsItWas}
 use Rattle.sw_stores.specs.Starting.{AreStarted}
 use Rattle.sw_volume.specs.Tree.{Folders}
 use Rattle.sw_volume.specs.Volume.{raised_by}
-use Rattle.sw_cluster.specs.Connections.{IsConnection, PutsForConnection}
+use Rattle.sw_cluster.specs.Connections.{IsConnection}
 use Rattle.sw_cluster.specs.Ending.{AreUnstarted, IsKept, IsStored}
 use Rattle.sw_cluster.specs.Limits.{serve_bytes}
 use Rattle.sw_cluster.specs.Statuses as statuses
-use Rattle.sw_cluster.specs.Told.{Counts, DoorsTold, IsSilent, Output}
+use Rattle.sw_cluster.specs.Told.{Counts, DoorsTold, Input, IsSilent, Output}
 use Rattle.sw_cluster.specs.declared.rounds.ServeFault.{ServeFault}
 use Rattle.sw_cluster.specs.declared.rounds.ServeFault.TheVariants as serve_faults
 
@@ -64,20 +63,24 @@ pub record Round : Type 0 where
   pub moment : ℕ  -- at which its requests were answered
 
 -- what it made of its source, and of its sink
-abbrev pub read_in : Round → Passage
+abbrev pub read_in : Round → Input
 read_in r = record {
   before = r.accepted.source.left;
   now = r.finished.source.left;
   faults = r.accepted.source.faults;
   faults_now = r.finished.source.faults;
+  calls = r.accepted.source.calls;
+  calls_now = r.finished.source.calls;
 }
 
-abbrev pub written_in : Round → Passage
+abbrev pub written_in : Round → Output
 written_in r = record {
   before = r.accepted.sink.taken;
   now = r.finished.sink.taken;
   faults = r.accepted.sink.faults;
   faults_now = r.finished.sink.faults;
+  calls = r.accepted.sink.calls;
+  calls_now = r.finished.sink.calls;
 }
 
 -- both of its ends were its own when it was finished, and no other connection had been accepted since
@@ -86,12 +89,10 @@ pub record IsInItsPlace (r : Round) : Type 0 where
   pub written_at : r.finished.written_at ≡ r.accepted.number
   pub among : r.finished.among ≡ r.accepted.number
 
--- A connection was served over these nodes: its requests were answered to its own client, before another connection was accepted. Its sink was called once
--- for each reply, once for each client that was told to go on, and no further time
+-- a connection was served over these nodes: its requests were answered to its own client, before another connection was accepted
 pub record IsServed {D : Type 0} (sight : D → Sight) (ring : Ring) (old : D) (r : Round) (new : D) : Type 0 where
   pub answered : IsConnection sight ring r.moment old (read_in r) (written_in r) new r.finished.status
   pub in_place : IsInItsPlace r
-  pub puts : PutsForConnection r.accepted.source.left r.accepted.sink.calls r.finished.sink.calls r.finished.status
 
 -- the doors accepted and finished these connections in their order, and the clock was read once for each
 pub record AreHeard (rounds : List Round) (doors doors_now : DoorsTold) (clock clock_now : Option (List ℕ)) : Type 0 where
@@ -217,13 +218,14 @@ module _ {V K : Type 0} (tells : V → Bool) (files : V → Folders) (faults : V
 
   -- ---- what rests then
 
-  -- The nodes went through a run of the machine, and stand for the machine after it, and so do the files of their volumes and the tables of their keepers,
-  -- which rest in the stores
+  -- The nodes went through a run of the machine, in which no record was marked or dropped, and stand for the machine after it, and so do the files of their
+  -- volumes and the tables of their keepers, which rest in the stores
   pub record HasServed (began after : AllNodes V K) (rests : ℕ → ℕ → Option (V × K)) : Type 0 where
     pub lines : List RunLine
     pub machine : Machine
     pub run : Runs (nodes_of (length ring.devices) ring.lock_bits ring.power ring.secrets)
         (machine_of (quiet_sight_of tells files faults keeps began)) lines machine
+    pub leaves : LeaveRecords lines
     pub stands : StandsFor (quiet_sight_of tells files faults keeps after) machine
     pub stored : (device : ℕ) (hash : Hash) → device < length ring.devices → IsStored tells files faults keeps ring began machine rests device hash
     pub kept : (device : ℕ) (place : Place) → device < length ring.devices → IsKept tells files faults keeps ring began machine rests device place

@@ -4,14 +4,13 @@ ghost use Rattle.std.specs.String.{string_bytes};
 ghost use Rattle.sw_ring.specs.declared.bad_ring.BadRing.{BadRing};
 ghost use Rattle.sw_ring.specs.declared.ring.Ring.{Ring};
 ghost use Rattle.sw_outside.specs.Counts.{raised};
-ghost use Rattle.sw_session.specs.Passages.{passage};
 ghost use Rattle.sw_cluster.specs.Ending.{RunsRing};
 ghost use Rattle.sw_cluster.specs.Locating.{Locates};
 ghost use Rattle.sw_cluster.specs.Opening.{EndsWith, IsRingRefused};
 ghost use Rattle.sw_cluster.specs.Report.{PutsLine, Reports, line_of as line_of_status, ring_line as line_of_ring};
 ghost use Rattle.sw_cluster.specs.Rounds.{ServesRing};
 ghost use Rattle.sw_cluster.specs.Statuses as statuses;
-ghost use Rattle.sw_cluster.specs.Told.{counts, doors_told, output};
+ghost use Rattle.sw_cluster.specs.Told.{counts, doors_told, input, output};
 ghost use Rattle.sw_cluster.specs.Words.{account_word, are_run_words, are_where_words, container_word, object_word, ring_word};
 ghost use Rattle.sw_words.specs.Serve.{IsServe};
 ghost use Rattle.sw_words.specs.declared.serve.ServeOptions.{ServeOptions as ServeOptionsSeen};
@@ -66,7 +65,7 @@ pub fn cluster<R: Source, W: Sink, E: Sink, S: Stores, N: Doors, C: Clock>(
         × (S.calls stores.new ≡ raised (S.calls stores.old)))
         (λ bad. PutsLine (output E.taken E.faults E.calls errors.old errors.new) (line_of_ring bad))
         (λ ring. RunsRing S.V.tells S.V.holds S.V.faults (keeper_seen S.K.tells S.K.holds S.K.faults) S.first ring (S.rests stores.old) (S.rests stores.new)
-        (counts S.calls S.faults stores.old) (counts S.calls S.faults stores.new) (passage R.left R.faults source.old source.new)
+        (counts S.calls S.faults stores.old) (counts S.calls S.faults stores.new) (input R.left R.faults R.calls source.old source.new)
         (output W.taken W.faults W.calls out.old out.new)
         (C.readings clock.old) (C.readings clock.new) trail.new result)
         result }
@@ -204,7 +203,7 @@ fn run<R: Source, W: Sink, E: Sink, S: Stores, C: Clock>(
         × (S.calls stores.new ≡ raised (S.calls stores.old)))
         (λ bad. PutsLine (output E.taken E.faults E.calls errors.old errors.new) (line_of_ring bad))
         (λ ring. RunsRing S.V.tells S.V.holds S.V.faults (keeper_seen S.K.tells S.K.holds S.K.faults) S.first ring (S.rests stores.old) (S.rests stores.new)
-        (counts S.calls S.faults stores.old) (counts S.calls S.faults stores.new) (passage R.left R.faults source.old source.new)
+        (counts S.calls S.faults stores.old) (counts S.calls S.faults stores.new) (input R.left R.faults R.calls source.old source.new)
         (output W.taken W.faults W.calls out.old out.new)
         (C.readings clock.old) (C.readings clock.new) trail.new result)
         result }

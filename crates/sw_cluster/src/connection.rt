@@ -3,9 +3,9 @@ ghost use Rattle.sw_container_server.specs.Targets.{is_for_containers as is_for_
 ghost use Rattle.sw_control.specs.Asking.{is_control as is_control_path};
 ghost use Rattle.sw_replica_server.specs.Targets.{is_replication_of};
 ghost use Rattle.sw_session.specs.Closing.{asks_to_close_of};
-ghost use Rattle.sw_session.specs.Passages.{passage};
 ghost use Rattle.sw_nodes.specs.Nodes.{AreNodesOf};
-ghost use Rattle.sw_cluster.specs.Connections.{DoorAnswers, IsConnection, NeverHalts, PutsForConnection};
+ghost use Rattle.sw_cluster.specs.Connections.{DoorAnswers, IsConnection, NeverHalts};
+ghost use Rattle.sw_cluster.specs.Told.{input, output};
 
 use crate::status::status_of;
 use std::alloc::Global;
@@ -127,9 +127,8 @@ pub fn serve_connection<R: Source, W: Sink, D: ReplicaDoor + ContainerDoor>(
     now: u64,
 ) -> u8
     requires nodes { AreNodesOf ring.now (D.sight door.old).nodes }
-    ensures connection { IsConnection D.sight ring.now now door.old (passage R.left R.faults source.old source.new)
-        (passage W.taken W.faults out.old out.new) door.new result }
-    ensures puts { PutsForConnection (R.left source.old) (W.calls out.old) (W.calls out.new) result }
+    ensures connection { IsConnection D.sight ring.now now door.old (input R.left R.faults R.calls source.old source.new)
+        (output W.taken W.faults W.calls out.old out.new) door.new result }
     ensures nodes { (D.sight door.new).nodes ≡ (D.sight door.old).nodes }
     ensures source_number { R.number source.new ≡ R.number source.old }
     ensures sink_number { W.number out.new ≡ W.number out.old }

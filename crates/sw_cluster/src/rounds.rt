@@ -18,7 +18,6 @@ use crate::status::{COMPLETE, DOOR_FAULT, NO_MEMORY, STORE_FAULT, WRITE_FAULT};
 use crate::volumes::{give_back, open_nodes, status_of_start};
 use itoa::Buffer;
 use std::alloc::{AllocError, Global};
-use sw_nodes::stripes;
 use sw_outside::{Clock, Doors, Failed, Sink, StoreError};
 use sw_peer::{ContainerDoor, ReplicaDoor};
 use sw_quiet::QuietWorld;
@@ -303,7 +302,7 @@ fn restart<S: Stores>(
         Ok(parts) => parts,
         Err(_) => return Err(StoreError::NoMemory),
     };
-    let stripes = stripes(ring);
+    let stripes = ring.stripes();
     let first = usize::from(device) * usize::from(stripes);
     match restart_range(alloc, stores, stripes, first, parts) {
         Ok(parts) => {

@@ -1,10 +1,9 @@
 ghost use Rattle.std.specs.Prelude.{◌≡◌, ℕ, ◌*◌, ◌^◌, ◌⊎◌, false, List, [], length};
 ghost use Rattle.sw_core.specs.Worlds.{keeper_seen, opened};
-ghost use Rattle.sw_session.specs.Passages.{passage};
 ghost use Rattle.sw_cluster.specs.Ending.{IsRun, IsRunOver, IsUnbegun};
 ghost use Rattle.sw_nodes.specs.Nodes.{places_of};
 ghost use Rattle.sw_cluster.specs.Limits.{run_bytes};
-ghost use Rattle.sw_cluster.specs.Told.{counts, output};
+ghost use Rattle.sw_cluster.specs.Told.{counts, input, output};
 
 use crate::limits::RUN_BYTES;
 use crate::status::status_of;
@@ -37,11 +36,11 @@ pub fn run_session<R: Source, W: Sink, S: Stores, C: Clock>(
     requires home { (d s : ℕ) → S.out stores.old d s ≡ false }
     ensures home { (d s : ℕ) → S.out stores.new d s ≡ false }
     ensures run { IsRun S.V.tells S.V.holds S.V.faults (keeper_seen S.K.tells S.K.holds S.K.faults) S.first ring.now (S.rests stores.old) (S.rests stores.new)
-        (counts S.calls S.faults stores.old) (counts S.calls S.faults stores.new) (passage R.left R.faults source.old source.new)
+        (counts S.calls S.faults stores.old) (counts S.calls S.faults stores.new) (input R.left R.faults R.calls source.old source.new)
         (output W.taken W.faults W.calls out.old out.new)
         (C.readings clock.old) (C.readings clock.new) trail.new result
         ⊎ IsUnbegun S.first ring.now (S.rests stores.old) (S.rests stores.new)
-        (counts S.calls S.faults stores.old) (counts S.calls S.faults stores.new) (passage R.left R.faults source.old source.new)
+        (counts S.calls S.faults stores.old) (counts S.calls S.faults stores.new) (input R.left R.faults R.calls source.old source.new)
         (output W.taken W.faults W.calls out.old out.new)
         (C.readings clock.old) (C.readings clock.new) trail.new result }
 {
@@ -69,7 +68,7 @@ fn session<R: Source, W: Sink, S: Stores, C: Clock>(
     requires out { (d s : ℕ) → S.out stores.old d s ≡ places_of ring.now d s }
     ensures home { (d s : ℕ) → S.out stores.new d s ≡ false }
     ensures run { IsRunOver S.V.tells S.V.holds S.V.faults (keeper_seen S.K.tells S.K.holds S.K.faults) ring.now world (S.rests stores.new)
-        (counts S.calls S.faults stores.old) (counts S.calls S.faults stores.new) (passage R.left R.faults source.old source.new)
+        (counts S.calls S.faults stores.old) (counts S.calls S.faults stores.new) (input R.left R.faults R.calls source.old source.new)
         (output W.taken W.faults W.calls out.old out.new)
         (C.readings clock.old) (C.readings clock.new) trail.new result }
 {

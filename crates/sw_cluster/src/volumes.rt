@@ -17,7 +17,6 @@ ghost use Rattle.sw_cluster.specs.Told.{counts};
 use crate::status::{NO_MEMORY, STORE_FAULT};
 use std::alloc::Global;
 use sw_core::World;
-use sw_nodes::stripes;
 use sw_outside::StoreError;
 use sw_ring::Ring;
 use sw_stores::Stores;
@@ -41,7 +40,7 @@ pub fn open_nodes<S: Stores>(
     ensures unstarted { IfErr result (λ error. AreUnstarted S.first ring.now (S.rests stores.old) (S.rests stores.new)
         (counts S.calls S.faults stores.old) (counts S.calls S.faults stores.new) (start_status error)) }
 {
-    let stripes = stripes(ring);
+    let stripes = ring.stripes();
     let count = ring.devices.as_slice().len() * usize::from(stripes);
     let parts = match start_range(alloc, stores, stripes, 0, count) {
         Ok(parts) => parts,
@@ -85,7 +84,7 @@ pub fn give_back<S: Stores>(ring: &Ring, world: World<S::V, S::K>, stores: &mut 
     ensures faults { S.faults stores.new ≡ S.faults stores.old }
     ensures calls { S.calls stores.new ≡ S.calls stores.old }
 {
-    let stripes = stripes(ring);
+    let stripes = ring.stripes();
     let count = ring.devices.as_slice().len() * usize::from(stripes);
     let (first, past) = gap_of(world.lifted(), stripes);
     give_around(stores, stripes, first, past, count, world.stop());

@@ -1,11 +1,10 @@
 use Rattle.sw_core.specs.Worlds.{keeper_seen}
 use Rattle.std.proofs.Common.{◌⊎◌, refl, subst}
 use Rattle.sw_outside.specs.Counts.{raised}
-use Rattle.sw_session.specs.Passages.{passage}
 use Rattle.sw_cluster.proofs.OpeningLemmas.{not_opened, opened}
 use Rattle.sw_cluster.proofs.Rounding.{counts-same}
 use Rattle.sw_cluster.specs.Ending.{IsRun, IsUnbegun}
-use Rattle.sw_cluster.specs.Told.{Counts, counts, output}
+use Rattle.sw_cluster.specs.Told.{Counts, counts, input, output}
 use Rattle.sw_cluster.proofs.command.run.Goals as goal
 
 pub returns-in-Ok-clause-ends : goal.returns-in-Ok-clause-ends
@@ -17,11 +16,11 @@ returns-in-Ok-clause-ends g c =
       same = c.in-Ok.ensures.rests;
       ends = subst (λ (k : Counts). IsRun v.tells v.holds v.faults (keeper_seen keeper.tells keeper.holds keeper.faults) s.first c.in-Ok.ring
           (s.rests c.open_ring.new.stores) (s.rests run.new.stores)
-          k (counts s.calls s.faults run.new.stores) (passage g.R.Source.left g.R.Source.faults c.args.source.now run.new.source)
+          k (counts s.calls s.faults run.new.stores) (input g.R.Source.left g.R.Source.faults g.R.Source.calls c.args.source.now run.new.source)
           (output g.W.Sink.taken g.W.Sink.faults g.W.Sink.calls c.args.out.now run.new.out)
           (g.C.Clock.readings c.args.clock.now) (g.C.Clock.readings run.new.clock) run.new.trail run.result
           ⊎ IsUnbegun s.first c.in-Ok.ring (s.rests c.open_ring.new.stores) (s.rests run.new.stores)
-          k (counts s.calls s.faults run.new.stores) (passage g.R.Source.left g.R.Source.faults c.args.source.now run.new.source)
+          k (counts s.calls s.faults run.new.stores) (input g.R.Source.left g.R.Source.faults g.R.Source.calls c.args.source.now run.new.source)
           (output g.W.Sink.taken g.W.Sink.faults g.W.Sink.calls c.args.out.now run.new.out)
           (g.C.Clock.readings c.args.clock.now) (g.C.Clock.readings run.new.clock) run.new.trail run.result)
           (counts-same (counts s.calls s.faults c.open_ring.new.stores) now c.in-Ok.ensures.once c.in-Ok.ensures.opening.1) run.ensures.run;

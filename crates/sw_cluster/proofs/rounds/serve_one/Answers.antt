@@ -25,7 +25,6 @@ returns-clause-one g c =
       round,
       record {
         answered = served.ensures.connection;
-        puts = served.ensures.puts;
         in_place = record {
           read_at = served.ensures.source_number ∙ c.in-Ok.ensures.numbers.0;
           written_at = served.ensures.sink_number ∙ c.in-Ok.ensures.numbers.1;
