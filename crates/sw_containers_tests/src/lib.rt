@@ -22,6 +22,8 @@ mod many;
 #[cfg(test)]
 mod rows;
 #[cfg(test)]
+mod shard_ranges;
+#[cfg(test)]
 mod steps;
 #[cfg(test)]
 mod syncs;

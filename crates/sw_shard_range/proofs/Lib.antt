@@ -1,0 +1,9 @@
+pub mod Cutting
+pub mod Indexes
+pub mod Live
+pub mod Members
+pub mod Order
+pub mod Searching
+pub mod Slashes
+pub mod Tiling
+pub mod Walks
