@@ -1,0 +1,9 @@
+pub mod Changing
+pub mod Going
+pub mod Nothing
+pub mod Points
+pub mod Rows
+pub mod Running
+pub mod Serving
+pub mod Splitting
+pub mod Turning

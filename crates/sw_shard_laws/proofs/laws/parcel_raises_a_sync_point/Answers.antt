@@ -1,0 +1,5 @@
+use Rattle.sw_shard_laws.proofs.Going.{parcel-syncs}
+use Rattle.sw_shard_laws.proofs.laws.parcel_raises_a_sync_point.Goals as goal
+
+pub returns : goal.returns
+returns c = parcel-syncs
