@@ -1,0 +1,9 @@
+pub mod Entries
+pub mod Faults
+pub mod Good
+pub mod Nones
+pub mod Order
+pub mod QueueLaws
+pub mod Slashes
+pub mod Telling
+pub mod TenDigits

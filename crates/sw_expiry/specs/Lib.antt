@@ -1,0 +1,4 @@
+pub mod TenDigits
+pub mod Queue
+pub mod Dues
+pub mod Laws
