@@ -1,0 +1,9 @@
+pub mod GoodNames
+pub mod Numbering
+pub mod Keeping
+pub mod KeyOrder
+pub mod FirstsKept
+pub mod Pairs
+pub mod Turns
+pub mod Rising
+pub mod Standing
