@@ -1,0 +1,5 @@
+pub mod PartReads
+pub mod Placing
+pub mod Seeing
+pub mod Sharing
+pub mod Turning

@@ -1,0 +1,4 @@
+pub mod Books
+pub mod Doors
+pub mod Laws
+pub mod Turning
