@@ -10,7 +10,7 @@ use sw_state::{Content, Head, HeadList, Heads, Kind, Write};
 use sw_timestamp::Timestamp;
 
 /// What a step asks for, with its time in units.
-#[derive(Clone, Copy, Debug, PartialEq, Eq)]
+#[derive(Clone, Copy)]
 pub enum Asked {
     Put(u64),
     PutIfNone(u64),
@@ -26,7 +26,7 @@ pub enum Asked {
 }
 
 /// What it is answered, with times in units.
-#[derive(Clone, Copy, Debug, PartialEq, Eq)]
+#[derive(Clone, Copy, PartialEq, Eq)]
 pub enum Told {
     Done(u64),
     Buried(u64),
@@ -140,7 +140,8 @@ pub fn change_of(alloc: Global, asked: Asked) -> Result<Option<Change>, Fail> {
     })
 }
 
-fn put(alloc: Global, units: u64, none_match: bool) -> Result<Change, Fail> {
+/// A put of three bytes.
+pub fn put(alloc: Global, units: u64, none_match: bool) -> Result<Change, Fail> {
     Ok(Change::Put {
         time: time(units)?,
         content: content(alloc, b"old")?,

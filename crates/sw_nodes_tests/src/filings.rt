@@ -5,7 +5,7 @@ ghost use Rattle.sw_hashdir.specs.Steps.{is_hashed};
 
 use crate::asked::secrets;
 use crate::losing::EACH;
-use crate::recording::{Asked, Told, are_done, change_of, is_told, record_of, told_of};
+use crate::recording::{Asked, Told, are_done, change_of, file, is_told, told_of};
 use crate::worlds::{Came, FAITHFUL, JOURNAL_BYTES, RING, four_parts, told};
 use std::alloc::Global;
 use std::test::Fail;
@@ -15,7 +15,6 @@ use sw_keeper::MemKeeper;
 use sw_lossy::{Acts, Lossy};
 use sw_peer::{KeptLine, Link, PendingDoor};
 use sw_pending::Filed;
-use sw_pending_dir::put_record;
 use sw_ring::{Ring, read};
 use sw_stores::Parts;
 use sw_volume::MemVolume;
@@ -63,6 +62,9 @@ const BASE_TWICE: &[Row] = &[
     (Sent, Records(&[&[]]), false, 0),
     (Sent, Base(None), false, 1),
 ];
+
+/// What the door loses and repeats, and the steps.
+const COURSES: &[(Acts, &[Row])] = &[(FAITHFUL, FILED), (EACH, RECORDS_TWICE), (EACH, BASE_TWICE)];
 
 /// A door to nodes of two stripes, and the record of `o` there.
 #[derive(Drop)]
@@ -115,10 +117,8 @@ type TwoNodes = Nodes<Lossy<World<MemVolume, MemKeeper>>>;
 fn file_both(alloc: Global, volume: &mut MemVolume, secrets: &Secrets) -> Result<Filed, Fail>
     ensures { IfOk result (λ filed. is_hashed secrets.now filed.name ≡ true) }
 {
-    let filed = record_of(alloc, secrets, b"o")?;
-    put_record(alloc, volume, &filed)?;
-    let other = record_of(alloc, secrets, b"q")?;
-    put_record(alloc, volume, &other)?;
+    let filed = file(alloc, volume, secrets, b"o")?;
+    file(alloc, volume, secrets, b"q")?;
     Ok(filed)
 }
 
@@ -138,6 +138,12 @@ fn begun(alloc: Global, ring: &Ring, acts: Acts) -> Result<TwoNodes, Fail> {
     };
     let door = Lossy::new(world, acts);
     Ok(Nodes { door, filed })
+}
+
+/// The nodes of the ring.
+fn begun_at(alloc: Global, acts: Acts) -> Result<TwoNodes, Fail> {
+    let ring = read(alloc, RING)?;
+    begun(alloc, &ring, acts)
 }
 
 /// Whether the step is heard, answered and told so.
@@ -161,10 +167,14 @@ fn are_all(lines: &[KeptLine], came: Came) -> bool {
 }
 
 /// Whether all steps go so.
-fn goes_so(alloc: Global, ring: &Ring, acts: Acts, rows: &[Row]) -> Result<bool, Fail> {
-    let mut nodes = begun(alloc, ring, acts)?;
+fn goes_so(alloc: Global, acts: Acts, rows: &[Row]) -> Result<bool, Fail> {
+    let mut nodes = begun_at(alloc, acts)?;
+    all_go_so(alloc, &mut nodes, rows)
+}
+
+fn all_go_so(alloc: Global, nodes: &mut TwoNodes, rows: &[Row]) -> Result<bool, Fail> {
     for row in rows {
-        if !is_so(alloc, &mut nodes, *row)? {
+        if !is_so(alloc, nodes, *row)? {
             return Ok(false);
         }
     }
@@ -174,9 +184,8 @@ fn goes_so(alloc: Global, ring: &Ring, acts: Acts, rows: &[Row]) -> Result<bool,
 #[test]
 fn what_is_filed_is_read_at_nodes(rt: HostRuntime) -> Result<(), Fail> {
     let alloc = rt.alloc();
-    let ring = read(alloc, RING)?;
-    assert!(rt; goes_so(alloc, &ring, FAITHFUL, FILED)?);
-    assert!(rt; goes_so(alloc, &ring, EACH, RECORDS_TWICE)?);
-    assert!(rt; goes_so(alloc, &ring, EACH, BASE_TWICE)?);
+    for (acts, rows) in COURSES {
+        assert!(rt; goes_so(alloc, *acts, rows)?);
+    }
     Ok(())
 }

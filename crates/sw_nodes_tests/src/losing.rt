@@ -1,12 +1,13 @@
 //! What of its messages a door loses and repeats, told by how many steps come to the door inside.
 
+use crate::asked::secrets;
 use crate::between::{Heard, send_between};
 use crate::refusing::Refusing;
 use crate::sending::send;
 use std::alloc::Global;
 use std::test::Fail;
 use sw_container_steps::ContChange;
-use sw_hashpath::{Name, Place, Secrets};
+use sw_hashpath::{Name, Place};
 use sw_listing::Query;
 use sw_lossy::{Acts, Lossy};
 use sw_object_steps::Change;
@@ -47,26 +48,30 @@ struct Asked {
 
 impl Asked {
     fn new(alloc: Global) -> Result<Asked, Fail> {
-        let secrets = Secrets {
-            prefix: Bytes::copy(alloc, b"")?,
-            suffix: Bytes::copy(alloc, b"endcap")?,
-        };
         let time = Timestamp::parse(b"5")?;
+        let secrets = secrets(alloc)?;
+        let name = Name::new(alloc, &secrets, b"a", b"c", b"o")?;
+        let place = Place::new(alloc, &secrets, b"a", b"c")?;
         Ok(Asked {
             time,
-            name: Name::new(alloc, &secrets, b"a", b"c", b"o")?,
-            place: Place::new(alloc, &secrets, b"a", b"c")?,
+            name,
+            place,
             change: ContChange::Create { time },
-            query: Query {
-                limit: 10,
-                marker: Bytes::copy(alloc, b"")?,
-                end_marker: Bytes::copy(alloc, b"")?,
-                prefix: Bytes::copy(alloc, b"")?,
-                delimiter: None,
-                reverse: false,
-                json: false,
-            },
+            query: everything(alloc),
         })
+    }
+}
+
+/// A listing of what there is.
+fn everything(alloc: Global) -> Query {
+    Query {
+        limit: 10,
+        marker: Bytes::from(Vec::new(alloc)),
+        end_marker: Bytes::from(Vec::new(alloc)),
+        prefix: Bytes::from(Vec::new(alloc)),
+        delimiter: None,
+        reverse: false,
+        json: false,
     }
 }
 
@@ -189,14 +194,25 @@ fn shows(
     as_expected
 }
 
+/// Whether a door that begins so does.
+fn goes_so(
+    alloc: Global,
+    acts: Acts,
+    asked: &Asked,
+    steps: &[Step; 5],
+    expected: &[Shown; 5],
+) -> bool {
+    let mut door = Lossy::new(Refusing::new(true), acts);
+    shows(alloc, &mut door, asked, steps, expected)
+}
+
 #[test]
 fn the_named_messages_are_lost_and_repeated(rt: HostRuntime) -> Result<(), Fail> {
     let alloc = rt.alloc();
     let asked = Asked::new(alloc)?;
     for (acts, expected) in ROWS {
         for steps in RUNS {
-            let mut door = Lossy::new(Refusing::new(true), acts);
-            assert!(rt; shows(alloc, &mut door, &asked, &steps, &expected));
+            assert!(rt; goes_so(alloc, acts, &asked, &steps, &expected));
         }
     }
     Ok(())
@@ -207,6 +223,12 @@ fn write_at(time: Timestamp) -> Write {
         time,
         kind: Kind::Del,
     }
+}
+
+/// Whether a write is, by a door that begins so over devices that have it or don't.
+fn is_acknowledged(alloc: Global, acts: Acts, has_write: bool, asked: &Asked) -> bool {
+    let mut door = Lossy::new(Refusing::new(has_write), acts);
+    send(alloc, &mut door, 1, &asked.name, write_at(asked.time))
 }
 
 #[test]
@@ -234,11 +256,27 @@ fn what_is_heard_acknowledges_a_write(rt: HostRuntime) -> Result<(), Fail> {
         (twice, false, false),
     ];
     for (acts, has_write, acknowledged) in table {
-        let mut door = Lossy::new(Refusing::new(has_write), acts);
-        let write = write_at(asked.time);
-        assert_eq!(rt; send(alloc, &mut door, 1, &asked.name, write), acknowledged);
+        assert_eq!(rt;
+            is_acknowledged(alloc, acts, has_write, &asked),
+            acknowledged
+        );
     }
     Ok(())
+}
+
+/// What is heard of three messages, and how many steps come to the door inside.
+fn heard_of_three(alloc: Global, acts: Acts, has_write: bool, asked: &Asked) -> (Heard, u64) {
+    let mut door = Lossy::new(Refusing::new(has_write), acts);
+    let heard = send_between(
+        alloc,
+        &mut door,
+        1,
+        &asked.place,
+        &asked.change,
+        &asked.name,
+        write_at(asked.time),
+    );
+    (heard, door.door.steps())
 }
 
 #[test]
@@ -271,25 +309,15 @@ fn a_write_is_the_second_of_three_messages(rt: HostRuntime) -> Result<(), Fail> 
         (twice, true, true, 4),
     ];
     for (acts, has_write, acknowledged, steps) in table {
-        let mut door = Lossy::new(Refusing::new(has_write), acts);
-        let write = write_at(asked.time);
-        let heard = send_between(
-            alloc,
-            &mut door,
-            1,
-            &asked.place,
-            &asked.change,
-            &asked.name,
-            write,
-        );
         // The steps at the container find no memory there.
         let expected = Heard {
             before: false,
             write: acknowledged,
             after: false,
         };
+        let (heard, came) = heard_of_three(alloc, acts, has_write, &asked);
         assert_eq!(rt; heard, expected);
-        assert_eq!(rt; door.door.steps(), steps);
+        assert_eq!(rt; came, steps);
     }
     Ok(())
 }

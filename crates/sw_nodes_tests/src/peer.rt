@@ -1,10 +1,10 @@
 use crate::asked::{content, heads, name_under, secrets};
 use std::alloc::Global;
 use std::test::Fail;
-use sw_hashpath::BadFile;
+use sw_hashpath::{BadFile, Name};
 use sw_object_steps::{FiledList, Got, ObjEntry};
 use sw_outside::NoMemory;
-use sw_state::{Kind, Write};
+use sw_state::{Content, Kind, Write};
 use sw_timestamp::Timestamp;
 
 /// One of each kind of what a read gets, but want of memory.
@@ -77,18 +77,33 @@ fn is_of_o(entry: &ObjEntry) -> bool {
         && write.time.units() == 500_000
 }
 
+/// A put of the object `o`, at the fifth second.
+fn entry_of_o(alloc: Global) -> Result<ObjEntry, Fail> {
+    let time = Timestamp::parse(b"5")?;
+    let name = name_of_o(alloc)?;
+    let content = content(alloc, b"abc")?;
+    Ok(put_of(alloc, name, time, content))
+}
+
+fn name_of_o(alloc: Global) -> Result<Name, Fail> {
+    let secrets = secrets(alloc)?;
+    name_under(alloc, &secrets, b"o")
+}
+
+fn put_of(alloc: Global, name: Name, time: Timestamp, content: Content) -> ObjEntry {
+    let kind = Kind::Put(content);
+    ObjEntry::Wrote(name, Write { time, kind }, FiledList::new(alloc))
+}
+
+/// Whether a copy of that entry is such a one.
+fn is_copied(alloc: Global) -> Result<bool, Fail> {
+    let entry = entry_of_o(alloc)?;
+    Ok(is_of_o(&entry.copy(alloc)?))
+}
+
 #[test]
 fn an_entry_is_copied_whole(rt: HostRuntime) -> Result<(), Fail> {
     let alloc = rt.alloc();
-    let write = Write {
-        time: Timestamp::parse(b"5")?,
-        kind: Kind::Put(content(alloc, b"abc")?),
-    };
-    let entry = ObjEntry::Wrote(
-        name_under(alloc, &secrets(alloc)?, b"o")?,
-        write,
-        FiledList::new(alloc),
-    );
-    assert!(rt; is_of_o(&entry.copy(alloc)?));
+    assert!(rt; is_copied(alloc)?);
     Ok(())
 }

@@ -203,13 +203,31 @@ struct Lock {
 
 /// A directory over a volume with the record of `o` alone.
 fn begun(alloc: Global, max_entries: u64, failing: &[(u64, bool)]) -> Result<Lock, Fail> {
-    let mut volume = MemVolume::new(alloc, failing_calls(alloc, failing)?);
     let secrets = secrets(alloc)?;
-    let filed = record_of(alloc, &secrets, b"o")?;
-    put_record(alloc, &mut volume, &filed)?;
     let given = secrets.copy(alloc)?;
+    let volume = volume_of(alloc, &secrets, failing)?;
     let dir = ObjDir::start(alloc, volume, POWER, given, max_entries, 100);
     Ok(Lock { dir, secrets })
+}
+
+fn volume_of(alloc: Global, secrets: &Secrets, failing: &[(u64, bool)]) -> Result<MemVolume, Fail> {
+    let mut volume = MemVolume::new(alloc, failing_calls(alloc, failing)?);
+    file(alloc, &mut volume, secrets, b"o")?;
+    Ok(volume)
+}
+
+/// Files the record of this object.
+pub fn file(
+    alloc: Global,
+    volume: &mut MemVolume,
+    secrets: &Secrets,
+    object: &[u8],
+) -> Result<Filed, Fail>
+    ensures { IfOk result (λ filed. IsHashed secrets.now filed.name) }
+{
+    let filed = record_of(alloc, secrets, object)?;
+    put_record(alloc, volume, &filed)?;
+    Ok(filed)
 }
 
 /// The record of this object at time 20, of which no device is told yet.
@@ -231,18 +249,38 @@ fn time(units: u64) -> Result<Timestamp, Fail> {
     }
 }
 
+/// Makes the change, and says what it is answered.
+fn made(
+    alloc: Global,
+    dir: &mut ObjDir<MemVolume>,
+    name: &Name,
+    change: Change,
+    briefs: &mut Vec<Brief>,
+) -> Told
+    requires hashed { IsHashed dir.old.secrets name.now }
+    ensures same { dir.new.secrets ≡ dir.old.secrets }
+{
+    told_of(if change.is_write() {
+        dir.change(alloc, name, change, briefs)
+    } else {
+        dir.record(alloc, name, &change, briefs)
+    })
+}
+
 impl Lock {
     /// Makes a step, and says what it is answered and what it tells of the entries that came.
-    fn step(&mut self, alloc: Global, asked: Asked) -> Result<(Told, Vec<Brief>), Fail> {
+    fn step(&mut self, alloc: Global, asked: Asked, briefs: &mut Vec<Brief>) -> Result<Told, Fail> {
         let name = name_under(alloc, &self.secrets, b"o")?;
         let change = change_of(alloc, &self.secrets, asked)?;
+        Ok(made(alloc, &mut self.dir, &name, change, briefs))
+    }
+
+    /// Whether the step is answered so, and tells this.
+    fn goes_so(&mut self, alloc: Global, row: &Row) -> Result<bool, Fail> {
+        let (asked, wanted, kinds) = row;
         let mut briefs = Vec::new(alloc);
-        let answer = if change.is_write() {
-            self.dir.change(alloc, &name, change, &mut briefs)
-        } else {
-            self.dir.record(alloc, &name, &change, &mut briefs)
-        };
-        Ok((told_of(answer), briefs))
+        let told = self.step(alloc, *asked, &mut briefs)?;
+        Ok(told == *wanted && are(&briefs, kinds))
     }
 
     /// Whether these are the devices that are done of each record, in their order.
@@ -261,6 +299,19 @@ impl Lock {
         match self.dir.base_for(alloc, &filed, &mut briefs) {
             Ok(row) => Ok(is_told(row, wanted)),
             Err(_) => Ok(false),
+        }
+    }
+
+    /// Whether a read finds what is wanted; a step is made.
+    fn is_read(&mut self, alloc: Global, look: Look) -> Result<bool, Fail> {
+        match look {
+            Records(wanted) => Ok(self.has_records(alloc, wanted)),
+            Base(wanted) => self.tells(alloc, wanted),
+            Step(asked) => {
+                let mut briefs = Vec::new(alloc);
+                self.step(alloc, asked, &mut briefs)?;
+                Ok(true)
+            }
         }
     }
 }
@@ -340,9 +391,12 @@ fn goes_so(
     rows: &[Row],
 ) -> Result<bool, Fail> {
     let mut lock = begun(alloc, max_entries, failing)?;
-    for (asked, wanted, kinds) in rows {
-        let (told, briefs) = lock.step(alloc, *asked)?;
-        if told != *wanted || !are(&briefs, kinds) {
+    all_go_so(alloc, &mut lock, rows)
+}
+
+fn all_go_so(alloc: Global, lock: &mut Lock, rows: &[Row]) -> Result<bool, Fail> {
+    for row in rows {
+        if !lock.goes_so(alloc, row)? {
             return Ok(false);
         }
     }
@@ -358,20 +412,51 @@ fn records_are_marked_and_dropped(rt: HostRuntime) -> Result<(), Fail> {
     Ok(())
 }
 
+/// What is done with the directory in a row.
+#[derive(Clone, Copy)]
+enum Look {
+    /// A read of the records: which devices are done of each.
+    Records(&'static [&'static [u8]]),
+    /// A read of the row to tell for the record of `o`.
+    Base(Option<(u64, u64, bool)>),
+    /// A step, whatever it is answered.
+    Step(Asked),
+}
+
+use Look::{Base, Records, Step};
+
+const READS: &[Look] = &[
+    Records(&[&[]]),
+    Base(None),
+    Step(Put(20)),
+    Base(Some((20, 3, false))),
+    Step(Mark(2)),
+    Records(&[&[2]]),
+    Step(Delete(30)),
+    Base(Some((30, 0, true))),
+    Records(&[&[2], &[]]),
+    Step(Drop(&[2])),
+    Records(&[&[]]),
+];
+
+/// Whether each read of these finds what is wanted.
+fn reads_so(alloc: Global, looks: &[Look]) -> Result<bool, Fail> {
+    let mut lock = begun(alloc, 10, CALM)?;
+    are_read(alloc, &mut lock, looks)
+}
+
+fn are_read(alloc: Global, lock: &mut Lock, looks: &[Look]) -> Result<bool, Fail> {
+    for look in looks {
+        if !lock.is_read(alloc, *look)? {
+            return Ok(false);
+        }
+    }
+    Ok(true)
+}
+
 #[test]
 fn what_is_filed_is_read_and_its_row_told(rt: HostRuntime) -> Result<(), Fail> {
     let alloc = rt.alloc();
-    let mut lock = begun(alloc, 10, CALM)?;
-    assert!(rt; lock.has_records(alloc, &[&[]]));
-    assert!(rt; lock.tells(alloc, None)?);
-    let _ = lock.step(alloc, Put(20))?;
-    assert!(rt; lock.tells(alloc, Some((20, 3, false)))?);
-    let _ = lock.step(alloc, Mark(2))?;
-    assert!(rt; lock.has_records(alloc, &[&[2]]));
-    let _ = lock.step(alloc, Delete(30))?;
-    assert!(rt; lock.tells(alloc, Some((30, 0, true)))?);
-    assert!(rt; lock.has_records(alloc, &[&[2], &[]]));
-    let _ = lock.step(alloc, Drop(&[2]))?;
-    assert!(rt; lock.has_records(alloc, &[&[]]));
+    assert!(rt; reads_so(alloc, READS)?);
     Ok(())
 }

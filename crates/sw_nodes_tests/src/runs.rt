@@ -7,6 +7,7 @@ use Told::{
     Buried, Conflict, Done, Exists, Failed, Full, Mismatch, NotFound, NotFoundSince, Nothing,
     Object, Updated,
 };
+use std::alloc::Global;
 use std::test::Fail;
 
 /// One object, at one device and then at another.
@@ -89,7 +90,7 @@ const THREE_BYTES: &[Row] = &[
 /// Limits of the journal, calls of the volume that fail with or without their change, and steps.
 type Run = (Limits, &'static [(u64, bool)], &'static [Row]);
 
-const RUNS: [Run; 15] = [
+const RUNS: &[Run] = &[
     (AMPLE, &[], STEPS),
     (AMPLE, &[], MORE_STEPS),
     (AMPLE, &[], TRANSFERS),
@@ -169,11 +170,17 @@ const RUNS: [Run; 15] = [
     ),
 ];
 
+/// Whether the steps of the run are answered so.
+fn runs_so(alloc: Global, run: &Run) -> Result<bool, Fail> {
+    let (limits, failing, rows) = run;
+    goes_so(alloc, *limits, failing, &[], rows, None)
+}
+
 #[test]
 fn steps_have_the_answers_of_the_tables(rt: HostRuntime) -> Result<(), Fail> {
     let alloc = rt.alloc();
-    for (limits, failing, rows) in RUNS {
-        assert!(rt; goes_so(alloc, limits, failing, &[], rows, None)?);
+    for run in RUNS {
+        assert!(rt; runs_so(alloc, run)?);
     }
     Ok(())
 }

@@ -1,9 +1,9 @@
 //! Steps of a world, by the list.
 
-ghost use Rattle.std.specs.Prelude.{◌≡◌, All, IfOk, length};
+ghost use Rattle.std.specs.Prelude.{◌≡◌, None, All, IfOk, length};
 ghost use Rattle.sw_steps.specs.Stepping.{MayBeMade};
 
-use crate::asked::{Asked, change_of, name_under};
+use crate::asked::{name_under, put};
 use crate::obj_dirs::O;
 use std::alloc::Global;
 use std::test::Fail;
@@ -41,7 +41,7 @@ const LOSES_FIRST: Acts = Acts {
 };
 
 /// What came to a device, and how it was said.
-#[derive(Clone, Copy, Debug, PartialEq, Eq)]
+#[derive(Clone, Copy, PartialEq, Eq)]
 pub enum Came {
     Changes(u8, Link),
     Hashes(u8, Link),
@@ -151,7 +151,21 @@ fn ran(
         return Ok(false);
     };
     let mut door = Lossy::new(world, FAITHFUL);
-    let pushed = run_steps(alloc, &mut door, steps)?;
+    tell(alloc, &mut door, steps, wanted, outcomes)
+}
+
+/// The same of nodes that stand.
+fn tell(
+    alloc: Global,
+    door: &mut Lossy<World<MemVolume, MemKeeper>>,
+    steps: &[Step],
+    wanted: &[Came],
+    outcomes: &[Outcome],
+) -> Result<bool, Fail>
+    requires whole { door.old.door.lifted ≡ None }
+    requires may { All (MayBeMade door.old.door.devices door.old.door.power door.old.door.secrets) steps.now }
+{
+    let pushed = run_steps(alloc, door, steps)?;
     Ok(are_outcomes(&pushed, outcomes) && are_told(door.door.lines(), wanted))
 }
 
@@ -173,9 +187,7 @@ fn pushes(alloc: Global, ring: &Ring) -> Result<bool, Fail> {
         return Ok(false);
     }
     let name = name_under(alloc, &ring.secrets, O)?;
-    let Some(change) = change_of(alloc, Asked::Put(20))? else {
-        return Ok(false);
-    };
+    let change = put(alloc, 20, false)?;
     let steps = [
         Step::Change {
             device: 0,
@@ -198,11 +210,20 @@ fn pushes(alloc: Global, ring: &Ring) -> Result<bool, Fail> {
     ran(alloc, ring, &steps, PUSHED, OUTCOMES)
 }
 
+fn lists_at_ring(alloc: Global) -> Result<bool, Fail> {
+    let ring = read(alloc, RING)?;
+    lists_and_restarts(alloc, &ring)
+}
+
+fn pushes_at_ring(alloc: Global) -> Result<bool, Fail> {
+    let ring = read(alloc, RING)?;
+    pushes(alloc, &ring)
+}
+
 #[test]
 fn steps_leave_their_lines(rt: HostRuntime) -> Result<(), Fail> {
     let alloc = rt.alloc();
-    let ring = read(alloc, RING)?;
-    assert!(rt; lists_and_restarts(alloc, &ring)?);
-    assert!(rt; pushes(alloc, &ring)?);
+    assert!(rt; lists_at_ring(alloc)?);
+    assert!(rt; pushes_at_ring(alloc)?);
     Ok(())
 }
