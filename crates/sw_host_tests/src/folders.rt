@@ -16,7 +16,10 @@ pub(crate) fn end_folder(rt: &HostRuntime, path: &str) -> Result<(), Fail> {
     Ok(())
 }
 
-/// How many entries a folder has.
-pub(crate) fn entries(rt: &HostRuntime, path: &str) -> Result<usize, Fail> {
-    Ok(fs::read_dir(rt, path)?.count())
+/// Whether a folder has no entry.
+pub(crate) fn is_empty(rt: &HostRuntime, path: &str) -> bool {
+    match fs::read_dir(rt, path) {
+        Ok(entries) => entries.count() == 0,
+        Err(_) => false,
+    }
 }

@@ -3,7 +3,7 @@ use crate::volume::{CALLS, OWNER};
 use std::alloc::Global;
 use std::test::Fail;
 use sw_keeper::{Batch, Change, Keeper, KeeperError};
-use sw_outside::{Bytes, NoMemory};
+use sw_outside::{Bytes, NoMemory, StoreError};
 use sw_store::{HostKeeper, HostStores, NoNotes};
 use sw_stores::Stores;
 use sw_timestamp::Timestamp;
@@ -37,15 +37,15 @@ fn created(alloc: Global, keeper: &mut HostKeeper<NoNotes>) -> Result<(), Keeper
     keeper.commit(alloc, &container(alloc)?, &creation)
 }
 
-/// The same at the keeper of this lock.
-fn create(rt: &HostRuntime, base: &str, ring: &str, stripe: u8) -> Result<(), Fail> {
-    let alloc = rt.alloc();
-    let mut stores = HostStores::below(rt, &NoNotes, OWNER, base);
-    stores.ring(alloc, ring)?;
+/// Whether that goes well at the keeper of this lock.
+fn create(place: &Place<'_>, stripe: u8) -> Result<bool, StoreError> {
+    let alloc = place.alloc();
+    let mut stores = HostStores::below(place.rt, &NoNotes, OWNER, &place.base);
+    stores.ring(alloc, place.ring())?;
     let (volume, mut keeper) = stores.start(alloc, 1, stripe)?;
     let created = created(alloc, &mut keeper);
     stores.give_back(1, stripe, volume, keeper);
-    Ok(created?)
+    Ok(created.is_ok())
 }
 
 /// The put time of the container at a keeper, in units: 0 where it was never created.
@@ -54,26 +54,24 @@ fn loaded<K: Keeper>(alloc: Global, keeper: &mut K) -> Result<u64, KeeperError> 
     Ok(tables.map_or(0, |tables| tables.put_time.units()))
 }
 
-/// That at the keeper of this lock, in stores that are made anew.
-fn put_time(rt: &HostRuntime, base: &str, ring: &str, stripe: u8) -> Result<u64, Fail> {
-    let alloc = rt.alloc();
-    let mut stores = HostStores::below(rt, &NoNotes, OWNER, base);
-    stores.ring(alloc, ring)?;
+/// That at the keeper of this lock, in stores that are made anew, where it tells one.
+fn put_time(place: &Place<'_>, stripe: u8) -> Result<Option<u64>, StoreError> {
+    let alloc = place.alloc();
+    let mut stores = HostStores::below(place.rt, &NoNotes, OWNER, &place.base);
+    stores.ring(alloc, place.ring())?;
     let (volume, mut keeper) = stores.start(alloc, 1, stripe)?;
     let loaded = loaded(alloc, &mut keeper);
     stores.give_back(1, stripe, volume, keeper);
-    Ok(loaded?)
+    Ok(loaded.ok())
 }
 
 #[test]
 fn containers_of_a_lock_stand_beside_its_objects(rt: HostRuntime) -> Result<(), Fail> {
     let place = Place::new(&rt, "containers")?;
-    let base = place.path("data")?;
-    let ring = place.path("ring")?;
-    create(&rt, &base, &ring, 3)?;
-    assert!(rt; place.has(DATABASE)?);
-    assert!(rt; place.goes(3, &CALLS)?);
-    assert_eq!(rt; put_time(&rt, &base, &ring, 3)?, 5);
-    assert_eq!(rt; put_time(&rt, &base, &ring, 2)?, 0);
+    assert!(rt; create(&place, 3) == Ok(true));
+    assert!(rt; place.has(DATABASE));
+    assert!(rt; place.goes(3, &CALLS));
+    assert!(rt; put_time(&place, 3) == Ok(Some(5)));
+    assert!(rt; put_time(&place, 2) == Ok(Some(0)));
     place.end()
 }

@@ -16,6 +16,8 @@ mod notes;
 #[cfg(test)]
 mod rings;
 #[cfg(test)]
+mod stage;
+#[cfg(test)]
 mod steps;
 #[cfg(test)]
 mod stores;

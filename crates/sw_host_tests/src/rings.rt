@@ -1,13 +1,11 @@
 ghost use Rattle.std.specs.Prelude.{◌≡◌, ℕ, false};
 
-use crate::folders::{end_folder, fresh_folder};
+use crate::stage::Stage;
 use crate::stores::{tells, visit};
 use crate::volume::{CALLS, CALLS_LATER};
-use crate::watched::{Failing, Steps, Watched};
+use crate::watched::{Failing, Steps};
 use std::alloc::Global;
-use std::fs;
 use std::io::ErrorKind;
-use std::rc::Rc;
 use std::test::Fail;
 use sw_outside::StoreError;
 use sw_stores::{RingStores, Stores};
@@ -31,27 +29,21 @@ fn tells_by_one_step<S: Stores>(
 #[test]
 fn rings_are_files_and_volumes_are_kept_in_memory(rt: HostRuntime) -> Result<(), Fail> {
     let alloc = rt.alloc();
-    let root = fresh_folder(&rt, "ring-stores")?;
-    let ring = format!(in alloc; "{root}/ring")?;
-    let missing = format!(in alloc; "{root}/another")?;
-    fs::create_dir(&rt, root.as_str())?;
-    fs::write(&rt, ring.as_str(), "text")?;
-    let steps = Rc::new(alloc, Steps::new(alloc))?;
-    let watched = Watched {
-        rt,
-        steps: steps.clone()?,
-    };
-    let host = (watched, alloc);
-    let mut stores = RingStores::new(&host);
+    let stage = Stage::new(rt, "ring-stores")?;
+    let ring = stage.path("ring")?;
+    let missing = stage.path("another")?;
+    assert!(rt; stage.writes(&ring, "text"));
+    let steps = stage.steps();
+    let mut stores = RingStores::new(&stage.host);
     let refused = Failing::One(0, ErrorKind::PermissionDenied);
     let stopped = Failing::One(0, ErrorKind::Interrupted);
     let memory = Failing::One(0, ErrorKind::OutOfMemory);
-    assert!(rt; tells_by_one_step(alloc, &mut stores, &steps, &ring, Failing::None, Ok("text")));
+    assert!(rt; tells_by_one_step(alloc, &mut stores, steps, &ring, Failing::None, Ok("text")));
     assert!(rt;
         tells_by_one_step(
             alloc,
             &mut stores,
-            &steps,
+            steps,
             &ring,
             refused,
             Err(StoreError::Failed)
@@ -61,7 +53,7 @@ fn rings_are_files_and_volumes_are_kept_in_memory(rt: HostRuntime) -> Result<(),
         tells_by_one_step(
             alloc,
             &mut stores,
-            &steps,
+            steps,
             &ring,
             stopped,
             Err(StoreError::Failed)
@@ -71,15 +63,15 @@ fn rings_are_files_and_volumes_are_kept_in_memory(rt: HostRuntime) -> Result<(),
         tells_by_one_step(
             alloc,
             &mut stores,
-            &steps,
+            steps,
             &ring,
             memory,
             Err(StoreError::NoMemory)
         )
     );
     assert!(rt; tells(alloc, &mut stores, &missing, Err(StoreError::Failed)));
-    assert_eq!(rt; visit(alloc, &mut stores, 1, 3, &CALLS)?, None);
-    assert_eq!(rt; visit(alloc, &mut stores, 1, 2, &CALLS)?, None);
-    assert_eq!(rt; visit(alloc, &mut stores, 1, 3, &CALLS_LATER)?, None);
-    end_folder(&rt, &root)
+    assert!(rt; visit(alloc, &mut stores, 1, 3, &CALLS) == Ok(None));
+    assert!(rt; visit(alloc, &mut stores, 1, 2, &CALLS) == Ok(None));
+    assert!(rt; visit(alloc, &mut stores, 1, 3, &CALLS_LATER) == Ok(None));
+    stage.end()
 }

@@ -1,14 +1,12 @@
-use crate::folders::{end_folder, entries, fresh_folder};
-use crate::volume::{Call, DATA, HASH, OWNER, is_as_told, is_some_of};
-use crate::watched::{Failing, Steps, Watched};
+use crate::folders::is_empty;
+use crate::stage::Stage;
+use crate::volume::{Call, DATA, HASH, OWNER, first_other, is_as_told, is_some_of};
+use crate::watched::Failing;
 use Call::{List, Put, Read, Unlink};
-use std::alloc::Global;
 use std::fs;
 use std::io::ErrorKind;
-use std::rc::Rc;
-use std::rt::Files;
 use std::test::Fail;
-use sw_outside::StoreError;
+use sw_outside::{NoMemory, StoreError};
 use sw_store::{HostVolume, NoNotes};
 use sw_volume::{Volume, VolumeError};
 
@@ -44,23 +42,16 @@ const STEPS: [(Call, &[u8], u64); 12] = [
 
 #[test]
 fn each_call_takes_so_many_syncs(rt: HostRuntime) -> Result<(), Fail> {
-    let alloc = rt.alloc();
-    let root = fresh_folder(&rt, "steps")?;
-    fs::create_dir(&rt, root.as_str())?;
-    let steps = Rc::new(alloc, Steps::new(alloc))?;
-    let watched = Watched {
-        rt,
-        steps: steps.clone()?,
-    };
-    let host = (watched, alloc);
-    let mut volume = HostVolume::open(&host, &NoNotes, root.clone()?, OWNER)?;
+    let stage = Stage::new(rt, "steps")?;
+    let steps = stage.steps();
+    let mut volume = stage.volume()?;
     for (call, wanted, asked) in STEPS {
         steps.begin(Failing::None);
-        assert!(rt; is_as_told(alloc, &mut volume, call) == Ok(true));
+        assert!(rt; is_as_told(rt.alloc(), &mut volume, call) == Ok(true));
         assert!(rt; steps.are(wanted));
-        assert_eq!(rt; steps.asked(), asked);
+        assert!(rt; steps.asked() == asked);
     }
-    end_folder(&rt, &root)
+    stage.end()
 }
 
 /// Calls each of which needs the host, over a volume that has some files, and how each answers where the host has no memory.
@@ -74,14 +65,10 @@ const NEEDING: [(Call, VolumeError); 6] = [
 ];
 
 /// Whether each call fails exactly where a step of it does, with this error of the host: with that of its own, or as any other.
-fn each_fails_with_its_steps<R: Files + AllocGlobal>(
-    rt: &R,
-    root: String,
-    steps: &Steps,
-    kind: ErrorKind,
-) -> Result<bool, Fail> {
-    let alloc: Global = rt.alloc();
-    let mut volume = HostVolume::open(rt, &NoNotes, root, OWNER)?;
+fn each_fails_with_its_steps(stage: &Stage, kind: ErrorKind) -> Result<bool, StoreError> {
+    let alloc = stage.host.1;
+    let steps = stage.steps();
+    let mut volume = stage.volume()?;
     let mut same = true;
     for (call, without_memory) in NEEDING {
         let error = if kind == ErrorKind::OutOfMemory {
@@ -107,19 +94,11 @@ fn each_fails_with_its_steps<R: Files + AllocGlobal>(
 
 #[test]
 fn no_error_of_the_host_is_passed_over(rt: HostRuntime) -> Result<(), Fail> {
-    let alloc = rt.alloc();
-    let root = fresh_folder(&rt, "errors")?;
-    fs::create_dir(&rt, root.as_str())?;
-    let steps = Rc::new(alloc, Steps::new(alloc))?;
-    let watched = Watched {
-        rt,
-        steps: steps.clone()?,
-    };
-    let host = (watched, alloc);
+    let stage = Stage::new(rt, "errors")?;
     for kind in [ErrorKind::StorageFull, ErrorKind::OutOfMemory] {
-        assert!(rt; each_fails_with_its_steps(&host, root.clone()?, &steps, kind)?);
+        assert!(rt; each_fails_with_its_steps(&stage, kind) == Ok(true));
     }
-    end_folder(&rt, &root)
+    stage.end()
 }
 
 /// How an open answers whose step of this number finds no memory: it looks for the folder and syncs it into the one above it; makes the folder for writing and
@@ -136,46 +115,29 @@ const OPENING: [StoreError; 8] = [
 ];
 
 /// Why the volume isn't opened where this step fails, if it isn't.
-fn opening<R: Files + AllocGlobal>(
-    host: &R,
-    root: &str,
-    steps: &Steps,
-    failing: Failing,
-) -> Result<Option<StoreError>, Fail> {
-    let root = String::from_str(host.alloc(), root)?;
-    steps.begin(failing);
-    Ok(HostVolume::open(host, &NoNotes, root, OWNER).err())
+fn opening(stage: &Stage, failing: Failing) -> Result<Option<StoreError>, NoMemory> {
+    let root = String::from_str(stage.host.1, stage.root())?;
+    stage.steps().begin(failing);
+    Ok(HostVolume::open(&stage.host, &NoNotes, root, OWNER).err())
 }
 
 #[test]
 fn a_volume_is_opened_only_where_no_step_of_that_fails(rt: HostRuntime) -> Result<(), Fail> {
-    let alloc = rt.alloc();
-    let root = fresh_folder(&rt, "opening")?;
-    let left = format!(in alloc; "{root}/tmp")?;
-    fs::create_dir_all(&rt, left.as_str())?;
-    fs::write(&rt, format!(in alloc; "{left}/put-7")?, "half a fi")?;
-    let steps = Rc::new(alloc, Steps::new(alloc))?;
-    let watched = Watched {
-        rt,
-        steps: steps.clone()?,
-    };
-    let host = (watched, alloc);
+    let stage = Stage::new(rt, "opening")?;
+    let left = stage.path("tmp")?;
+    let file = stage.path("tmp/put-7")?;
+    assert!(rt; fs::create_dir(&rt, left.as_str()).is_ok());
+    assert!(rt; stage.writes(&file, "half a fi"));
     for (number, without_memory) in OPENING.iter().enumerate() {
         let other = Failing::One(number as u64, ErrorKind::PermissionDenied);
-        assert_eq!(rt;
-            opening(&host, &root, &steps, other)?,
-            Some(StoreError::Failed)
-        );
+        assert!(rt; opening(&stage, other) == Ok(Some(StoreError::Failed)));
         let memory = Failing::One(number as u64, ErrorKind::OutOfMemory);
-        assert_eq!(rt;
-            opening(&host, &root, &steps, memory)?,
-            Some(*without_memory)
-        );
+        assert!(rt; opening(&stage, memory) == Ok(Some(*without_memory)));
     }
-    assert_eq!(rt; opening(&host, &root, &steps, Failing::None)?, None);
-    assert_eq!(rt; steps.asked(), 8);
-    assert_eq!(rt; entries(&rt, &left)?, 0);
-    end_folder(&rt, &root)
+    assert!(rt; opening(&stage, Failing::None) == Ok(None));
+    assert!(rt; stage.steps().asked() == 8);
+    assert!(rt; is_empty(&rt, &left));
+    stage.end()
 }
 
 /// What stands at a path of a volume that is opened for it, if these bytes or those do.
@@ -184,11 +146,14 @@ fn stands(
     root: &str,
     was: Option<&[u8]>,
     put: Option<&[u8]>,
-) -> Result<bool, Fail> {
+) -> Result<bool, StoreError> {
     let alloc = rt.alloc();
-    let mut volume = HostVolume::open(rt, &NoNotes, String::from_str(alloc, root)?, OWNER)?;
-    let found = volume.read(alloc, HASH, DATA)?;
-    Ok(is_some_of(&found, was) || is_some_of(&found, put))
+    let root = String::from_str(alloc, root).map_err(NoMemory::from)?;
+    let mut volume = HostVolume::open(rt, &NoNotes, root, OWNER)?;
+    match volume.read(alloc, HASH, DATA) {
+        Ok(found) => Ok(is_some_of(&found, was) || is_some_of(&found, put)),
+        Err(_) => Ok(false),
+    }
 }
 
 #[test]
@@ -196,71 +161,62 @@ fn a_put_that_fails_or_is_cut_leaves_the_old_file_or_the_new_one(
     rt: HostRuntime,
 ) -> Result<(), Fail> {
     let alloc = rt.alloc();
-    let root = fresh_folder(&rt, "failing")?;
-    let left = format!(in alloc; "{root}/tmp")?;
-    fs::create_dir(&rt, root.as_str())?;
-    let steps = Rc::new(alloc, Steps::new(alloc))?;
-    let watched = Watched {
-        rt,
-        steps: steps.clone()?,
-    };
-    let host = (watched, alloc);
-    let mut volume = HostVolume::open(&host, &NoNotes, root.clone()?, OWNER)?;
+    let stage = Stage::new(rt, "failing")?;
+    let left = stage.path("tmp")?;
+    let (steps, root) = (stage.steps(), stage.root());
+    let mut volume = stage.volume()?;
     let puts: [(Option<&[u8]>, &[u8]); 2] = [(None, b"old"), (Some(b"old"), b"new")];
     for (was, bytes) in puts {
         let put = Put(HASH, DATA, bytes);
         for number in 0..24 {
             steps.begin(Failing::From(number));
             let _ = is_as_told(alloc, &mut volume, put);
-            assert!(rt; stands(&rt, &root, was, Some(bytes))?);
+            assert!(rt; stands(&rt, root, was, Some(bytes)) == Ok(true));
             steps.begin(Failing::One(number, ErrorKind::StorageFull));
             let _ = is_as_told(alloc, &mut volume, put);
-            assert_eq!(rt; entries(&rt, &left)?, 0);
-            assert!(rt; stands(&rt, &root, was, Some(bytes))?);
+            assert!(rt; is_empty(&rt, &left));
+            assert!(rt; stands(&rt, root, was, Some(bytes)) == Ok(true));
         }
         steps.begin(Failing::None);
         assert!(rt; is_as_told(alloc, &mut volume, put) == Ok(true));
     }
-    end_folder(&rt, &root)
+    stage.end()
 }
 
-/// Puts a file, with a kill before the step of this number. Then a later volume puts two, and the power is lost once these puts are answered: whether
-/// they stand.
-fn stand_after_a_kill<R: Files + AllocGlobal>(
-    host: &R,
-    rt: &HostRuntime,
-    root: &str,
-    steps: &Steps,
-    number: u64,
-) -> Result<bool, Fail> {
+/// What a later volume puts after a kill, and what stands of it after a loss of power.
+const PUT_LATER: [Call; 2] = [Put(HASH, TIME, b"later"), Put(BESIDE, TIME, b"later")];
+
+const STAND_LATER: [Call; 2] = [
+    Read(HASH, TIME, Some(b"later")),
+    Read(BESIDE, TIME, Some(b"later")),
+];
+
+/// Puts a file, with a kill before the step of this number.
+fn put_with_a_kill(stage: &Stage, number: u64) -> Result<(), StoreError> {
+    let mut killed = stage.volume()?;
+    stage.steps().begin(Failing::From(number));
+    let _ = killed.put(stage.host.1, HASH, DATA, b"killed");
+    stage.steps().begin(Failing::None);
+    Ok(())
+}
+
+/// After such a put a later volume puts two files, and the power is lost once these puts are answered: whether they stand.
+fn stand_after_a_kill(rt: &HostRuntime, stage: &Stage, number: u64) -> Result<bool, StoreError> {
     let alloc = rt.alloc();
-    let mut killed = HostVolume::open(host, &NoNotes, String::from_str(alloc, root)?, OWNER)?;
-    steps.begin(Failing::From(number));
-    let _ = killed.put(alloc, HASH, DATA, b"killed");
-    steps.begin(Failing::None);
-    let mut later = HostVolume::open(host, &NoNotes, String::from_str(alloc, root)?, OWNER)?;
-    later.put(alloc, HASH, TIME, b"later")?;
-    later.put(alloc, BESIDE, TIME, b"later")?;
-    steps.lose_power(rt);
-    let own = later.read(alloc, HASH, TIME)?;
-    let beside = later.read(alloc, BESIDE, TIME)?;
-    Ok(is_some_of(&own, Some(b"later")) && is_some_of(&beside, Some(b"later")))
+    put_with_a_kill(stage, number)?;
+    let mut later = stage.volume()?;
+    let put = first_other(alloc, &mut later, &PUT_LATER, Ok(true));
+    stage.steps().lose_power(rt);
+    let stands = first_other(alloc, &mut later, &STAND_LATER, Ok(true));
+    Ok(put.is_none() && stands.is_none())
 }
 
 #[test]
 fn what_is_put_over_what_a_kill_left_outlives_a_loss_of_power(rt: HostRuntime) -> Result<(), Fail> {
-    let alloc = rt.alloc();
-    let root = fresh_folder(&rt, "power")?;
-    let steps = Rc::new(alloc, Steps::new(alloc))?;
-    let watched = Watched {
-        rt,
-        steps: steps.clone()?,
-    };
-    let host = (watched, alloc);
+    let stage = Stage::new(rt, "power")?;
     for number in 0..32 {
-        fs::create_dir(&rt, root.as_str())?;
-        assert!(rt; stand_after_a_kill(&host, &rt, &root, &steps, number)?);
-        end_folder(&rt, &root)?;
+        assert!(rt; stand_after_a_kill(&rt, &stage, number) == Ok(true));
+        assert!(rt; stage.begin_anew().is_ok());
     }
-    Ok(())
+    stage.end()
 }

@@ -1,10 +1,10 @@
 ghost use Rattle.std.specs.Prelude.{◌≡◌, ℕ, false};
 
-use crate::folders::{end_folder, entries, fresh_folder};
+use crate::folders::{end_folder, fresh_folder};
 use crate::volume::{CALLS, CALLS_LATER, Call, OWNER, first_other};
 use std::alloc::Global;
-use std::fs;
 use std::test::Fail;
+use std::{fs, io};
 use sw_outside::StoreError;
 use sw_store::{HostStores, NoNotes};
 use sw_stores::Stores;
@@ -57,67 +57,99 @@ pub(crate) fn visit<S: Stores>(
 /// A folder of a test: in it stand a ring, and the folder of a node.
 #[derive(Drop)]
 pub(crate) struct Place<'a> {
-    rt: &'a HostRuntime,
+    pub rt: &'a HostRuntime,
     folder: String,
+    pub base: String,
+    ring: String,
 }
 
 impl<'a> Place<'a> {
     /// A place with this ring, and without a node's folder.
     pub(crate) fn new(rt: &'a HostRuntime, test: &str) -> Result<Place<'a>, Fail> {
         let folder = fresh_folder(rt, test)?;
+        let base = format!(in rt.alloc(); "{folder}/data")?;
+        let ring = format!(in rt.alloc(); "{folder}/ring")?;
         fs::create_dir(rt, folder.as_str())?;
-        let place = Place { rt, folder };
-        place.has_ring(RING)?;
-        Ok(place)
+        fs::write(rt, ring.as_str(), RING)?;
+        Ok(Place {
+            rt,
+            folder,
+            base,
+            ring,
+        })
     }
 
-    pub(crate) fn path(&self, name: &str) -> Result<String, Fail> {
+    pub(crate) fn alloc(&self) -> Global {
+        self.rt.alloc()
+    }
+
+    pub(crate) fn ring(&self) -> &str {
+        self.ring.as_str()
+    }
+
+    fn path(&self, name: &str) -> io::Result<String> {
         let folder = self.folder.as_str();
         Ok(format!(in self.rt.alloc(); "{folder}/{name}")?)
     }
 
-    /// Has this ring from now on.
-    fn has_ring(&self, ring: &str) -> Result<(), Fail> {
-        fs::write(self.rt, self.path("ring")?, ring)?;
-        Ok(())
+    /// Whether it has this ring from now on.
+    fn has_ring(&self, ring: &str) -> bool {
+        fs::write(self.rt, self.ring(), ring).is_ok()
     }
 
     /// How it goes to make these calls at a lock of the second device, in stores that read the ring first.
-    fn visited(
-        &self,
-        stripe: u8,
-        calls: &[Call],
-    ) -> Result<Result<Option<usize>, StoreError>, Fail> {
-        let base = self.path("data")?;
-        let ring = self.path("ring")?;
-        Ok(visit_below(self.rt, &base, &ring, stripe, calls))
+    fn visited(&self, stripe: u8, calls: &[Call]) -> Result<Option<usize>, StoreError> {
+        visit_below(self.rt, &self.base, self.ring(), stripe, calls)
     }
 
     /// Whether these calls go well, after a start by this process.
-    pub(crate) fn goes(&self, stripe: u8, calls: &[Call]) -> Result<bool, Fail> {
-        Ok(self.visited(stripe, calls)? == Ok(None))
+    pub(crate) fn goes(&self, stripe: u8, calls: &[Call]) -> bool {
+        self.visited(stripe, calls) == Ok(None)
     }
 
     /// Whether a start fails.
-    fn fails(&self) -> Result<bool, Fail> {
-        Ok(self.visited(3, &CALLS_LATER)? == Err(StoreError::Failed))
+    fn fails(&self) -> bool {
+        self.visited(3, &CALLS_LATER) == Err(StoreError::Failed)
     }
 
-    fn moves(&self, from: &str, to: &str) -> Result<(), Fail> {
-        fs::rename(self.rt, self.path(from)?, self.path(to)?)?;
-        Ok(())
+    fn move_to(&self, from: &str, to: &str) -> io::Result<()> {
+        let from = self.path(from)?;
+        fs::rename(self.rt, from, self.path(to)?)
     }
 
-    pub(crate) fn has(&self, name: &str) -> Result<bool, Fail> {
-        Ok(fs::exists(self.rt, self.path(name)?)?)
+    fn moves(&self, from: &str, to: &str) -> bool {
+        self.move_to(from, to).is_ok()
     }
 
-    fn holds(&self, name: &str, text: &str) -> Result<bool, Fail> {
-        let found = fs::read_to_string(self.rt, self.path(name)?)?;
-        Ok(found.as_str() == text)
+    fn look(&self, name: &str) -> io::Result<bool> {
+        fs::exists(self.rt, self.path(name)?)
     }
 
-    pub(crate) fn end(self) -> Result<(), Fail> {
+    pub(crate) fn has(&self, name: &str) -> bool {
+        matches!(self.look(name), Ok(true))
+    }
+
+    /// Whether nothing stands there.
+    fn lacks(&self, name: &str) -> bool {
+        matches!(self.look(name), Ok(false))
+    }
+
+    fn read(&self, name: &str) -> io::Result<String> {
+        fs::read_to_string(self.rt, self.path(name)?)
+    }
+
+    fn holds(&self, name: &str, text: &str) -> bool {
+        match self.read(name) {
+            Ok(found) => found.as_str() == text,
+            Err(_) => false,
+        }
+    }
+
+    fn write(&self, name: &str, text: &str) -> io::Result<()> {
+        fs::write(self.rt, self.path(name)?, text)
+    }
+
+    pub(crate) fn end(&self) -> Result<(), Fail> {
         end_folder(self.rt, &self.folder)
     }
 }
@@ -143,16 +175,15 @@ pub(crate) fn tells<S: Stores>(
 fn a_ring_is_the_bytes_of_its_file(rt: HostRuntime) -> Result<(), Fail> {
     let alloc = rt.alloc();
     let place = Place::new(&rt, "ring")?;
-    let base = place.path("data")?;
-    let ring = place.path("ring")?;
+    let ring = place.ring();
     let missing = place.path("another")?;
-    let mut stores = HostStores::below(&rt, &NoNotes, OWNER, &base);
+    let mut stores = HostStores::below(&rt, &NoNotes, OWNER, &place.base);
     assert!(rt; tells(alloc, &mut stores, &missing, Err(StoreError::Failed)));
-    assert!(rt; tells(alloc, &mut stores, &ring, Ok(RING)));
-    assert_eq!(rt; visit(alloc, &mut stores, 1, 3, &CALLS)?, None);
-    assert!(rt; tells(alloc, &mut stores, &ring, Ok(RING)));
+    assert!(rt; tells(alloc, &mut stores, ring, Ok(RING)));
+    assert!(rt; visit(alloc, &mut stores, 1, 3, &CALLS) == Ok(None));
+    assert!(rt; tells(alloc, &mut stores, ring, Ok(RING)));
     assert!(rt; tells(alloc, &mut stores, &missing, Err(StoreError::Failed)));
-    assert_eq!(rt; visit(alloc, &mut stores, 1, 3, &CALLS_LATER)?, None);
+    assert!(rt; visit(alloc, &mut stores, 1, 3, &CALLS_LATER) == Ok(None));
     place.end()
 }
 
@@ -172,27 +203,23 @@ fn visit_below(
 #[test]
 fn each_lock_has_a_folder_of_its_own(rt: HostRuntime) -> Result<(), Fail> {
     let place = Place::new(&rt, "locks")?;
-    assert!(rt; place.goes(3, &CALLS)?);
-    assert!(rt; place.goes(2, &CALLS)?);
-    assert!(rt; place.goes(3, &CALLS_LATER)?);
-    assert!(rt; place.has("data/1/03/objects/0/power")?);
-    assert!(rt; place.has("data/0/03")?);
-    assert!(rt; !place.has("data/0/03/objects")?);
+    assert!(rt; place.goes(3, &CALLS));
+    assert!(rt; place.goes(2, &CALLS));
+    assert!(rt; place.goes(3, &CALLS_LATER));
+    assert!(rt; place.has("data/1/03/objects/0/power"));
+    assert!(rt; place.has("data/0/03"));
+    assert!(rt; place.lacks("data/0/03/objects"));
     place.end()
 }
 
 /// Whether stores that have the folder keep others out, which touch nothing of it.
-fn keeps_others_out(place: &Place<'_>, base: &str, ring: &str) -> Result<bool, Fail> {
-    let alloc = place.rt.alloc();
-    let mut first = HostStores::below(place.rt, &NoNotes, 1, base);
-    first.ring(alloc, ring)?;
+fn keeps_others_out(place: &Place<'_>) -> Result<bool, StoreError> {
+    let alloc = place.alloc();
+    let mut first = HostStores::below(place.rt, &NoNotes, 1, &place.base);
+    first.ring(alloc, place.ring())?;
     let (volume, keeper) = first.start(alloc, 1, 3)?;
-    fs::write(
-        place.rt,
-        place.path("data/1/03/tmp/put-1-1")?,
-        "what the first one writes",
-    )?;
-    let out = place.fails()?;
+    let written = place.write("data/1/03/tmp/put-1-1", "what the first one writes");
+    let out = written.is_ok() && place.fails();
     first.give_back(1, 3, volume, keeper);
     Ok(out)
 }
@@ -200,29 +227,27 @@ fn keeps_others_out(place: &Place<'_>, base: &str, ring: &str) -> Result<bool, F
 #[test]
 fn a_folder_has_one_owner(rt: HostRuntime) -> Result<(), Fail> {
     let place = Place::new(&rt, "owner")?;
-    let base = place.path("data")?;
-    let ring = place.path("ring")?;
-    assert!(rt; keeps_others_out(&place, &base, &ring)?);
-    assert!(rt; place.has("data/1/03/tmp/put-1-1")?);
-    assert!(rt; place.holds("data/lock", "1\n")?);
-    assert!(rt; place.goes(3, &CALLS)?);
-    assert!(rt; !place.has("data/1/03/tmp/put-1-1")?);
-    assert!(rt; place.holds("data/lock", "4711\n")?);
-    assert!(rt; keeps_others_out(&place, &base, &ring)?);
-    assert!(rt; place.holds("data/lock", "1\n")?);
+    assert!(rt; keeps_others_out(&place) == Ok(true));
+    assert!(rt; place.has("data/1/03/tmp/put-1-1"));
+    assert!(rt; place.holds("data/lock", "1\n"));
+    assert!(rt; place.goes(3, &CALLS));
+    assert!(rt; place.lacks("data/1/03/tmp/put-1-1"));
+    assert!(rt; place.holds("data/lock", "4711\n"));
+    assert!(rt; keeps_others_out(&place) == Ok(true));
+    assert!(rt; place.holds("data/lock", "1\n"));
     place.end()
 }
 
 #[test]
 fn a_folder_is_for_the_ring_that_it_was_made_for(rt: HostRuntime) -> Result<(), Fail> {
     let place = Place::new(&rt, "rings")?;
-    assert!(rt; place.goes(3, &CALLS)?);
+    assert!(rt; place.goes(3, &CALLS));
     for other in OTHER_RINGS {
-        place.has_ring(other)?;
-        assert!(rt; place.fails()?);
+        assert!(rt; place.has_ring(other));
+        assert!(rt; place.fails());
     }
-    place.has_ring(REBALANCED)?;
-    assert!(rt; place.goes(3, &CALLS_LATER)?);
+    assert!(rt; place.has_ring(REBALANCED));
+    assert!(rt; place.goes(3, &CALLS_LATER));
     place.end()
 }
 
@@ -234,33 +259,33 @@ const LAYOUT: &str =
 #[test]
 fn a_folder_tells_what_it_was_made_for_and_no_secret(rt: HostRuntime) -> Result<(), Fail> {
     let place = Place::new(&rt, "layout")?;
-    assert!(rt; place.goes(0, &[])?);
-    assert!(rt; place.holds("data/layout", LAYOUT)?);
+    assert!(rt; place.goes(0, &[]));
+    assert!(rt; place.holds("data/layout", LAYOUT));
     place.end()
 }
 
 #[test]
 fn a_device_whose_folder_is_missing_is_not_made(rt: HostRuntime) -> Result<(), Fail> {
     let place = Place::new(&rt, "missing")?;
-    assert!(rt; place.goes(3, &CALLS)?);
-    place.moves("data/1", "away")?;
-    assert!(rt; place.fails()?);
-    assert!(rt; !place.has("data/1")?);
-    place.moves("away", "data/1")?;
-    assert!(rt; place.goes(3, &CALLS_LATER)?);
+    assert!(rt; place.goes(3, &CALLS));
+    assert!(rt; place.moves("data/1", "away"));
+    assert!(rt; place.fails());
+    assert!(rt; place.lacks("data/1"));
+    assert!(rt; place.moves("away", "data/1"));
+    assert!(rt; place.goes(3, &CALLS_LATER));
     place.end()
 }
 
 #[test]
 fn only_a_folder_in_which_nothing_was_kept_is_made(rt: HostRuntime) -> Result<(), Fail> {
     let place = Place::new(&rt, "made")?;
-    assert!(rt; place.goes(3, &CALLS)?);
-    place.moves("data/layout", "away")?;
-    assert!(rt; place.fails()?);
-    assert!(rt; !place.has("data/layout")?);
+    assert!(rt; place.goes(3, &CALLS));
+    assert!(rt; place.moves("data/layout", "away"));
+    assert!(rt; place.fails());
+    assert!(rt; place.lacks("data/layout"));
     // As a kill leaves it that came while the folder was made.
-    place.moves("away", "data/layout.new")?;
-    assert!(rt; place.goes(3, &CALLS_LATER)?);
-    assert!(rt; place.has("data/layout")?);
+    assert!(rt; place.moves("away", "data/layout.new"));
+    assert!(rt; place.goes(3, &CALLS_LATER));
+    assert!(rt; place.has("data/layout"));
     place.end()
 }

@@ -1,8 +1,8 @@
-use crate::folders::{end_folder, entries, fresh_folder};
+use crate::folders::{end_folder, fresh_folder, is_empty};
 use std::alloc::Global;
 use std::fs;
 use std::test::Fail;
-use sw_outside::Bytes;
+use sw_outside::{Bytes, NoMemory, StoreError};
 use sw_store::{HostVolume, NoNotes};
 use sw_volume::{Listing, Volume, VolumeError};
 
@@ -129,9 +129,10 @@ fn first_other_in(
     root: &str,
     calls: &[Call],
     wanted: Result<bool, VolumeError>,
-) -> Result<Option<usize>, Fail> {
+) -> Result<Option<usize>, StoreError> {
     let alloc = rt.alloc();
-    let mut volume = HostVolume::open(rt, &NoNotes, String::from_str(alloc, root)?, OWNER)?;
+    let root = String::from_str(alloc, root).map_err(NoMemory::from)?;
+    let mut volume = HostVolume::open(rt, &NoNotes, root, OWNER)?;
     Ok(first_other(alloc, &mut volume, calls, wanted))
 }
 
@@ -140,23 +141,24 @@ fn files_are_found_by_a_volume_that_is_opened_later(rt: HostRuntime) -> Result<(
     let base = fresh_folder(&rt, "later")?;
     let root = format!(in rt.alloc(); "{base}/0/03")?;
     let left = format!(in rt.alloc(); "{root}/tmp")?;
-    fs::create_dir_all(&rt, root.as_str())?;
-    assert_eq!(rt; first_other_in(&rt, &root, &CALLS, Ok(true))?, None);
-    assert_eq!(rt; entries(&rt, &left)?, 0);
-    fs::write(&rt, format!(in rt.alloc(); "{left}/put-7")?, "half a fi")?;
-    assert_eq!(rt; first_other_in(&rt, &root, &CALLS_LATER, Ok(true))?, None);
-    assert_eq!(rt; entries(&rt, &left)?, 0);
+    let file = format!(in rt.alloc(); "{left}/put-7")?;
+    assert!(rt; fs::create_dir_all(&rt, root.as_str()).is_ok());
+    assert!(rt; first_other_in(&rt, &root, &CALLS, Ok(true)) == Ok(None));
+    assert!(rt; is_empty(&rt, &left));
+    assert!(rt; fs::write(&rt, file.as_str(), "half a fi").is_ok());
+    assert!(rt; first_other_in(&rt, &root, &CALLS_LATER, Ok(true)) == Ok(None));
+    assert!(rt; is_empty(&rt, &left));
     end_folder(&rt, &base)
 }
 
 #[test]
 fn paths_that_are_none_of_a_volume_fail(rt: HostRuntime) -> Result<(), Fail> {
     let base = fresh_folder(&rt, "refused")?;
-    fs::create_dir(&rt, base.as_str())?;
-    assert_eq!(rt; first_other_in(&rt, &base, &CALLS, Ok(true))?, None);
+    assert!(rt; fs::create_dir(&rt, base.as_str()).is_ok());
+    assert!(rt; first_other_in(&rt, &base, &CALLS, Ok(true)) == Ok(None));
     let failed = Err(VolumeError::Failed);
-    assert_eq!(rt; first_other_in(&rt, &base, &REFUSED, failed)?, None);
-    assert_eq!(rt; first_other_in(&rt, &base, &CALLS_LATER, Ok(true))?, None);
+    assert!(rt; first_other_in(&rt, &base, &REFUSED, failed) == Ok(None));
+    assert!(rt; first_other_in(&rt, &base, &CALLS_LATER, Ok(true)) == Ok(None));
     end_folder(&rt, &base)
 }
 
@@ -173,16 +175,13 @@ fn a_volume_whose_folder_is_gone_fails_until_it_is_back(rt: HostRuntime) -> Resu
     let alloc = rt.alloc();
     let root = fresh_folder(&rt, "gone")?;
     let elsewhere = format!(in alloc; "{root}-elsewhere")?;
-    fs::create_dir(&rt, root.as_str())?;
+    assert!(rt; fs::create_dir(&rt, root.as_str()).is_ok());
     let mut volume = HostVolume::open(&rt, &NoNotes, root.clone()?, OWNER)?;
-    assert_eq!(rt; first_other(alloc, &mut volume, &CALLS, Ok(true)), None);
-    fs::rename(&rt, root.as_str(), elsewhere.as_str())?;
+    assert!(rt; first_other(alloc, &mut volume, &CALLS, Ok(true)).is_none());
+    assert!(rt; fs::rename(&rt, root.as_str(), elsewhere.as_str()).is_ok());
     let failed = Err(VolumeError::Failed);
-    assert_eq!(rt; first_other(alloc, &mut volume, &ANYWHERE, failed), None);
-    fs::rename(&rt, elsewhere.as_str(), root.as_str())?;
-    assert_eq!(rt;
-        first_other(alloc, &mut volume, &CALLS_LATER, Ok(true)),
-        None
-    );
+    assert!(rt; first_other(alloc, &mut volume, &ANYWHERE, failed).is_none());
+    assert!(rt; fs::rename(&rt, elsewhere.as_str(), root.as_str()).is_ok());
+    assert!(rt; first_other(alloc, &mut volume, &CALLS_LATER, Ok(true)).is_none());
     end_folder(&rt, &root)
 }

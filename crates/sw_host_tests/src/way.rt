@@ -1,8 +1,6 @@
-use crate::folders::{end_folder, fresh_folder};
-use crate::watched::{Failing, Steps, Watched};
-use std::fs;
+use crate::stage::Stage;
+use crate::watched::{Failing, Steps};
 use std::io::ErrorKind;
-use std::rc::Rc;
 use std::rt::Files;
 use std::test::Fail;
 use sw_host::{Host, NoNotes, make_way};
@@ -37,26 +35,21 @@ fn fails_with_its_step<R: Files>(
 // which nothing stands may not have been synced into the one above it.
 #[test]
 fn each_folder_on_a_way_is_synced_into_the_one_above_it(rt: HostRuntime) -> Result<(), Fail> {
-    let alloc = rt.alloc();
-    let root = fresh_folder(&rt, "way")?;
-    let folder = format!(in alloc; "{root}/a/b/c")?;
-    let other = format!(in alloc; "{root}/d/e")?;
-    fs::create_dir(&rt, root.as_str())?;
-    let steps = Rc::new(alloc, Steps::new(alloc))?;
-    let watched = Watched {
-        rt,
-        steps: steps.clone()?,
-    };
+    let stage = Stage::new(rt, "way")?;
+    let folder = stage.path("a/b/c")?;
+    let file = stage.path("a/b/c/file")?;
+    let other = stage.path("d/e")?;
     let host = Host {
-        rt: &watched,
+        rt: &stage.host.0,
         notes: &NoNotes,
     };
-    assert!(rt; is_made_by(&host, &steps, &root, &folder, (b"msmsms", 12)));
-    assert!(rt; is_made_by(&host, &steps, &root, &folder, (b"s", 3)));
-    fs::write(&rt, format!(in alloc; "{folder}/file")?, "")?;
-    assert!(rt; is_made_by(&host, &steps, &root, &folder, (b"", 1)));
+    let (steps, root) = (stage.steps(), stage.root());
+    assert!(rt; is_made_by(&host, steps, root, &folder, (b"msmsms", 12)));
+    assert!(rt; is_made_by(&host, steps, root, &folder, (b"s", 3)));
+    assert!(rt; stage.writes(&file, ""));
+    assert!(rt; is_made_by(&host, steps, root, &folder, (b"", 1)));
     for number in 0..9 {
-        assert!(rt; fails_with_its_step(&host, &steps, &root, &other, number));
+        assert!(rt; fails_with_its_step(&host, steps, root, &other, number));
     }
-    end_folder(&rt, &root)
+    stage.end()
 }
