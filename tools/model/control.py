@@ -1,4 +1,4 @@
-"""Control requests, and pushes with messages that are lost or come twice."""
+"""Control requests, and passes with messages that are lost or come twice."""
 from .common import TEXT_TYPE, Refused, is_digits, plain_number
 from .containers import merge_row
 from .nodes import State
@@ -17,6 +17,10 @@ class Messages:
         self.named = {key: int(it) for key, it in values.items() if it is not None}
         self.count = self.lost = self.asked = self.sent = self.left = 0
         self.kept, self.is_refused = None, False
+
+    def keep(self, status):
+        """The first answer that hindered the pass is told."""
+        self.kept = self.kept or (status if status in (404, 409, 503, 507) else None)
 
     def send(self, step, asks):
         """What the message was answered, or none where that is lost."""
@@ -61,7 +65,7 @@ def push(nodes, messages, source, to, part):
                     continue
                 status = messages.send(lambda write=write: transfer(nodes, to, write), False)
                 messages.left += status not in (201, 409)
-                messages.kept = messages.kept or (status if status == 503 else None)
+                messages.keep(None if status == 409 else status)
 
 
 def row_status(nodes, to, place, row):
@@ -81,7 +85,7 @@ def push_rows(nodes, messages, source, to, place):
     for row in container.rows_above(container.syncs.get(to, 0)):
         status = messages.send(lambda row=row: row_status(nodes, to, place, row), False)
         messages.left += status != 201
-        messages.kept = messages.kept or (status if status in (404, 503) else None)
+        messages.keep(status)
     if messages.left or container.syncs.get(to, -1) >= top:
         return
     try:
@@ -93,6 +97,41 @@ def push_rows(nodes, messages, source, to, place):
     nodes.tell(b"sync", source, b"/" + b"/".join(place))
 
 
+def change_record(nodes, messages, device, record, kind):
+    """Whether there is room in the journal of a record's lock for a change of it, which is told then."""
+    try:
+        nodes.journal(device, "object", nodes.ring.hash(*record.name), 1)
+    except Refused as refused:
+        messages.keep(refused.status)
+        return False
+    nodes.tell(kind, device, b"/" + b"/".join(record.name), record.time)
+    return True
+
+
+def is_settled(nodes, messages, device, path, record):
+    """Tells the container of a record's name, at each device that wasn't told, what stands; and drops the record where all were told, or nothing stands
+    that they would have to be told. Whether nothing was missed for it."""
+    place, row, is_missed = record.name[:2], nodes.base_row(device, record), False
+    devices = nodes.ring.container[nodes.ring.partition(nodes.ring.hash(*place))]
+    for to in [it for it in devices if row and it not in record.done]:
+        status = messages.send(lambda to=to: row_status(nodes, to, place, row), False)
+        messages.keep(status)
+        if status == 201 and change_record(nodes, messages, device, record, b"mark"):
+            record.done.add(to)
+        else:
+            is_missed = True
+    if not row or set(devices) <= record.done:
+        if not change_record(nodes, messages, device, record, b"drop"):
+            return False
+        del nodes.records[device][path]
+    return not is_missed
+
+
+def update(nodes, messages, device):
+    for path, record in nodes.pending(device):
+        messages.left += not is_settled(nodes, messages, device, path, record)
+
+
 def answer_control(nodes, request, segments):
     words = (request.method, *segments[1:2])
     body = None
@@ -100,6 +139,12 @@ def answer_control(nodes, request, segments):
         body = b"".join(nodes.trail)
     elif words == (b"GET", b"files") and len(segments) == 3 and nodes.ring.device(segments[2]) is not None:
         body = nodes.files(nodes.ring.device(segments[2]))
+    elif words == (b"GET", b"pending") and len(segments) == 3 and nodes.ring.device(segments[2]) is not None:
+        body = nodes.pending_text(nodes.ring.device(segments[2]))
+    elif words == (b"POST", b"update") and len(segments) == 3 and nodes.ring.device(segments[2]) is not None:
+        messages = Messages(request)
+        update(nodes, messages, nodes.ring.device(segments[2]))
+        body = messages.outcome()
     elif words == (b"POST", b"restart") and len(segments) == 3 and nodes.ring.device(segments[2]) is not None:
         nodes.restart(nodes.ring.device(segments[2]))
         body = b""

@@ -295,14 +295,14 @@ class Draw:
 
     def control_request(self):
         device, fields = self.device(), []
-        kind = self.one(["replicate"] * 6 + ["rows"] * 6 + ["trail", "files", "restart", "other"])
-        if kind in ("replicate", "rows"):
+        kind = self.one(["replicate"] * 6 + ["rows"] * 6 + ["update"] * 6 + ["trail", "files", "pending", "restart", "other"])
+        if kind in ("replicate", "rows", "update"):
             other = self.one(self.devices + [self.device()])
             part = self.mostly([self.used_part()], [b"00", b"16", b"x", b"", b"%31", b"0", b"1"], 92)
             if kind == "rows":
                 names = [self.one(self.accounts), self.one(self.containers)]
                 part = self.mostly([b"/".join(map(escaped, names))], [b"a", b"/c", b"a/", b"a/c/o", b"a%2Fc", b"a/%00", b"a/%2F", b"%FF/c"], 94)
-            method, target = b"POST", b"/.swc/" + kind.encode() + b"/" + device + b"/" + other + b"/" + part
+            method, target = b"POST", b"/.swc/" + kind.encode() + b"/" + device + (b"/" + other + b"/" + part if kind != "update" else b"")
             number = self.one(MESSAGES)
             for name in (b"X-Swc-Lose", b"X-Swc-Lose-Reply", b"X-Swc-Repeat"):
                 if self.chance(25):
@@ -310,7 +310,7 @@ class Draw:
         elif kind == "other":
             others = [b"", b"/", b"/trail/", b"/files", b"/files/%s/x" % device, b"/x", b"/pending/%s" % device, b"/trail", b"/tra%69l?x",
                       b"/restart/%s" % device, b"/files/%s" % device, b"/replicate/%s" % device,
-                      b"/rows/%s" % device]
+                      b"/rows/%s" % device, b"/pending", b"/pending/%s/x" % device, b"/update", b"/update/%s" % device, b"/update/%s/%s" % (device, device)]
             method, target = self.one([b"GET", b"POST", b"PUT", b"HEAD"]), self.one([b"/.swc", b"/.swc", b"/%2Eswc"]) + self.one(others)
         else:
             method = self.mostly([b"POST" if kind == "restart" else b"GET"], [b"PUT", b"HEAD"], 96)
@@ -376,7 +376,8 @@ class Draw:
     def pieces(self, count):
         found = [] if self.serves else self.beginning()
         found += [self.request() for _ in range(count)]
-        shown = [] if self.serves else [b"GET /.swc/trail HTTP/1.1\r\n\r\n"] + [b"GET /.swc/files/%s HTTP/1.1\r\n\r\n" % it for it in self.ring.devices]
+        tell = [b"GET /.swc/%s/%s HTTP/1.1\r\n\r\n" % (kind, it) for kind in (b"files", b"pending") for it in self.ring.devices]
+        shown = [] if self.serves else [b"GET /.swc/trail HTTP/1.1\r\n\r\n"] + tell
         return found + shown + ([self.bad_tail()] if self.chance(40) else [self.one([b"", b"", b"\r\n", b"\r"])])
 
 

@@ -1,7 +1,7 @@
-"""What stands at the devices: objects, containers with their rows, journals, and the trail."""
+"""What stands at the devices: objects, records of updates, containers with their rows, journals, and the trail."""
 import hashlib
 
-from .common import ENTRY_LIMIT, GREATEST_U64, WEIGHT_LIMIT, Refused, escaped, normal
+from .common import EMPTY_MD5, ENTRY_LIMIT, GREATEST_U64, WEIGHT_LIMIT, Refused, escaped, normal
 from .rings import suffix_of
 
 
@@ -93,13 +93,20 @@ class Container:
         return b"%032x" % total
 
 
+class Record:
+    """A write that a client asked for, and the devices of its container that were told of it."""
+
+    def __init__(self, name, when):
+        self.name, self.time, self.done = name, when, set()
+
+
 class Nodes:
     """All devices of a ring, and the trail of what was entered at them."""
 
     def __init__(self, ring, weight_limit=WEIGHT_LIMIT):
         self.ring, self.objects, self.containers, self.trail = ring, {}, {}, []
         self.weight_limit = weight_limit
-        self.journals = {}
+        self.journals, self.records = {}, {}
 
     def state(self, device, digest):
         return self.objects.setdefault((device, digest), State())
@@ -121,6 +128,8 @@ class Nodes:
     def enter(self, device, write, kind):
         digest = self.ring.hash(*write.name)
         self.journal(device, "object", digest, 1, len(write.content[0]) if write.content else 0)
+        if kind in (b"put", b"delete"):
+            self.records.setdefault(device, {})[self.record_path(digest, write.time)] = Record(write.name, write.time)
         self.state(device, digest).join(write)
         self.tell(kind, device, b"/" + b"/".join(write.name), write.time)
 
@@ -148,6 +157,28 @@ class Nodes:
         paths = [f"objects/{self.ring.partition(digest)}/{suffix_of(digest)}/{digest.hex()}/{it.file()}"
                  for (at, digest), state in self.objects.items() if at == device for it in state.picked()]
         return "".join(f"{it}\n" for it in sorted(paths)).encode()
+
+    @staticmethod
+    def record_path(digest, when):
+        return f"async_pending/{suffix_of(digest)}/{digest.hex()}-{normal(when).decode()}"
+
+    def pending(self, device):
+        """The records of a device, in order of their files' paths."""
+        return sorted(self.records.get(device, {}).items())
+
+    def pending_text(self, device):
+        names = [(path, b",".join(self.ring.devices[it] for it in sorted(record.done)) or b"-") for path, record in self.pending(device)]
+        return b"".join(path.encode() + b" " + done + b"\n" for path, done in names)
+
+    def base_row(self, device, record):
+        """The row that tells what stands under a record's name: none where nothing stands that is as late."""
+        base = self.state(device, self.ring.hash(*record.name)).base
+        if base is None or base.time < record.time:
+            return None
+        if base.kind == "delete":
+            return Row(record.name[2], base.time, 0, b"text/plain", EMPTY_MD5, True)
+        body, kind, etag = base.content
+        return Row(record.name[2], base.time, len(body), kind, etag.decode(), False)
 
     def restart(self, device):
         self.journals = {key: it for key, it in self.journals.items() if key[0] != device}
