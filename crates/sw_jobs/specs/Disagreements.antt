@@ -32,7 +32,7 @@ pub record Disagree (jobs : List Job) (earlier later : ℕ) : Type 0 where
   pub in_order : earlier ≤ later
   pub clash : Clash one.work other.work
 
--- of all pairs that disagree, these numbers are the one with the least later number, and for it the least earlier one
+-- going up through the numbers, the first job that some lesser one disagrees with has the later of these, and of those lesser ones the first has the earlier
 pub record IsFirst (jobs : List Job) (earlier later : ℕ) : Type 0 where
   pub pair : Disagree jobs earlier later
   pub least_later : (e l : ℕ) → Disagree jobs e l → later ≤ l

@@ -10,8 +10,8 @@ use std::alloc::Global;
 use sw_outside::NoMemory;
 use sw_state::Content;
 
-/// The numbers of two jobs that put different contents under one name at one time, the lesser number first: of all such pairs the one with the least later
-/// number, and for it the least earlier one. `None` comes exactly where no two jobs do. Contents are compared as wholes.
+/// The numbers of two jobs that put different contents under one name at one time, the lesser number first: that of the first job, by its number, that
+/// disagrees with one before it, and of the first of those before it. `None` comes exactly where no two jobs do. Contents are compared as wholes.
 ///
 /// Of n jobs it takes time as n log n, and memory for a map with an entry for each name and time that is put. [`NoMemory`] comes only where a job puts.
 pub fn disagreement(alloc: Global, jobs: &[Job]) -> Result<Option<(u64, u64)>, NoMemory>
