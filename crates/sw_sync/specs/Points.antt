@@ -1,6 +1,6 @@
 -- Points: for a range and a device, the number (ROWID) up to which the device has what is owed to it. (OpenStack Swift's databases keep such numbers
 -- as sync points; that they are kept by range as well is this project's own.)
-use Rattle.std.specs.Prelude.{ℕ, Bool, true, nat_lt, if◌then◌else◌, List, Option, None, Some}
+use Rattle.std.specs.Prelude.{ℕ, zero, suc, Bool, true, max, nat_lt, if◌then◌else◌, unwrap_or, List, Option, None, Some}
 use Rattle.std.specs.BTreeMap.{insert_entry, is_at}
 use Rattle.std.specs.Map.{lookup}
 use Rattle.std.specs.Ordering.{nat_cmp, ordering_then}
@@ -34,3 +34,12 @@ is_above rowid (Some kept) = nat_lt kept rowid
 -- the greater of the number and what is kept
 abbrev pub raised : PointList → ℕ → ℕ → ℕ → PointList
 raised points range device rowid = if is_above rowid (point_at points range device) then with_point points range device rowid else points
+
+-- the greatest number that is kept for a range and any of the first devices, 0 where none is kept
+abbrev pub greatest_of_first : PointList → ℕ → ℕ → ℕ
+greatest_of_first points range zero = 0
+greatest_of_first points range (suc device) = max (unwrap_or (point_at points range device) 0) (greatest_of_first points range device)
+
+-- the greatest number that is kept for a range: a device has a number below 256
+unfoldable pub greatest_point : PointList → ℕ → ℕ
+greatest_point points range = greatest_of_first points range 256

@@ -1,5 +1,5 @@
 ghost use Rattle.std.specs.Prelude.{◌≡◌, [], None, IfOk, OnErr, OnOk};
-ghost use Rattle.sw_sync.specs.Points.{is_above, point_at, raised, with_point};
+ghost use Rattle.sw_sync.specs.Points.{greatest_of_first, greatest_point, is_above, point_at, raised, with_point};
 
 use std::alloc::Global;
 use std::collections::BTreeMap;
@@ -73,6 +73,17 @@ impl Points {
         }
         self.set(range, device, rowid)?;
         Ok(true)
+    }
+
+    /// The greatest number that is kept for a range, 0 where none is kept.
+    pub fn greatest(&self, range: u32) -> u64
+        ensures { result ≡ greatest_point self.now range }
+    {
+        let mut greatest = 0;
+        for device in 0..256u16 {
+            greatest = self.get(range, device as u8).unwrap_or(0).max(greatest);
+        }
+        greatest
     }
 
     /// Points that are equal to these, or [`NoMemory`].
