@@ -5,5 +5,6 @@ pub mod Members
 pub mod Order
 pub mod Searching
 pub mod Slashes
+pub mod States
 pub mod Tiling
 pub mod Walks

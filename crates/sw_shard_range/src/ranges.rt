@@ -1,5 +1,6 @@
 ghost use Rattle.std.specs.Prelude.{◌≡◌, ◌↔◌, ℕ, ◌<◌, ◌≤◌, ◌^◌, Err, IfOk, None, Some, length, vec_len};
 ghost use Rattle.sw_shard_range.specs.Ranges.{first_fault, fits_inside, fits_last, index_in};
+ghost use Rattle.sw_shard_range.specs.States.{all_in_state, with_state};
 
 use crate::range::{Range, is_above};
 use std::alloc::Global;
@@ -72,6 +73,24 @@ impl Ranges {
         place_of(self.as_slice(), name) as u32
     }
 
+    /// The same ranges, each in this state: one of [`crate::state`]. It takes no memory.
+    pub fn all_in_state(self, state: u8) -> Ranges
+        ensures { result ≡ all_in_state state self }
+    {
+        let mut list: Vec<Range> = self.list.into();
+        put_all_in_state(&mut list, state);
+        Ranges { list: list.into() }
+    }
+
+    /// The same ranges, of which the one of this index is in this state, where there is one of this index. It takes no memory.
+    pub fn with_state(self, state: u8, index: u32) -> Ranges
+        ensures { result ≡ with_state state index self }
+    {
+        let mut list: Vec<Range> = self.list.into();
+        put_in_state(&mut list, state, index as usize);
+        Ranges { list: list.into() }
+    }
+
     /// Ranges that are equal to these, or [`NoMemory`].
     pub fn copy(&self, alloc: Global) -> Result<Ranges, NoMemory>
         ensures { IfOk result (λ copy. copy ≡ self.now) }
@@ -88,6 +107,22 @@ impl From<Ranges> for Vec<Range> {
 
     fn from(ranges: Ranges) -> Vec<Range> {
         ranges.list.into()
+    }
+}
+
+fn put_all_in_state(list: &mut Vec<Range>, state: u8)
+    ensures { list.new.items ≡ all_in_state state list.old.items }
+{
+    for index in 0..list.len() {
+        list[index].state = state;
+    }
+}
+
+fn put_in_state(list: &mut Vec<Range>, state: u8, index: usize)
+    ensures { list.new.items ≡ with_state state index list.old.items }
+{
+    if index < list.len() {
+        list[index].state = state;
     }
 }
 
