@@ -1,10 +1,11 @@
 -- A draft with a change more.
-use Rattle.std.proofs.Common.{◌≡◌, ℕ, ◌<◌, ◌≤◌, not, List, [], ◌∷◌, ◌++◌, None, All, sym, ◌∙◌, ap, append_assoc, arith}
+use Rattle.std.proofs.Common.{◌≡◌, ℕ, ◌<◌, ◌≤◌, not, true, List, [], ◌∷◌, ◌++◌, None, All, refl, sym, ◌∙◌, ap, append_assoc, arith}
 use Rattle.std.proofs.lemmas.List.Elements.{All-filter, All-tail, All-weaker}
 use Rattle.std.proofs.lemmas.List.Sums.{fold-append}
 use Rattle.sw_rows.specs.Exchanging.{but_all, exchanged}
 use Rattle.sw_rows.specs.Index.{but}
-use Rattle.sw_rows.specs.Rows.{find_named, is_numbered, IsListed, IsRising, Listed, with_numbered, without_numbered}
+use Rattle.sw_rows.specs.Rows.{find_named, is_numbered, IsListed, IsRising, Listed, no_rows, with_numbered, without_numbered}
+use Rattle.sw_keeper.specs.Drafts.{spared_of}
 use Rattle.sw_rows.specs.declared.numbered.Numbered.{Numbered}
 use Rattle.sw_rows.specs.declared.row.Row.{Row}
 use Rattle.sw_rows.proofs.Exchanging.{but-append, but-behind, find-below}
@@ -69,3 +70,17 @@ draft-cut_old l numbers rows top rowid le rising =
 
 pub cut-listed : (l new : Listed) (rowid : ℕ) → IsListed l → new ≡ without_numbered l rowid → IsListed new
 cut-listed l new rowid is same = rw same (listed-without_numbered l rowid is)
+
+-- ---- all rows that were there go
+
+pub rising-from : (low high : ℕ) (ns : List Numbered) → low ≤ high → IsRising high ns → IsRising low ns
+rising-from low high [] le rising = tt
+rising-from low high (n ∷ ns) le rising = (omega (arith, le, rising.0), rising.1)
+
+none-left : (numbers : List ℕ) → but_all [] numbers ≡ []
+none-left [] = refl
+none-left (rowid ∷ numbers) = none-left numbers
+
+pub cleared : (l : Listed) (numbers : List ℕ) (rows : List Numbered) (top : ℕ)
+    → exchanged (spared_of true l) numbers rows top ≡ exchanged no_rows [] rows top
+cleared l numbers rows top = ap (λ (x : List Numbered). listed (x ++ rows) top) (none-left numbers)

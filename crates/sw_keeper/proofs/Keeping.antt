@@ -21,7 +21,7 @@ use Rattle.sw_keeper.specs.Keeping.{Changes, HasCause, ListsPlaces}
 use Rattle.sw_keeper.specs.MemState.{with_batch, with_tables}
 use Rattle.sw_keeper.specs.Places.{at, is_place_at, place_cmp}
 use Rattle.sw_keeper.specs.declared.batch.Change.{Change}
-use Rattle.sw_keeper.specs.declared.batch.Change.TheVariants.{Times, PutRow, CutRow, SetSync}
+use Rattle.sw_keeper.specs.declared.batch.Change.TheVariants.{Times, PutRow, CutRow, SetRanges, SetCursor, SetPoint, SetSync, Empty}
 use Rattle.sw_keeper.proofs.Placing.{absent, at-insert, held, index_of, insert-new, lt-cases, place_same, place_total, set-found, sorted-insert}
 
 pub nothing_sorted : IsStrictlySortedBy place_cmp []
@@ -40,7 +40,11 @@ begins [] is = let no : ⊥ = cc in absurd no
 begins (Times put_time delete_time ∷ changes) is = ((tt, is.1), refl)
 begins (PutRow row rowid ∷ changes) is = absurd is.0
 begins (CutRow rowid ∷ changes) is = absurd is.0
+begins (SetRanges ranges ∷ changes) is = absurd is.0
+begins (SetCursor cursor ∷ changes) is = absurd is.0
+begins (SetPoint range device rowid ∷ changes) is = absurd is.0
 begins (SetSync device rowid ∷ changes) is = absurd is.0
+begins (Empty ∷ changes) is = absurd is.0
 
 apart : (p place : Place) → p ≢ place → is_eq (place_cmp p place) ≡ false
 apart p place differs = false_from_ne_true (is_eq (place_cmp p place)) (λ same. differs (place_same p place (lt-cases (place_cmp p place) same)))

@@ -1,9 +1,10 @@
 ghost use Rattle.std.specs.Prelude.{◌≡◌, true, IfOk, OnErr};
-ghost use Rattle.sw_keeper.specs.Changes.{puts_row};
+ghost use Rattle.sw_keeper.specs.Changes.{owns};
 
 use std::alloc::Global;
 use sw_outside::{NoMemory, Sequence, TryCopy};
 use sw_rows::Row;
+use sw_shard_range::Ranges;
 use sw_timestamp::Timestamp;
 
 /// One change of the tables of a container.
@@ -18,18 +19,30 @@ pub enum Change {
     PutRow(Row, u64),
     /// The row of this number is gone.
     CutRow(u64),
+    /// The container has these shard ranges.
+    SetRanges(Ranges),
+    /// So many ranges are closed.
+    SetCursor(u32),
+    /// The device of the shard of this range has all rows of the range up to this number.
+    SetPoint {
+        range: u32,
+        device: u8,
+        rowid: u64,
+    },
     /// The device has all rows up to this number.
     SetSync {
         device: u8,
         rowid: u64,
     },
+    /// All rows are gone. Numbers that were given out aren't used again.
+    Empty,
 }
 
 impl Change {
-    /// A change that is equal to this one, or [`NoMemory`], which comes only of one that puts a row.
+    /// A change that is equal to this one, or [`NoMemory`], which comes only of one that puts a row or sets ranges.
     pub fn copy(&self, alloc: Global) -> Result<Change, NoMemory>
         ensures ok { IfOk result (λ copy. copy ≡ self.now) }
-        ensures starved { OnErr result (puts_row self.now ≡ true) }
+        ensures starved { OnErr result (owns self.now ≡ true) }
     {
         Ok(match self {
             Change::Times {
@@ -41,10 +54,22 @@ impl Change {
             },
             Change::PutRow(row, rowid) => Change::PutRow(row.copy(alloc)?, *rowid),
             Change::CutRow(rowid) => Change::CutRow(*rowid),
+            Change::SetRanges(ranges) => Change::SetRanges(ranges.copy(alloc)?),
+            Change::SetCursor(cursor) => Change::SetCursor(*cursor),
+            Change::SetPoint {
+                range,
+                device,
+                rowid,
+            } => Change::SetPoint {
+                range: *range,
+                device: *device,
+                rowid: *rowid,
+            },
             Change::SetSync { device, rowid } => Change::SetSync {
                 device: *device,
                 rowid: *rowid,
             },
+            Change::Empty => Change::Empty,
         })
     }
 }

@@ -1,14 +1,16 @@
-ghost use Rattle.std.specs.Prelude.{◌≡◌, None, IfOk, OnOk, OnErr};
+ghost use Rattle.std.specs.Prelude.{◌≡◌, ◌≤◌, All, None, IfOk, OnOk, OnErr};
 ghost use Rattle.sw_keeper.specs.Changes.{begun};
-ghost use Rattle.sw_keeper.specs.Drafts.{drafted, IsDraft};
-ghost use Rattle.sw_rows.specs.Rows.{IsListed};
+ghost use Rattle.sw_keeper.specs.Drafts.{drafted, spared_of, IsDraft};
+ghost use Rattle.sw_rows.specs.Exchanging.{exchanged};
+ghost use Rattle.sw_rows.specs.Rows.{IsListed, IsRising};
 
 use crate::draft::Draft;
-use crate::tables::Tables;
+use crate::tables::{Tables, copy_of};
 use std::alloc::Global;
 use std::marker::Model;
 use sw_outside::NoMemory;
-use sw_rows::NumberedRows;
+use sw_rows::{Numbered, NumberedRows};
+use sw_shard_range::Ranges;
 use sw_sync::Points;
 use sw_timestamp::Timestamp;
 
@@ -19,7 +21,11 @@ pub(crate) struct Kept {
     put_time: Timestamp,
     delete_time: Option<Timestamp>,
     rows: NumberedRows,
+    ranges: Option<Ranges>,
+    cursor: u32,
+    points: Points,
     syncs: Points,
+    emptied: bool,
 }
 
 impl Model for Kept {
@@ -27,7 +33,16 @@ impl Model for Kept {
 
     ghost Value = { Tables };
 
-    ghost view = { λ k. record { put_time = k.put_time; delete_time = k.delete_time; rows = k.rows; syncs = k.syncs } };
+    ghost view = { λ k. record {
+      put_time = k.put_time;
+      delete_time = k.delete_time;
+      rows = k.rows;
+      ranges = k.ranges;
+      cursor = k.cursor;
+      points = k.points;
+      syncs = k.syncs;
+      emptied = k.emptied;
+    } };
 }
 
 impl Kept {
@@ -39,7 +54,11 @@ impl Kept {
             put_time: Timestamp::from_units(0).unwrap(),
             delete_time: None,
             rows: NumberedRows::empty(alloc),
+            ranges: None,
+            cursor: 0,
+            points: Points::new(alloc),
             syncs: Points::new(alloc),
+            emptied: false,
         }
     }
 
@@ -53,6 +72,24 @@ impl Kept {
         ensures { result ≡ self.now.delete_time }
     {
         self.delete_time
+    }
+
+    pub(crate) fn cursor(&self) -> u32
+        ensures { result ≡ self.now.cursor }
+    {
+        self.cursor
+    }
+
+    pub(crate) fn emptied(&self) -> bool
+        ensures { result ≡ self.now.emptied }
+    {
+        self.emptied
+    }
+
+    pub(crate) fn points(&self) -> &Points
+        ensures { result.now ≡ self.now.points }
+    {
+        &self.points
     }
 
     pub(crate) fn syncs(&self) -> &Points
@@ -77,7 +114,11 @@ impl Kept {
             put_time: self.put_time,
             delete_time: self.delete_time,
             rows: self.rows.indexed(alloc)?,
+            ranges: copy_of(alloc, &self.ranges)?,
+            cursor: self.cursor,
+            points: self.points.copy()?,
             syncs: self.syncs.copy()?,
+            emptied: self.emptied,
         })
     }
 
@@ -90,15 +131,55 @@ impl Kept {
         let Draft {
             put_time,
             delete_time,
+            clears,
             numbers,
             rows,
             top,
+            ranges,
+            cursor,
+            points,
             syncs,
+            emptied,
         } = draft;
-        self.rows.exchange(alloc, &numbers, rows, top)?;
+        exchange(alloc, &mut self.rows, clears, &numbers, rows, top)?;
         self.put_time = put_time;
         self.delete_time = delete_time;
-        self.syncs = syncs;
+        self.cursor = cursor;
+        self.emptied = emptied;
+        if ranges.is_some() {
+            self.ranges = ranges;
+        }
+        if let Some(points) = points {
+            self.points = points;
+        }
+        if let Some(syncs) = syncs {
+            self.syncs = syncs;
+        }
         Ok(())
+    }
+}
+
+/// Takes the rows of these numbers away, or all where it `clears`, and puts others behind what is left; nothing where memory runs out.
+fn exchange(
+    alloc: Global,
+    present: &mut NumberedRows,
+    clears: bool,
+    numbers: &[u64],
+    rows: Vec<Numbered>,
+    top: u64,
+) -> Result<(), NoMemory>
+    requires given { All (λ rowid. rowid ≤ present.old.top) numbers.now }
+    requires rising { IsRising present.old.top rows.items }
+    requires listed { IsListed (exchanged (spared_of clears present.old) numbers.now rows.items top) }
+    ensures rows { OnOk result (present.new ≡ exchanged (spared_of clears present.old) numbers.now rows.items top) }
+    ensures err { OnErr result (present.new ≡ present.old) }
+{
+    if clears {
+        let mut left = NumberedRows::empty(alloc);
+        left.exchange(alloc, &[], rows, top)?;
+        *present = left;
+        Ok(())
+    } else {
+        present.exchange(alloc, numbers, rows, top)
     }
 }

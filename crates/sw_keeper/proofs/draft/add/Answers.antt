@@ -1,5 +1,6 @@
 use Rattle.std.proofs.Common.{◌≡◌, ◌<◌, ◌≤◌, None, not, Some, sym, ◌∙◌, ap, arith, subst}
 use Rattle.std.proofs.lemmas.List.Elements.{All-push}
+use Rattle.sw_keeper.specs.Drafts.{drafted, spared}
 use Rattle.sw_keeper.specs.declared.tables.Tables.{Tables}
 use Rattle.sw_rows.specs.Exchanging.{exchanged}
 use Rattle.sw_rows.specs.Rows.{find_named, is_numbered, Listed, without_numbered}
@@ -10,8 +11,8 @@ use Rattle.sw_keeper.proofs.draft.add.Goals as goal
 
 pub returns-in_ok-push-in-PutRow-clause-is : goal.returns-in_ok-push-in-PutRow-clause-is
 returns-in_ok-push-in-PutRow-clause-is c =
-    let l = c.args.tables.now.rows in
     let d = c.args.draft.now in
+    let l = spared c.args.tables.now d in
     let is = c.requires.is in
     let fits = rw c.in-PutRow.is at c.requires.fits in
     let row = c.in_ok-row-in-PutRow.row in
@@ -28,8 +29,8 @@ returns-in_ok-push-in-PutRow-clause-is c =
 
 pub returns-in-CutRow-clause-is : goal.returns-in-CutRow-clause-is
 returns-in-CutRow-clause-is c =
-    let l = c.args.tables.now.rows in
     let d = c.args.draft.now in
+    let l = spared c.args.tables.now d in
     let is = c.requires.is in
     let rowid = c.in-CutRow.rowid in
     let top : c.top.result ≡ l.top = c.top.ensures.top in
@@ -46,8 +47,8 @@ returns-in-CutRow-clause-is c =
 
 pub returns-in-CutRow-clause-tables : goal.returns-in-CutRow-clause-tables
 returns-in-CutRow-clause-tables c =
-    let l = c.args.tables.now.rows in
     let d = c.args.draft.now in
+    let l = spared c.args.tables.now d in
     let is = c.requires.is in
     let rowid = c.in-CutRow.rowid in
     let top : c.top.result ≡ l.top = c.top.ensures.top in
@@ -55,12 +56,12 @@ returns-in-CutRow-clause-tables c =
     let same : exchanged l d.numbers.items c.cut.new.rows.items d.top ≡ without_numbered (exchanged l d.numbers.items d.rows.items d.top) rowid =
     rw c.cut.ensures (draft-cut_new l d.numbers.items d.rows.items d.top rowid is.before above) in
     rw c.in-CutRow.is
-    (ap (λ (r : Listed). let t : Tables = record { put_time = d.put_time; delete_time = d.delete_time; rows = r; syncs = d.syncs } in Some t) same)
+    (ap (λ (r : Listed). let t : Tables = record (drafted c.args.tables.now d) { rows = r } in Some t) same)
 
 pub returns-in_ok-push-in-CutRow-2-clause-is : goal.returns-in_ok-push-in-CutRow-2-clause-is
 returns-in_ok-push-in-CutRow-2-clause-is c =
-    let l = c.args.tables.now.rows in
     let d = c.args.draft.now in
+    let l = spared c.args.tables.now d in
     let is = c.requires.is in
     let rowid = c.in-CutRow-2.rowid in
     let numbers = c.push-in-CutRow-2.new.self.items in
@@ -78,8 +79,8 @@ returns-in_ok-push-in-CutRow-2-clause-is c =
 
 pub returns-in_ok-push-in-CutRow-2-clause-tables : goal.returns-in_ok-push-in-CutRow-2-clause-tables
 returns-in_ok-push-in-CutRow-2-clause-tables c =
-    let l = c.args.tables.now.rows in
     let d = c.args.draft.now in
+    let l = spared c.args.tables.now d in
     let is = c.requires.is in
     let rowid = c.in-CutRow-2.rowid in
     let numbers = c.push-in-CutRow-2.new.self.items in
@@ -88,4 +89,4 @@ returns-in_ok-push-in-CutRow-2-clause-tables c =
     let same : exchanged l numbers d.rows.items d.top ≡ without_numbered (exchanged l d.numbers.items d.rows.items d.top) rowid =
     rw c.in_ok-push-in-CutRow-2.ensures.items (draft-cut_old l d.numbers.items d.rows.items d.top rowid le is.rising) in
     rw c.in-CutRow-2.is
-    (ap (λ (r : Listed). let t : Tables = record { put_time = d.put_time; delete_time = d.delete_time; rows = r; syncs = d.syncs } in Some t) same)
+    (ap (λ (r : Listed). let t : Tables = record (drafted c.args.tables.now d) { rows = r } in Some t) same)
