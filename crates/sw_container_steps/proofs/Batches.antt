@@ -1,5 +1,6 @@
 -- The batch of entries makes them, and a keeper takes it.
-use Rattle.std.proofs.Common.{◌≡◌, ℕ, ◌+◌, ◌-◌, ◌^◌, ◌<◌, ◌≤◌, Bool, true, false, cond, not, List, [], ◌∷◌, ◌++◌, length, drop, get_or, Option, None, Some}
+use Rattle.std.proofs.Common.{◌≡◌, ℕ, ◌+◌, ◌-◌, ◌^◌, ◌<◌, ◌≤◌, Bool, true, false, cond, nat_lt, not, List}
+use Rattle.std.proofs.Common.{[], ◌∷◌, ◌++◌, length, drop, get_or, Option, None, Some}
 use Rattle.std.proofs.Common.{refl, sym, ◌∙◌, ap, subst, append_assoc, arith}
 use Rattle.std.specs.Bool.{⊤}
 use Rattle.std.specs.List.{filter, find}
@@ -10,17 +11,21 @@ use Rattle.std.proofs.lemmas.List.{append-nil}
 use Rattle.std.proofs.lemmas.List.Sums.{fold-append, sum_by-cons}
 use Rattle.sw_keeper.specs.Changes.{CanChange, IsBatch, all_changed, changed}
 use Rattle.sw_keeper.specs.declared.batch.Change.{Change}
-use Rattle.sw_keeper.specs.declared.batch.Change.TheVariants.{PutRow}
-use Rattle.sw_rows.specs.Rows.{find_named, fits, is_named, is_numbered, IsListed, IsNamedOnce, IsRising, merged, no_rows, with_row, without}
+use Rattle.sw_keeper.specs.declared.batch.Change.TheVariants.{PutRow, SetRanges, SetCursor, SetPoint, Empty}
+use Rattle.sw_rows.specs.Rows.{find_named, fits, is_named, is_numbered, IsListed, IsNamedOnce, IsRising, merged, no_rows, no_rows_at, with_row, without}
 use Rattle.sw_rows.specs.declared.numbered.Numbered.{Numbered}
 use Rattle.sw_rows.specs.declared.row.Row.{Row}
 use Rattle.sw_keeper.specs.declared.tables.Tables.{Tables}
 use Rattle.sw_rows.proofs.Merging.{listed-with_row}
 use Rattle.sw_rows.proofs.Named.{find-without, same_name, without-none}
-use Rattle.sw_container_steps.specs.Batches.{batch_for, changes_of, cut, replacement, row_changes}
-use Rattle.sw_container_steps.specs.Entries.{all_entered, entered, is_merge, row_count, rows_in, rows_of, top_of}
+use Rattle.sw_shard_range.specs.States.{all_in_state, with_state}
+use Rattle.sw_shard_range.specs.declared.range.Range.{Range}
+use Rattle.sw_sync.specs.Points.{PointList, is_above, point_at, with_point}
+use Rattle.sw_container_steps.specs.Batches.{acking_changes, batch_for, changes_of, closing_changes, cut, emptying_changes, ranging_changes, replacement}
+use Rattle.sw_container_steps.specs.Batches.{row_changes}
+use Rattle.sw_container_steps.specs.Entries.{all_entered, closed, emptied, entered, is_merge, ranged, row_count, rows_in, rows_of, top_of}
 use Rattle.sw_container_steps.specs.declared.cont_entry.ContEntry.{ContEntry}
-use Rattle.sw_container_steps.specs.declared.cont_entry.ContEntry.TheVariants.{Created, Removed, Merged, Synced}
+use Rattle.sw_container_steps.specs.declared.cont_entry.ContEntry.TheVariants.{Created, Removed, Merged, Ranged, Acked, Closed, Emptied, Synced}
 use Rattle.sw_container_steps.proofs.Over.{merged-top, step-at}
 
 -- ---- the row of a name is the row of its number
@@ -130,26 +135,93 @@ row-makes t row is = at (fits (find_named t.rows.list row.name) row)
     at true = replacement-makes t row is
     at false = (refl, tt)
 
+ranging-makes : (t : Tables) (ranges : List Range) (o : Option (List Range)) → Makes (Some t) (ranging_changes o ranges) (Some (ranged t o ranges))
+ranging-makes t ranges None = (refl, (tt, (tt, tt)))
+ranging-makes t ranges (Some old) = (refl, tt)
+
+acking-makes : (t : Tables) (range device rowid : ℕ) (b : Bool)
+    → Makes (Some t) (cond b (SetPoint range device rowid ∷ []) [])
+    (Some (record t { points = cond b (with_point t.points range device rowid) t.points }))
+acking-makes t range device rowid true = (refl, (tt, tt))
+acking-makes t range device rowid false = (refl, tt)
+
+closing-makes : (t : Tables) (o : Option (List Range)) → Makes (Some t) (closing_changes o t.cursor) (Some (closed t o))
+closing-makes t None = (refl, tt)
+closing-makes t (Some ranges) = by (nat_lt t.cursor (length ranges))
+  where
+    by : (b : Bool) → Makes (Some t) (cond b (SetRanges (with_state 30 t.cursor ranges) ∷ SetCursor (t.cursor + 1) ∷ []) [])
+        (Some (cond b (record t { ranges = Some (with_state 30 t.cursor ranges); cursor = t.cursor + 1 }) t))
+    by true = (refl, (tt, (tt, tt)))
+    by false = (refl, tt)
+
+emptying-makes : (t : Tables) (o : Option (List Range)) → Makes (Some t) (emptying_changes o t.cursor) (Some (emptied t o))
+emptying-makes t None = (refl, tt)
+emptying-makes t (Some ranges) = by (nat_lt t.cursor (length ranges))
+  where
+    by : (b : Bool) → Makes (Some t) (cond b [] (SetRanges (all_in_state 40 ranges) ∷ Empty ∷ []))
+        (Some (cond b t (record t { rows = no_rows_at t.rows.top; ranges = Some (all_in_state 40 ranges); emptied = true })))
+    by true = (refl, tt)
+    by false = (refl, (tt, (tt, tt)))
+
 changes-make : (t : Option Tables) (entry : ContEntry) → IsListed (rows_of t) → Makes t (changes_of t entry) (entered t entry)
 changes-make None (Created place time) is = (refl, (tt, tt))
 changes-make None (Removed place time) is = (refl, tt)
 changes-make None (Merged place row) is = (refl, tt)
+changes-make None (Ranged place ranges) is = (refl, tt)
+changes-make None (Acked place range device rowid) is = (refl, tt)
+changes-make None (Closed place range) is = (refl, tt)
+changes-make None (Emptied place) is = (refl, tt)
 changes-make None (Synced place device rowid) is = (refl, tt)
 changes-make (Some t) (Created place time) is = (refl, (tt, tt))
 changes-make (Some t) (Removed place time) is = (refl, (tt, tt))
 changes-make (Some t) (Merged place row) is = row-makes t row is
+changes-make (Some t) (Ranged place ranges) is = ranging-makes t ranges t.ranges
+changes-make (Some t) (Acked place range device rowid) is = acking-makes t range device rowid (is_above rowid (point_at t.points range device))
+changes-make (Some t) (Closed place range) is = closing-makes t t.ranges
+changes-make (Some t) (Emptied place) is = emptying-makes t t.ranges
 changes-make (Some t) (Synced place device rowid) is = (refl, (tt, tt))
 
+none-listed : (top : ℕ) → IsListed (no_rows_at top)
+none-listed top = record { rising = tt; within = λ k d within. absurd (omega (arith, within)); once = tt }
+
 no_rows-listed : IsListed no_rows
-no_rows-listed = record { rising = tt; within = λ k d within. absurd (omega (arith, within)); once = tt }
+no_rows-listed = none-listed 0
+
+ranged-listed : (t : Tables) (ranges : List Range) (o : Option (List Range)) → IsListed t.rows → IsListed (ranged t o ranges).rows
+ranged-listed t ranges None is = is
+ranged-listed t ranges (Some old) is = is
+
+closed-listed : (t : Tables) (o : Option (List Range)) → IsListed t.rows → IsListed (closed t o).rows
+closed-listed t None is = is
+closed-listed t (Some ranges) is = by (nat_lt t.cursor (length ranges))
+  where
+    by : (b : Bool) → IsListed (cond b (record t { ranges = Some (with_state 30 t.cursor ranges); cursor = t.cursor + 1 }) t).rows
+    by true = is
+    by false = is
+
+emptied-listed : (t : Tables) (o : Option (List Range)) → IsListed t.rows → IsListed (emptied t o).rows
+emptied-listed t None is = is
+emptied-listed t (Some ranges) is = by (nat_lt t.cursor (length ranges))
+  where
+    by : (b : Bool) → IsListed (cond b t (record t { rows = no_rows_at t.rows.top; ranges = Some (all_in_state 40 ranges); emptied = true })).rows
+    by true = is
+    by false = none-listed t.rows.top
 
 pub listed-entered : (t : Option Tables) (entry : ContEntry) → IsListed (rows_of t) → IsListed (rows_of (entered t entry))
 listed-entered None (Created place time) is = no_rows-listed
 listed-entered None (Removed place time) is = no_rows-listed
 listed-entered None (Merged place row) is = no_rows-listed
+listed-entered None (Ranged place ranges) is = no_rows-listed
+listed-entered None (Acked place range device rowid) is = no_rows-listed
+listed-entered None (Closed place range) is = no_rows-listed
+listed-entered None (Emptied place) is = no_rows-listed
 listed-entered None (Synced place device rowid) is = no_rows-listed
 listed-entered (Some t) (Created place time) is = is
 listed-entered (Some t) (Removed place time) is = is
+listed-entered (Some t) (Ranged place ranges) is = ranged-listed t ranges t.ranges is
+listed-entered (Some t) (Acked place range device rowid) is = is
+listed-entered (Some t) (Closed place range) is = closed-listed t t.ranges is
+listed-entered (Some t) (Emptied place) is = emptied-listed t t.ranges is
 listed-entered (Some t) (Synced place device rowid) is = is
 listed-entered (Some t) (Merged place row) is = at (fits (find_named t.rows.list row.name) row)
   where
@@ -187,14 +259,43 @@ pub record Left (t : Option Tables) (all : List ContEntry) (now : Option Tables)
 rows_in-cons : (entry : ContEntry) (entries : List ContEntry) → rows_in (entry ∷ entries) ≡ row_count entry + rows_in entries
 rows_in-cons entry entries = sum_by-cons (λ (e : ContEntry). cond (is_merge e) 1 0) entry entries
 
+ranged-top : (t : Tables) (ranges : List Range) (o : Option (List Range)) → (ranged t o ranges).rows.top ≤ t.rows.top
+ranged-top t ranges None = omega arith
+ranged-top t ranges (Some old) = omega arith
+
+closed-top : (t : Tables) (o : Option (List Range)) → (closed t o).rows.top ≤ t.rows.top
+closed-top t None = omega arith
+closed-top t (Some ranges) = by (nat_lt t.cursor (length ranges))
+  where
+    by : (b : Bool) → (cond b (record t { ranges = Some (with_state 30 t.cursor ranges); cursor = t.cursor + 1 }) t).rows.top ≤ t.rows.top
+    by true = omega arith
+    by false = omega arith
+
+emptied-top : (t : Tables) (o : Option (List Range)) → (emptied t o).rows.top ≤ t.rows.top
+emptied-top t None = omega arith
+emptied-top t (Some ranges) = by (nat_lt t.cursor (length ranges))
+  where
+    by : (b : Bool)
+        → (cond b t (record t { rows = no_rows_at t.rows.top; ranges = Some (all_in_state 40 ranges); emptied = true })).rows.top ≤ t.rows.top
+    by true = omega arith
+    by false = omega arith
+
 entered-top : (t : Option Tables) (entry : ContEntry) → top_of (entered t entry) ≤ top_of t + row_count entry
 entered-top None (Created place time) = omega arith
 entered-top None (Removed place time) = omega arith
 entered-top None (Merged place row) = omega arith
+entered-top None (Ranged place ranges) = omega arith
+entered-top None (Acked place range device rowid) = omega arith
+entered-top None (Closed place range) = omega arith
+entered-top None (Emptied place) = omega arith
 entered-top None (Synced place device rowid) = omega arith
 entered-top (Some t) (Created place time) = omega arith
 entered-top (Some t) (Removed place time) = omega arith
 entered-top (Some t) (Merged place row) = merged-top t.rows row
+entered-top (Some t) (Ranged place ranges) = let le = ranged-top t ranges t.ranges in omega (arith, le)
+entered-top (Some t) (Acked place range device rowid) = omega arith
+entered-top (Some t) (Closed place range) = let le = closed-top t t.ranges in omega (arith, le)
+entered-top (Some t) (Emptied place) = let le = emptied-top t t.ranges in omega (arith, le)
 entered-top (Some t) (Synced place device rowid) = omega arith
 
 pub left-room : (t : Option Tables) (all : List ContEntry) (now : Option Tables) (i : ℕ) (changes : List Change) (entry : ContEntry)

@@ -11,7 +11,7 @@ use Rattle.sw_keeper.specs.declared.tables.Tables.{Tables}
 use Rattle.sw_container_steps.specs.Entries.{all_entered, rows_of}
 use Rattle.sw_container_steps.specs.Laws.{RowsAreMerged}
 use Rattle.sw_container_steps.specs.Presence.{deletion_after, is_dotted, is_no_time, is_present}
-use Rattle.sw_container_steps.specs.Steps.{created_by, creation_time, first_live, is_a_row, merging_entries}
+use Rattle.sw_container_steps.specs.Steps.{created_by, creation_time, first_live, is_a_row, merging_entries, redirection}
 use Rattle.sw_container_steps.specs.declared.cont_answer.ContAnswer.TheVariants as answers
 use Rattle.sw_container_steps.specs.declared.cont_entry.ContEntry.TheVariants.{Merged}
 use Rattle.sw_container_steps.proofs.Over.{merged-not}
@@ -60,7 +60,7 @@ rows-are-merged None place rows allowed = at (cond (is_dotted place) (first_live
 rows-are-merged (Some t) place rows allowed = at (is_present (Some t)) (cond (is_dotted place) (first_live rows) None) refl allowed
   where
     at : (b : Bool) (o : Option Row) → is_present (Some t) ≡ b
-        → cond b None (cond (is_a_row (cond b None o)) None (Some answers.Absent)) ≡ None
+        → cond b (redirection (Some t) rows) (cond (is_a_row (cond b None o)) None (Some answers.Absent)) ≡ None
         → (is_present (all_entered (Some t) (created_by (Some t) place (cond b None o) ++ merging_entries t.rows place rows)) ≡ true)
         × (rows_of (all_entered (Some t) (created_by (Some t) place (cond b None o) ++ merging_entries t.rows place rows)) ≡ fold merged t.rows rows)
     at true o is allowed = subst (λ (x : Option Tables). (is_present x ≡ true) × (rows_of x ≡ fold merged t.rows rows)) (sym (merging-leaves t place rows))

@@ -1,6 +1,9 @@
 pub mod Batches
 pub mod Leaving
 pub mod Over
+pub mod Parcels
 pub mod Placing
 pub mod Ruling
 pub mod Seeing
+pub mod Shards
+pub mod Unsplit

@@ -14,9 +14,10 @@ use Rattle.sw_container_steps.specs.Laws.{EntriesAreOfThePlace}
 use Rattle.sw_container_steps.specs.Rules.{cont_rules}
 use Rattle.sw_container_steps.specs.Steps.{created_by, creator, entries_for, merging_entries, rows_entries}
 use Rattle.sw_container_steps.specs.declared.cont_change.ContChange.{ContChange}
-use Rattle.sw_container_steps.specs.declared.cont_change.ContChange.TheVariants.{Create, Remove, MergeRow, MergeRows, SetSync}
+use Rattle.sw_container_steps.specs.declared.cont_change.ContChange.TheVariants.{Create, Remove, MergeRow, MergeRows, SetRanges, Ack, CloseRange}
+use Rattle.sw_container_steps.specs.declared.cont_change.ContChange.TheVariants.{EmptyOut, SetSync}
 use Rattle.sw_container_steps.specs.declared.cont_entry.ContEntry.{ContEntry}
-use Rattle.sw_container_steps.specs.declared.cont_entry.ContEntry.TheVariants.{Created, Merged, Synced}
+use Rattle.sw_container_steps.specs.declared.cont_entry.ContEntry.TheVariants.{Created, Merged, Acked, Closed, Emptied, Synced}
 
 both : (p q : Bool) → (p && q) ≡ true → (p ≡ true) × (q ≡ true)
 both true q is = (refl, is)
@@ -98,6 +99,25 @@ entries-at (Some t) place (Create time) = by (nat_lt t.put_time time)
 entries-at t place (Remove time) = (refl, tt)
 entries-at t place (MergeRow row) = rows-at t place (row ∷ [])
 entries-at t place (MergeRows rows) = rows-at t place rows
+entries-at t place (SetRanges ranges) = (refl, tt)
+entries-at None place (Ack range device rowid) = tt
+entries-at (Some t) place (Ack range device rowid) = by (is_above rowid (point_at t.points range device))
+  where
+    by : (b : Bool) → AllAt cont_rules place (cond b (Acked place range device rowid ∷ []) [])
+    by true = (refl, tt)
+    by false = tt
+entries-at None place (CloseRange range devices) = tt
+entries-at (Some t) place (CloseRange range devices) = by (nat_lt range t.cursor)
+  where
+    by : (b : Bool) → AllAt cont_rules place (cond b [] (Closed place range ∷ []))
+    by true = tt
+    by false = (refl, tt)
+entries-at None place EmptyOut = tt
+entries-at (Some t) place EmptyOut = by t.emptied
+  where
+    by : (b : Bool) → AllAt cont_rules place (cond b [] (Emptied place ∷ []))
+    by true = tt
+    by false = (refl, tt)
 entries-at None place (SetSync device rowid) = tt
 entries-at (Some t) place (SetSync device rowid) = by (is_above rowid (point_at t.syncs 0 device))
   where

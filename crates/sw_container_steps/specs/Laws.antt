@@ -1,5 +1,5 @@
 -- What is promised of the definitions on steps at containers. (This project's own.)
-use Rattle.std.specs.Prelude.{◌≡◌, ◌≢◌, ℕ, true, false, List, [], ◌∷◌, fold, Option, None, Some, IsSome}
+use Rattle.std.specs.Prelude.{◌≡◌, ◌≢◌, ℕ, true, false, is_some, List, [], ◌∷◌, fold, Option, None, Some, IsSome}
 use Rattle.sw_hashpath.specs.declared.place.Place.{Place}
 use Rattle.sw_rows.specs.Rows.{merged}
 use Rattle.sw_rows.specs.declared.row.Row.{Row}
@@ -12,8 +12,9 @@ use Rattle.sw_container_steps.specs.Steps.{cont_refusal, entries_for}
 use Rattle.sw_container_steps.specs.declared.cont_change.ContChange.{ContChange}
 use Rattle.sw_container_steps.specs.declared.cont_change.ContChange.TheVariants.{Create, Remove, MergeRow, MergeRows}
 use Rattle.sw_container_steps.specs.declared.cont_entry.ContEntry.{ContEntry}
-use Rattle.sw_container_steps.specs.declared.cont_entry.ContEntry.TheVariants.{Created, Removed, Merged, Synced}
-use Rattle.sw_sync.specs.Points.{PointList, point_at}
+use Rattle.sw_container_steps.specs.declared.cont_entry.ContEntry.TheVariants.{Created, Removed, Merged, Ranged, Acked, Closed, Emptied, Synced}
+use Rattle.sw_container_steps.specs.declared.sign.Sign.{Sign}
+use Rattle.sw_sync.specs.Points.{point_at}
 
 abbrev pub ContainersAreRules : Type 0
 ContainersAreRules = AreRules cont_rules
@@ -52,22 +53,30 @@ EntriesAreOfThePlace = (t : Option Tables) (place : Place) (change : ContChange)
 abbrev pub StepsHold : Type 0
 StepsHold = (t : Option Tables) (place : Place) (change : ContChange) → cont_refusal t place change ≡ None → IsSome (left t place change)
 
--- the device whose sync point the first of these entries sets, where it sets one
-abbrev pub synced_by : List ContEntry → Option ℕ
-synced_by [] = None
-synced_by (Created place time ∷ entries) = None
-synced_by (Removed place time ∷ entries) = None
-synced_by (Merged place row ∷ entries) = None
-synced_by (Synced place device rowid ∷ entries) = Some device
+-- what of tables the first of these entries raises, beside what every sign has
+abbrev pub raised_by : List ContEntry → Tables → Option ℕ
+raised_by [] t = None
+raised_by (Created place time ∷ entries) t = None
+raised_by (Removed place time ∷ entries) t = None
+raised_by (Merged place row ∷ entries) t = None
+raised_by (Ranged place ranges ∷ entries) t = None
+raised_by (Acked place range device rowid ∷ entries) t = point_at t.points range device
+raised_by (Closed place range ∷ entries) t = None
+raised_by (Emptied place ∷ entries) t = None
+raised_by (Synced place device rowid ∷ entries) t = point_at t.syncs 0 device
 
-abbrev pub kept_for : Option ℕ → PointList → Option ℕ
-kept_for None points = None
-kept_for (Some device) points = point_at points 0 device
-
--- what these entries are seen by: the times of the container, the greatest number given out, and the sync point that they set
-abbrev pub sign_of : List ContEntry → Option Tables → Option (ℕ × Option ℕ × ℕ × Option ℕ)
+-- what entries are seen by: the times of the container, the greatest number given out, how far it is split, and the point that they raise
+abbrev pub sign_of : List ContEntry → Option Tables → Option Sign
 sign_of entries None = None
-sign_of entries (Some t) = Some (t.put_time, t.delete_time, t.rows.top, kept_for (synced_by entries) t.syncs)
+sign_of entries (Some t) = Some (record {
+  put_time = t.put_time;
+  delete_time = t.delete_time;
+  top = t.rows.top;
+  is_ranged = is_some t.ranges;
+  cursor = t.cursor;
+  emptied = t.emptied;
+  raised = raised_by entries t;
+})
 
 -- a step that isn't refused and has entries changes these; so they tell whether it was made
 abbrev pub EntriesAreSeen : Type 0

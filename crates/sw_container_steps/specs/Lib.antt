@@ -6,4 +6,5 @@ pub mod Laws
 pub mod Presence
 pub mod Reads
 pub mod Rules
+pub mod Serving
 pub mod Steps

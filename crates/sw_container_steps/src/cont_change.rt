@@ -1,9 +1,13 @@
 use sw_outside::Sequence;
 use sw_rows::Row;
+use sw_shard_range::Ranges;
 use sw_timestamp::Timestamp;
 
 /// Rows in order.
 pub type RowList = Sequence<Row>;
+
+/// Devices by their numbers, in order.
+pub type DeviceList = Sequence<u8>;
 
 /// A step that may change a container.
 #[derive(Debug, Drop)]
@@ -16,6 +20,14 @@ pub enum ContChange {
     MergeRow { row: Row },
     /// The same of all these rows, one after the other, in one batch.
     MergeRows { rows: RowList },
+    /// Sets the shard ranges, where the container has none. Each shard was created.
+    SetRanges { ranges: Ranges },
+    /// Keeps that this device of the range's shard has all rows of the range up to this number, where that is above the number that is kept.
+    Ack { range: u32, device: u8, rowid: u64 },
+    /// Closes the first range that is open: its names are left to its shard, whose devices these are.
+    CloseRange { range: u32, devices: DeviceList },
+    /// Takes the rows away, where each range is closed.
+    EmptyOut,
     /// Keeps that the device has all rows up to this number, where that is above the number that is kept.
     SetSync { device: u8, rowid: u64 },
 }

@@ -34,6 +34,10 @@ fn is_merge(entry: &ContEntry) -> bool
         ContEntry::Merged(_, _) => true,
         ContEntry::Created(_, _) => false,
         ContEntry::Removed(_, _) => false,
+        ContEntry::Ranged(_, _) => false,
+        ContEntry::Acked(_, _, _, _) => false,
+        ContEntry::Closed(_, _) => false,
+        ContEntry::Emptied(_) => false,
         ContEntry::Synced(_, _, _) => false,
     }
 }

@@ -1,12 +1,13 @@
-ghost use Rattle.std.specs.Prelude.{◌≡◌, ◌≢◌, [], None, IfOk, OnErr};
-ghost use Rattle.sw_container_steps.specs.Deciding.{IsDecided};
-ghost use Rattle.sw_container_steps.specs.Steps.{cont_made_answer, cont_refusal, entries_for as entries_of};
+ghost use Rattle.std.specs.Prelude.{◌≡◌, Option, IfOk, OnErr};
+ghost use Rattle.sw_container_steps.specs.Deciding.{IsDecided, TakesMemory};
+ghost use Rattle.sw_container_steps.specs.Presence.{is_present as is_there};
+ghost use Rattle.sw_container_steps.specs.Steps.{cont_made_answer};
+ghost use Rattle.sw_keeper.specs.declared.tables.Tables.{Tables as TablesValue};
 
 use crate::cont_answer::ContAnswer;
 use crate::cont_change::ContChange;
 use crate::cont_entry::ContEntryList;
 use crate::entries::entries_for;
-use crate::presence::is_present;
 use crate::refusing::refusal;
 use std::alloc::Global;
 use sw_hashpath::Place;
@@ -22,7 +23,8 @@ pub enum Decision {
     Makes(ContEntryList),
 }
 
-/// What the step comes to over the tables that stand at its place, or [`NoMemory`], which comes only of a step that isn't refused and has entries.
+/// What the step comes to over the tables that stand at its place, or [`NoMemory`], which comes only of a step that isn't refused and has entries, or
+/// one that is sent on to a shard.
 pub fn decide(
     alloc: Global,
     tables: &Option<Tables>,
@@ -30,23 +32,22 @@ pub fn decide(
     change: &ContChange,
 ) -> Result<Decision, NoMemory>
     ensures ok { IfOk result (λ decision. IsDecided tables.now place.now change.now decision) }
-    ensures unrefused { OnErr result (cont_refusal tables.now place.now change.now ≡ None) }
-    ensures starved { OnErr result (entries_of tables.now place.now change.now ≢ []) }
+    ensures starved { OnErr result (TakesMemory tables.now place.now change.now) }
 {
-    if let Some(answer) = refusal(tables, place, change) {
+    if let Some(answer) = refusal(alloc, tables, place, change)? {
         return Ok(Decision::Refused(answer));
     }
     let entries = entries_for(alloc, tables, place, change)?;
     Ok(Decision::Makes(entries.into()))
 }
 
-/// What a step that isn't refused is answered, with this front.
-pub fn made_answer(tables: &Option<Tables>, change: &ContChange, front: u64) -> ContAnswer
-    ensures { result ≡ cont_made_answer tables.now change.now front }
+/// What a step that isn't refused is answered, with this front, by whether the container was there.
+pub fn made_answer(was_there: bool, change: &ContChange, front: u64) -> ContAnswer
+    ensures { (tables : Option TablesValue) → is_there tables ≡ was_there → result ≡ cont_made_answer tables change.now front }
 {
     match change {
         ContChange::Create { .. } => {
-            if is_present(tables) {
+            if was_there {
                 ContAnswer::There(front)
             } else {
                 ContAnswer::New(front)

@@ -1,6 +1,7 @@
 ghost use Rattle.std.specs.Prelude.{◌≡◌, ◌≢◌, [], ◌∷◌, IfOk, OnErr};
 ghost use Rattle.std.specs.Option.{option_copied};
-ghost use Rattle.sw_container_steps.specs.Steps.{created_by, creation_entries, creation_time, entries_for, rows_entries, sync_entries};
+ghost use Rattle.sw_container_steps.specs.Steps.{acking_entries, closing_entries, created_by, creation_entries, creation_time, emptying_entries};
+ghost use Rattle.sw_container_steps.specs.Steps.{entries_for, rows_entries, sync_entries};
 
 use crate::cont_change::ContChange;
 use crate::cont_entry::ContEntry;
@@ -31,9 +32,76 @@ pub(crate) fn entries_for(
         ContChange::Remove { time } => one(alloc, ContEntry::Removed(place.copy(alloc)?, *time)),
         ContChange::MergeRow { row } => { rows_entries(alloc, tables, place, slice::from_ref(row)) }
         ContChange::MergeRows { rows } => rows_entries(alloc, tables, place, rows.as_slice()),
+        ContChange::SetRanges { ranges } => one(
+            alloc,
+            ContEntry::Ranged(place.copy(alloc)?, ranges.copy(alloc)?),
+        ),
+        ContChange::Ack {
+            range,
+            device,
+            rowid,
+        } => acking_entries(alloc, tables, place, *range, *device, *rowid),
+        ContChange::CloseRange { range, .. } => closing_entries(alloc, tables, place, *range),
+        ContChange::EmptyOut => emptying_entries(alloc, tables, place),
         ContChange::SetSync { device, rowid } => sync_entries(
             alloc, tables, place, *device, *rowid,
         ),
+    }
+}
+
+/// None where the number isn't above the one that is kept.
+fn acking_entries(
+    alloc: Global,
+    tables: &Option<Tables>,
+    place: &Place,
+    range: u32,
+    device: u8,
+    rowid: u64,
+) -> Result<Vec<ContEntry>, NoMemory>
+    ensures ok { IfOk result (λ entries. entries.items ≡ acking_entries tables.now place.now range device rowid) }
+    ensures starved { OnErr result (acking_entries tables.now place.now range device rowid ≢ []) }
+{
+    match tables {
+        Some(tables) if tables.points.rises(range, device, rowid) => {
+            one(
+                alloc,
+                ContEntry::Acked(place.copy(alloc)?, range, device, rowid),
+            )
+        }
+        _ => Ok(Vec::new(alloc)),
+    }
+}
+
+/// None where the range is closed.
+fn closing_entries(
+    alloc: Global,
+    tables: &Option<Tables>,
+    place: &Place,
+    range: u32,
+) -> Result<Vec<ContEntry>, NoMemory>
+    ensures ok { IfOk result (λ entries. entries.items ≡ closing_entries tables.now place.now range) }
+    ensures starved { OnErr result (closing_entries tables.now place.now range ≢ []) }
+{
+    match tables {
+        Some(tables) if range >= tables.cursor => {
+            one(alloc, ContEntry::Closed(place.copy(alloc)?, range))
+        }
+        _ => Ok(Vec::new(alloc)),
+    }
+}
+
+/// None where the rows were taken away.
+fn emptying_entries(
+    alloc: Global,
+    tables: &Option<Tables>,
+    place: &Place,
+) -> Result<Vec<ContEntry>, NoMemory>
+    ensures ok { IfOk result (λ entries. entries.items ≡ emptying_entries tables.now place.now) }
+    ensures starved { OnErr result (emptying_entries tables.now place.now ≢ []) }
+{
+    match tables {
+        Some(tables) if !tables.emptied => one(alloc, ContEntry::Emptied(place.copy(alloc)?)),
+        _ => Ok(Vec::new(alloc)),
     }
 }
 

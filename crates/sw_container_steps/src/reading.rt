@@ -1,14 +1,17 @@
 ghost use Rattle.std.specs.Prelude.{◌≡◌, ℕ, true, Ok, IfOk, OnErr};
 ghost use Rattle.sw_container_steps.specs.Presence.{is_present as is_there};
-ghost use Rattle.sw_container_steps.specs.Reads.{info_of, listing_of, times_of};
+ghost use Rattle.sw_container_steps.specs.Reads.{info_of, listing_of, split_of, times_of, HasClosed};
+ghost use Rattle.sw_rows.specs.Sums.{bytes_of, count_of, hash_of};
 
 use crate::cont_answer::ContAnswer;
-use crate::info::Info;
+use crate::info::{Info, SplitState};
 use crate::presence::is_present;
+use crate::serving::unserved;
 use std::alloc::Global;
 use sw_keeper::Tables;
 use sw_listing::{Entries, Query};
 use sw_outside::NoMemory;
+use sw_rows::Rows;
 use sw_timestamp::Timestamp;
 
 /// The put time and the delete time of a container, also of a deleted one; none where it was never created.
@@ -21,22 +24,58 @@ pub fn times_of(tables: &Option<Tables>) -> Option<(Timestamp, Option<Timestamp>
     }
 }
 
-/// What is told of a container, with this front. The error is [`ContAnswer::Absent`] exactly where there is none.
-pub fn info_of(tables: &Option<Tables>, front: u64) -> Result<Info, ContAnswer>
-    ensures { result ≡ info_of tables.now front }
+/// What is told of a container, with this front, or [`NoMemory`], which comes only where a range is closed. The error is [`ContAnswer::Absent`] exactly
+/// where there is no container.
+pub fn info_of(
+    alloc: Global,
+    tables: &Option<Tables>,
+    front: u64,
+) -> Result<Result<Info, ContAnswer>, NoMemory>
+    ensures ok { IfOk result (λ answer. answer ≡ info_of tables.now front) }
+    ensures starved { OnErr result (HasClosed tables.now) }
 {
     if !is_present(tables) {
-        return Err(ContAnswer::Absent);
+        return Ok(Err(ContAnswer::Absent));
     }
     match tables {
-        Some(tables) => Ok(Info {
-            put_time: tables.put_time,
-            count: tables.rows.count(),
-            bytes: tables.rows.bytes(),
-            hash: tables.rows.hash(),
-            front,
-        }),
-        None => Err(ContAnswer::Absent),
+        Some(tables) => match unserved(alloc, tables)? {
+            Some(rows) => Ok(Ok(info_over(tables, &rows, front))),
+            None => Ok(Ok(info_over(tables, &tables.rows, front))),
+        },
+        None => Ok(Err(ContAnswer::Absent)),
+    }
+}
+
+fn info_over(tables: &Tables, rows: &Rows, front: u64) -> Info
+    ensures { result ≡ record {
+      put_time = tables.now.put_time;
+      count = count_of rows.now.list;
+      bytes = bytes_of rows.now.list;
+      hash = hash_of rows.now.list;
+      split = split_of tables.now;
+      front = front;
+    } }
+{
+    Info {
+        put_time: tables.put_time,
+        count: rows.count(),
+        bytes: rows.bytes(),
+        hash: rows.hash(),
+        split: split_of(tables),
+        front,
+    }
+}
+
+/// How far a container is split.
+fn split_of(tables: &Tables) -> SplitState
+    ensures { result ≡ split_of tables.now }
+{
+    if tables.ranges.is_none() {
+        SplitState::Unsharded
+    } else if tables.emptied {
+        SplitState::Sharded
+    } else {
+        SplitState::Sharding
     }
 }
 
@@ -53,7 +92,10 @@ pub fn list(
         return Ok(Err(ContAnswer::Absent));
     }
     match tables {
-        Some(tables) => Ok(Ok(sw_listing::list(alloc, &tables.rows, query)?)),
+        Some(tables) => match unserved(alloc, tables)? {
+            Some(rows) => Ok(Ok(sw_listing::list(alloc, &rows, query)?)),
+            None => Ok(Ok(sw_listing::list(alloc, &tables.rows, query)?)),
+        },
         None => Ok(Err(ContAnswer::Absent)),
     }
 }
