@@ -7,15 +7,16 @@ use Rattle.sw_hashpath.specs.declared.place.Place.{Place}
 use Rattle.sw_outside.specs.Counts.{raised}
 use Rattle.sw_keeper.specs.declared.tables.Tables.{Tables}
 use Rattle.sw_rows.specs.Rows.{rows_above}
-use Rattle.sw_rows.specs.Sums.{bytes_of, count_of, hash_of}
 use Rattle.sw_sync.specs.Points.{point_at}
 use Rattle.sw_listing.specs.Listing.{listing}
 use Rattle.sw_listing.specs.declared.entry.Entry.{Entry}
 use Rattle.sw_listing.specs.declared.query.Query.{Query}
-use Rattle.sw_step.specs.Rules.{Wants}
+use Rattle.sw_step.specs.Rules.{Refuses, Wants}
 use Rattle.sw_step.specs.Steps.{Tells}
 use Rattle.sw_container_steps.specs.Presence.{deletion_after, is_no_time, is_present}
-use Rattle.sw_container_steps.specs.Reads.{info_of, listing_of, parcel_of, rows_for}
+use Rattle.sw_container_steps.specs.Reads.{info_of, listing_of, parcel_of, range_parcel, range_parcel_of, rows_for, told_of, where_present}
+use Rattle.sw_container_steps.specs.Serving.{unserved}
+use Rattle.sw_shard_range.specs.declared.range.Range.{Range}
 use Rattle.sw_container_steps.specs.Deciding.{IsDecided}
 use Rattle.sw_container_steps.specs.Steps.{cont_made_answer, cont_refusal, creation_answer, entries_for}
 use Rattle.sw_container_steps.specs.declared.deciding.Decision.TheVariants.{Makes}
@@ -23,7 +24,8 @@ use Rattle.sw_container_steps.specs.Rules.{cont_ending, look_by}
 use Rattle.sw_container_steps.specs.declared.cont_answer.ContAnswer.{ContAnswer}
 use Rattle.sw_container_steps.specs.declared.cont_answer.ContAnswer.TheVariants as conts
 use Rattle.sw_container_steps.specs.declared.cont_change.ContChange.{ContChange}
-use Rattle.sw_container_steps.specs.declared.cont_change.ContChange.TheVariants.{Create, Remove, MergeRow, MergeRows, SetSync}
+use Rattle.sw_container_steps.specs.declared.cont_change.ContChange.TheVariants.{Create, Remove, MergeRow, MergeRows, SetRanges, Ack, CloseRange}
+use Rattle.sw_container_steps.specs.declared.cont_change.ContChange.TheVariants.{EmptyOut, SetSync}
 use Rattle.sw_container_steps.specs.declared.cont_entry.ContEntry.{ContEntry}
 use Rattle.sw_container_steps.specs.declared.info.Info.{Info}
 use Rattle.sw_container_steps.specs.declared.syncing.Parcel.{Parcel}
@@ -66,6 +68,12 @@ fine-wants place change read (conts.Done front) fine = tt
 fine-wants place change read conts.Absent fine = tt
 fine-wants place change read (conts.Stale time) fine = tt
 fine-wants place change read (conts.NotEmpty count) fine = tt
+fine-wants place change read conts.HasRanges fine = tt
+fine-wants place change read conts.NoRanges fine = tt
+fine-wants place change read (conts.Redirect shard) fine = tt
+fine-wants place change read (conts.StillOpen cursor) fine = tt
+fine-wants place change read (conts.Later number) fine = tt
+fine-wants place change read (conts.NotAcked lagging) fine = tt
 fine-wants place change read conts.JournalFull fine = tt
 fine-wants place change read conts.Failed fine = tt
 
@@ -73,7 +81,7 @@ fine-wants place change read conts.Failed fine = tt
 pub makes-enters : (t given : Option Tables) (place : Place) (change : ContChange) (entries batch : List ContEntry)
     → IsDecided t place change (Makes entries) → batch ≡ entries → batch ≢ [] → t ≡ given → Enters place change given
 makes-enters t given place change entries batch decided is full was =
-    let enters : Enters place change t = (decided.0, λ none. full (is ∙ (decided.1 ∙ none))) in
+    let enters : Enters place change t = inl (decided.0, λ none. full (is ∙ (decided.1 ∙ none))) in
     subst (Enters place change) was enters
 
 module _ {K : Type 0} (tells : K → Bool) (holds : K → Place → Option Tables) (faults calls : K → ℕ) where
@@ -119,6 +127,25 @@ module _ {K : Type 0} (tells : K → Bool) (holds : K → Place → Option Table
 
   -- ---- by the answer
 
+  pub called-refused : (loads : ℕ) (others : List Loaded) (read : Option Tables) (k n : ContKept K) (place : Place) (change : ContChange)
+      (answer : ContAnswer) → cont_ending answer ≡ Refuses → Looked tells holds faults calls loads others read k place n
+      → CalledBy tells holds faults calls loads others read k place change answer n
+  called-refused loads others read k n place change (conts.New front) is look = cc
+  called-refused loads others read k n place change (conts.There front) is look = cc
+  called-refused loads others read k n place change (conts.Done front) is look = cc
+  called-refused loads others read k n place change conts.Absent is look = look
+  called-refused loads others read k n place change (conts.Stale time) is look = look
+  called-refused loads others read k n place change (conts.NotEmpty count) is look = look
+  called-refused loads others read k n place change conts.HasRanges is look = look
+  called-refused loads others read k n place change conts.NoRanges is look = look
+  called-refused loads others read k n place change (conts.Redirect shard) is look = look
+  called-refused loads others read k n place change (conts.StillOpen cursor) is look = look
+  called-refused loads others read k n place change (conts.Later number) is look = look
+  called-refused loads others read k n place change (conts.NotAcked lagging) is look = look
+  called-refused loads others read k n place change conts.JournalFull is look = cc
+  called-refused loads others read k n place change conts.Failed is look = cc
+  called-refused loads others read k n place change conts.NoMemory is look = cc
+
   pub called-made : (loads : ℕ) (others : List Loaded) (read : Option Tables) (k n : ContKept K) (place : Place) (change : ContChange) (t : Option Tables)
       (front : ℕ) → Wrote tells holds faults calls loads others read k place change n
       → CalledBy tells holds faults calls loads others read k place change (cont_made_answer t change front) n
@@ -130,6 +157,10 @@ module _ {K : Type 0} (tells : K → Bool) (holds : K → Place → Option Table
   called-made loads others read k n place (Remove time) t front done = done
   called-made loads others read k n place (MergeRow row) t front done = done
   called-made loads others read k n place (MergeRows rows) t front done = done
+  called-made loads others read k n place (SetRanges ranges) t front done = done
+  called-made loads others read k n place (Ack range device rowid) t front done = done
+  called-made loads others read k n place (CloseRange range devices) t front done = done
+  called-made loads others read k n place EmptyOut t front done = done
   called-made loads others read k n place (SetSync device rowid) t front done = done
 
   -- ---- what was read of the tables
@@ -142,7 +173,7 @@ module _ {K : Type 0} (tells : K → Bool) (holds : K → Place → Option Table
       by None = look
       by (Some t) = at (is_no_time (deletion_after t.put_time t.delete_time))
         where
-          at : (b : Bool) → ReadCalled tells holds faults calls k place (if b then Ok (listing query t.rows.list) else Err conts.Absent) n
+          at : (b : Bool) → ReadCalled tells holds faults calls k place (if b then Ok (listing query (unserved t)) else Err conts.Absent) n
           at true = look
           at false = look
 
@@ -155,13 +186,7 @@ module _ {K : Type 0} (tells : K → Bool) (holds : K → Place → Option Table
       by (Some t) = at (is_no_time (deletion_after t.put_time t.delete_time))
         where
           at : (b : Bool) → ReadCalled tells holds faults calls {A = Info} k place
-              (if b then Ok (record {
-                put_time = t.put_time;
-                count = count_of t.rows.list;
-                bytes = bytes_of t.rows.list;
-                hash = hash_of t.rows.list;
-                front = front;
-              }) else Err conts.Absent) n
+              (if b then Ok (told_of front t) else Err conts.Absent) n
           at true = look
           at false = look
 
@@ -181,6 +206,34 @@ module _ {K : Type 0} (tells : K → Bool) (holds : K → Place → Option Table
           at true = look
           at false = look
 
+  -- what is told of a container that is there, whatever it is
+  pub shown : {A : Type 0} (k n : ContKept K) (place : Place) (t : Option Tables) (told : Tables → A) (got : Result A ContAnswer)
+      → got ≡ where_present t told → Seen tells holds faults calls k place n → ReadCalled tells holds faults calls k place got n
+  shown {A} k n place t told got is look = subst (λ (r : Result A ContAnswer). ReadCalled tells holds faults calls k place r n) (sym is) (by t)
+    where
+      by : (t : Option Tables) → ReadCalled tells holds faults calls k place (where_present t told) n
+      by None = look
+      by (Some t) = at (is_no_time (deletion_after t.put_time t.delete_time))
+        where
+          at : (b : Bool) → ReadCalled tells holds faults calls {A = A} k place (if b then Ok (told t) else Err conts.Absent) n
+          at true = look
+          at false = look
+
+  pub range-parceled : (k n : ContKept K) (place : Place) (range point : ℕ) (t : Option Tables) (front : ℕ) (got : Result Parcel ContAnswer)
+      → got ≡ range_parcel_of range point t front → Seen tells holds faults calls k place n → ReadCalled tells holds faults calls k place got n
+  range-parceled k n place range point t front got is look =
+      subst (λ (r : Result Parcel ContAnswer). ReadCalled tells holds faults calls k place r n) (sym is) (by t)
+    where
+      by : (t : Option Tables) → ReadCalled tells holds faults calls k place (range_parcel_of range point t front) n
+      by None = look
+      by (Some t) = at (is_no_time (deletion_after t.put_time t.delete_time)) t.ranges
+        where
+          at : (b : Bool) (o : Option (List Range))
+              → ReadCalled tells holds faults calls {A = Parcel} k place (if b then range_parcel o range point t else Err conts.Absent) n
+          at true None = look
+          at true (Some ranges) = look
+          at false o = look
+
   -- ---- where the tables were read first
 
   pub came : (k n : ContKept K) (place : Place) (change : ContChange) (answer : ContAnswer) → Came tells holds faults calls k place change answer n
@@ -191,6 +244,12 @@ module _ {K : Type 0} (tells : K → Bool) (holds : K → Place → Option Table
   came k n place change conts.Absent c = c
   came k n place change (conts.Stale time) c = c
   came k n place change (conts.NotEmpty count) c = c
+  came k n place change conts.HasRanges c = c
+  came k n place change conts.NoRanges c = c
+  came k n place change (conts.Redirect shard) c = c
+  came k n place change (conts.StillOpen cursor) c = c
+  came k n place change (conts.Later number) c = c
+  came k n place change (conts.NotAcked lagging) c = c
   came k n place change conts.JournalFull c = c
   came k n place change conts.Failed c = inr (inr c)
   came k n place change conts.NoMemory c = inr (inr c)
@@ -231,6 +290,12 @@ module _ {K : Type 0} (tells : K → Bool) (holds : K → Place → Option Table
     called-by-after n change conts.Absent c = looked-after n c
     called-by-after n change (conts.Stale time) c = looked-after n c
     called-by-after n change (conts.NotEmpty count) c = looked-after n c
+    called-by-after n change conts.HasRanges c = looked-after n c
+    called-by-after n change conts.NoRanges c = looked-after n c
+    called-by-after n change (conts.Redirect shard) c = looked-after n c
+    called-by-after n change (conts.StillOpen cursor) c = looked-after n c
+    called-by-after n change (conts.Later number) c = looked-after n c
+    called-by-after n change (conts.NotAcked lagging) c = looked-after n c
     called-by-after n change conts.JournalFull c = looked-after n c
     called-by-after n change conts.Failed c = record { counts = counts-after n 1 1 c.counts; doubted = c.doubted; loaded = c.loaded }
     called-by-after n change conts.NoMemory c = record {
@@ -276,6 +341,12 @@ module _ {K : Type 0} (tells : K → Bool) (holds : K → Place → Option Table
   called-fault k n place change conts.Absent fault w = absurd (fault refl)
   called-fault k n place change (conts.Stale time) fault w = absurd (fault refl)
   called-fault k n place change (conts.NotEmpty count) fault w = absurd (fault refl)
+  called-fault k n place change conts.HasRanges fault w = absurd (fault refl)
+  called-fault k n place change conts.NoRanges fault w = absurd (fault refl)
+  called-fault k n place change (conts.Redirect shard) fault w = absurd (fault refl)
+  called-fault k n place change (conts.StillOpen cursor) fault w = absurd (fault refl)
+  called-fault k n place change (conts.Later number) fault w = absurd (fault refl)
+  called-fault k n place change (conts.NotAcked lagging) fault w = absurd (fault refl)
   called-fault k n place change conts.JournalFull fault w = absurd (fault refl)
 
   -- ---- where memory ran out
@@ -293,6 +364,12 @@ module _ {K : Type 0} (tells : K → Bool) (holds : K → Place → Option Table
     unready-step change conts.Absent w = tt
     unready-step change (conts.Stale time) w = tt
     unready-step change (conts.NotEmpty count) w = tt
+    unready-step change conts.HasRanges w = tt
+    unready-step change conts.NoRanges w = tt
+    unready-step change (conts.Redirect shard) w = tt
+    unready-step change (conts.StillOpen cursor) w = tt
+    unready-step change (conts.Later number) w = tt
+    unready-step change (conts.NotAcked lagging) w = tt
     unready-step change conts.JournalFull w = tt
     unready-step change conts.Failed w = tt
 
@@ -307,6 +384,12 @@ module _ {K : Type 0} (tells : K → Bool) (holds : K → Place → Option Table
     unready-read takes conts.Absent w = tt
     unready-read takes (conts.Stale time) w = tt
     unready-read takes (conts.NotEmpty count) w = tt
+    unready-read takes conts.HasRanges w = tt
+    unready-read takes conts.NoRanges w = tt
+    unready-read takes (conts.Redirect shard) w = tt
+    unready-read takes (conts.StillOpen cursor) w = tt
+    unready-read takes (conts.Later number) w = tt
+    unready-read takes (conts.NotAcked lagging) w = tt
     unready-read takes conts.JournalFull w = tt
     unready-read takes conts.Failed w = tt
 
@@ -320,26 +403,26 @@ module _ {K : Type 0} (tells : K → Bool) (holds : K → Place → Option Table
     read-step-wants change read conts.Absent is enters = tt
     read-step-wants change read (conts.Stale time) is enters = tt
     read-step-wants change read (conts.NotEmpty count) is enters = tt
+    read-step-wants change read conts.HasRanges is enters = tt
+    read-step-wants change read conts.NoRanges is enters = tt
+    read-step-wants change read (conts.Redirect shard) is enters = tt
+    read-step-wants change read (conts.StillOpen cursor) is enters = tt
+    read-step-wants change read (conts.Later number) is enters = tt
+    read-step-wants change read (conts.NotAcked lagging) is enters = tt
     read-step-wants change read conts.JournalFull is enters = tt
     read-step-wants change read conts.Failed is enters = tt
 
     -- what is read of tables finds memory
-    pub informed-wants : (t : Option Tables) (front : ℕ) (got : Result Info ContAnswer) → got ≡ info_of t front
-        → ReadWants tells holds faults calls OfNone k place got n
-    informed-wants t front got is = subst (λ (r : Result Info ContAnswer). ReadWants tells holds faults calls OfNone k place r n) (sym is) (by t)
+    pub informed-wants : (takes : Option Tables → Type 0) (t : Option Tables) (front : ℕ) (got : Result Info ContAnswer) → got ≡ info_of t front
+        → ReadWants tells holds faults calls takes k place got n
+    informed-wants takes t front got is = subst (λ (r : Result Info ContAnswer). ReadWants tells holds faults calls takes k place r n) (sym is) (by t)
       where
-        by : (t : Option Tables) → ReadWants tells holds faults calls OfNone k place (info_of t front) n
+        by : (t : Option Tables) → ReadWants tells holds faults calls takes k place (info_of t front) n
         by None = tt
         by (Some t) = at (is_no_time (deletion_after t.put_time t.delete_time))
           where
-            at : (b : Bool) → ReadWants tells holds faults calls {A = Info} OfNone k place
-                (if b then Ok (record {
-                  put_time = t.put_time;
-                  count = count_of t.rows.list;
-                  bytes = bytes_of t.rows.list;
-                  hash = hash_of t.rows.list;
-                  front = front;
-                }) else Err conts.Absent) n
+            at : (b : Bool) → ReadWants tells holds faults calls {A = Info} takes k place
+                (if b then Ok (told_of front t) else Err conts.Absent) n
             at true = tt
             at false = tt
 
@@ -352,7 +435,7 @@ module _ {K : Type 0} (tells : K → Bool) (holds : K → Place → Option Table
         by None = tt
         by (Some t) = at (is_no_time (deletion_after t.put_time t.delete_time))
           where
-            at : (b : Bool) → ReadWants tells holds faults calls takes k place (if b then Ok (listing query t.rows.list) else Err conts.Absent) n
+            at : (b : Bool) → ReadWants tells holds faults calls takes k place (if b then Ok (listing query (unserved t)) else Err conts.Absent) n
             at true = tt
             at false = tt
 
@@ -369,3 +452,30 @@ module _ {K : Type 0} (tells : K → Bool) (holds : K → Place → Option Table
                 (if b then Ok (record { rows = rows_for device t; top = t.rows.top }) else Err conts.Absent) n
             at true = tt
             at false = tt
+
+    pub shown-wants : {A : Type 0} (takes : Option Tables → Type 0) (t : Option Tables) (told : Tables → A) (got : Result A ContAnswer)
+        → got ≡ where_present t told → ReadWants tells holds faults calls takes k place got n
+    shown-wants {A} takes t told got is = subst (λ (r : Result A ContAnswer). ReadWants tells holds faults calls takes k place r n) (sym is) (by t)
+      where
+        by : (t : Option Tables) → ReadWants tells holds faults calls takes k place (where_present t told) n
+        by None = tt
+        by (Some t) = at (is_no_time (deletion_after t.put_time t.delete_time))
+          where
+            at : (b : Bool) → ReadWants tells holds faults calls {A = A} takes k place (if b then Ok (told t) else Err conts.Absent) n
+            at true = tt
+            at false = tt
+
+    pub range-parceled-wants : (takes : Option Tables → Type 0) (range point : ℕ) (t : Option Tables) (front : ℕ) (got : Result Parcel ContAnswer)
+        → got ≡ range_parcel_of range point t front → ReadWants tells holds faults calls takes k place got n
+    range-parceled-wants takes range point t front got is =
+        subst (λ (r : Result Parcel ContAnswer). ReadWants tells holds faults calls takes k place r n) (sym is) (by t)
+      where
+        by : (t : Option Tables) → ReadWants tells holds faults calls takes k place (range_parcel_of range point t front) n
+        by None = tt
+        by (Some t) = at (is_no_time (deletion_after t.put_time t.delete_time)) t.ranges
+          where
+            at : (b : Bool) (o : Option (List Range))
+                → ReadWants tells holds faults calls {A = Parcel} takes k place (if b then range_parcel o range point t else Err conts.Absent) n
+            at true None = tt
+            at true (Some ranges) = tt
+            at false o = tt

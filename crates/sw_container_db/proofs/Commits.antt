@@ -10,6 +10,7 @@ use Rattle.sw_step.specs.Rules.{AreOf, IsOf}
 use Rattle.sw_container_steps.specs.Entries.{entered}
 use Rattle.sw_container_steps.specs.Rules.{cont_rules, one_batch}
 use Rattle.sw_container_steps.specs.Laws.{sign_of}
+use Rattle.sw_container_steps.specs.declared.sign.Sign.{Sign}
 use Rattle.sw_container_steps.specs.Steps.{cont_refusal, entries_for}
 use Rattle.sw_container_steps.specs.declared.cont_change.ContChange.{ContChange}
 use Rattle.sw_container_steps.specs.declared.cont_entry.ContEntry.{ContEntry}
@@ -65,7 +66,7 @@ of-place read place change entries are full = of-batch place entries full
     (subst (λ (es : List ContEntry). AreOf cont_rules place (one_batch es)) (sym are) (are-rules.own_changes read place change refl))
 
 -- the sign tells that they were made
-pub seen : (read held : Option Tables) (place : Place) (change : ContChange) (entries : List ContEntry) (sign : Option (ℕ × Option ℕ × ℕ × Option ℕ))
+pub seen : (read held : Option Tables) (place : Place) (change : ContChange) (entries : List ContEntry) (sign : Option Sign)
     → cont_refusal read place change ≡ None → entries ≡ entries_for read place change → entries ≢ [] → sign ≡ sign_of entries read → read ≡ held →
     sign_of entries (fold entered held entries) ≢ sign
 seen read held place change entries sign allowed are full tells is same =

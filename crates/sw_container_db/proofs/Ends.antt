@@ -8,7 +8,6 @@ use Rattle.sw_hashpath.specs.declared.place.Place.{Place}
 use Rattle.sw_outside.specs.Faults.{HasRisen}
 use Rattle.sw_keeper.specs.declared.tables.Tables.{Tables}
 use Rattle.sw_rows.specs.Rows.{rows_above}
-use Rattle.sw_rows.specs.Sums.{bytes_of, count_of, hash_of}
 use Rattle.sw_sync.specs.Points.{point_at}
 use Rattle.sw_listing.specs.Listing.{listing}
 use Rattle.sw_listing.specs.declared.query.Query.{Query}
@@ -20,7 +19,9 @@ use Rattle.sw_step.specs.Steps.{Answers, EndsSeen, EndsUnseen, IsDamaged, IsLost
 use Rattle.sw_container_steps.proofs.Ruling.{made-ends, never-damaged, refusal-ends}
 use Rattle.sw_container_steps.specs.Entries.{entered}
 use Rattle.sw_container_steps.specs.Presence.{deletion_after, is_no_time}
-use Rattle.sw_container_steps.specs.Reads.{info_of, listing_of, parcel_of}
+use Rattle.sw_container_steps.specs.Reads.{info_of, listing_of, parcel_of, range_parcel, range_parcel_of, told_of, where_present}
+use Rattle.sw_container_steps.specs.Serving.{unserved}
+use Rattle.sw_shard_range.specs.declared.range.Range.{Range}
 use Rattle.sw_container_steps.specs.Rules.{ChangesContainer, ContHistory, ContJournal, ReadsContainer, cont_ending, cont_look, cont_room, cont_rules, look_by}
 use Rattle.sw_container_steps.specs.Rules.{one_batch}
 use Rattle.sw_container_steps.specs.Steps.{cont_made_answer, cont_refusal, entries_for}
@@ -292,13 +293,7 @@ pub info-tells : (t : Option Tables) (front : ℕ) → cont_look (info_of t fron
 info-tells None front = refl
 info-tells (Some t) front = by (is_no_time (deletion_after t.put_time t.delete_time))
   where
-    by : (b : Bool) → cont_look {A = Info} (if b then Ok (record {
-      put_time = t.put_time;
-      count = count_of t.rows.list;
-      bytes = bytes_of t.rows.list;
-      hash = hash_of t.rows.list;
-      front = front;
-    }) else Err conts.Absent) ≡ Tells
+    by : (b : Bool) → cont_look {A = Info} (if b then Ok (told_of front t) else Err conts.Absent) ≡ Tells
     by true = refl
     by false = refl
 
@@ -306,7 +301,7 @@ pub listing-tells : (query : Query) (t : Option Tables) (front : ℕ) → cont_l
 listing-tells query None front = refl
 listing-tells query (Some t) front = by (is_no_time (deletion_after t.put_time t.delete_time))
   where
-    by : (b : Bool) → cont_look (if b then Ok (listing query t.rows.list) else Err conts.Absent) ≡ Tells
+    by : (b : Bool) → cont_look (if b then Ok (listing query (unserved t)) else Err conts.Absent) ≡ Tells
     by true = refl
     by false = refl
 
@@ -320,3 +315,20 @@ parcel-tells device (Some t) front = by (is_no_time (deletion_after t.put_time t
     }) else Err conts.Absent) ≡ Tells
     by true = refl
     by false = refl
+
+pub shown-tells : {A : Type 0} (t : Option Tables) (told : Tables → A) → cont_look (where_present t told) ≡ Tells
+shown-tells None told = refl
+shown-tells {A} (Some t) told = by (is_no_time (deletion_after t.put_time t.delete_time))
+  where
+    by : (b : Bool) → cont_look {A = A} (if b then Ok (told t) else Err conts.Absent) ≡ Tells
+    by true = refl
+    by false = refl
+
+pub range-parcel-tells : (range point : ℕ) (t : Option Tables) (front : ℕ) → cont_look (range_parcel_of range point t front) ≡ Tells
+range-parcel-tells range point None front = refl
+range-parcel-tells range point (Some t) front = by (is_no_time (deletion_after t.put_time t.delete_time)) t.ranges
+  where
+    by : (b : Bool) (o : Option (List Range)) → cont_look {A = Parcel} (if b then range_parcel o range point t else Err conts.Absent) ≡ Tells
+    by true None = refl
+    by true (Some ranges) = refl
+    by false o = refl

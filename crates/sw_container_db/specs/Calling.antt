@@ -5,7 +5,8 @@ use Rattle.sw_hashpath.specs.declared.place.Place.{Place}
 use Rattle.sw_outside.specs.Counts.{raised}
 use Rattle.sw_keeper.specs.declared.tables.Tables.{Tables}
 use Rattle.sw_container_steps.specs.Entries.{all_entered}
-use Rattle.sw_container_steps.specs.Steps.{cont_refusal, entries_for}
+use Rattle.sw_container_steps.specs.Deciding.{TakesMemory}
+use Rattle.sw_container_steps.specs.Steps.{entries_for}
 use Rattle.sw_container_steps.specs.declared.cont_answer.ContAnswer.{ContAnswer}
 use Rattle.sw_container_steps.specs.declared.cont_answer.ContAnswer.TheVariants as answers
 use Rattle.sw_container_steps.specs.declared.cont_change.ContChange.{ContChange}
@@ -45,9 +46,9 @@ beside_made (x ∷ xs) left others = trimmed (rows_held left) others
 abbrev pub left_by : Option Tables → Place → ContChange → Option Tables
 left_by read place change = all_entered read (entries_for read place change)
 
--- the step isn't refused over these tables, and enters something: no other step takes memory once they were read
+-- the step isn't refused over these tables and enters something, or it is sent on to a shard: no other step takes memory once they were read
 abbrev pub Enters : Place → ContChange → Option Tables → Type 0
-Enters place change read = (cont_refusal read place change ≡ None) × (entries_for read place change ≢ [])
+Enters place change read = TakesMemory read place change
 
 -- the same, where memory ran out
 abbrev pub EntersOn : ContAnswer → Place → ContChange → Option Tables → Type 0
@@ -122,6 +123,12 @@ module _ {K : Type 0} (tells : K → Bool) (holds : K → Place → Option Table
   CalledBy loads others read k place change answers.Absent n = Looked loads others read k place n
   CalledBy loads others read k place change (answers.Stale time) n = Looked loads others read k place n
   CalledBy loads others read k place change (answers.NotEmpty count) n = Looked loads others read k place n
+  CalledBy loads others read k place change answers.HasRanges n = Looked loads others read k place n
+  CalledBy loads others read k place change answers.NoRanges n = Looked loads others read k place n
+  CalledBy loads others read k place change (answers.Redirect shard) n = Looked loads others read k place n
+  CalledBy loads others read k place change (answers.StillOpen cursor) n = Looked loads others read k place n
+  CalledBy loads others read k place change (answers.Later number) n = Looked loads others read k place n
+  CalledBy loads others read k place change (answers.NotAcked lagging) n = Looked loads others read k place n
   CalledBy loads others read k place change answers.JournalFull n = Looked loads others read k place n
   CalledBy loads others read k place change answers.Failed n = CommitFails loads others read k place change n
   CalledBy loads others read k place change answers.NoMemory n = CommitWants loads others read k place n

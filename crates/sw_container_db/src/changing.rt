@@ -11,10 +11,11 @@ ghost use Rattle.sw_keeper.specs.declared.tables.Tables.{Tables};
 
 use crate::cont_dir::ContDir;
 use crate::entering::{enter, make_room};
-use crate::sign::{Doubt, sign_of};
+use crate::sign::Doubt;
 use std::alloc::Global;
 use sw_container_steps::{
-    ContAnswer, ContChange, ContEntry, Decision, batch_of, decide, has_numbers, made_answer,
+    ContAnswer, ContChange, ContEntry, Decision, batch_of, decide, has_numbers, is_present,
+    made_answer, sign_of,
 };
 use sw_hashpath::Place;
 use sw_keeper::{Keeper, KeeperError};
@@ -65,9 +66,9 @@ impl<K: Keeper + Drop> ContDir<K> {
         let batch: Vec<ContEntry> = entries.into();
         let count = count_of(&self.entries);
         let more = count_of(&batch);
-        let answer = made_answer(tables, change, count + more);
+        let was_there = is_present(tables);
         if more == 0 {
-            return answer;
+            return made_answer(was_there, change, count + more);
         }
         if !has_room(count, more, self.max_entries, has_numbers(tables, &batch)) {
             return ContAnswer::JournalFull;
@@ -85,13 +86,14 @@ impl<K: Keeper + Drop> ContDir<K> {
             Ok(()) => {
                 enter(&mut self.entries, &mut self.fresh, batch);
                 self.loaded.put_last(made.tables);
-                answer
+                made_answer(was_there, change, count + more)
             }
             Err(KeeperError::NoMemory) => {
                 let _ = self.loaded.let_go();
                 ContAnswer::NoMemory
             }
             Err(KeeperError::Failed) => {
+                drop(made);
                 self.doubt = Some(Doubt {
                     place: self.loaded.let_go(),
                     batch,

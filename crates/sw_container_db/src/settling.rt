@@ -12,9 +12,10 @@ ghost use Rattle.sw_history.specs.Halves.{GrowsOf};
 
 use crate::cont_dir::ContDir;
 use crate::entering::{enter, make_room};
-use crate::sign::{Doubt, is_same_sign, sign_of};
+use crate::sign::{Doubt, is_same_sign};
 use std::alloc::Global;
 use std::mem;
+use sw_container_steps::sign_of;
 use sw_keeper::{Keeper, KeeperError};
 
 impl<K: Keeper + Drop> ContDir<K> {

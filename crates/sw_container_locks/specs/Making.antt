@@ -5,14 +5,14 @@ use Rattle.sw_container_db.specs.Calling.{Called, OfNone, ReadCalled, ReadWants,
 use Rattle.sw_container_db.specs.ContDirs.{ContKept}
 use Rattle.sw_container_db.specs.Stepping.{IsReadStep, IsStep}
 use Rattle.sw_container_steps.specs.Presence.{is_present}
-use Rattle.sw_container_steps.specs.Reads.{HasRowsFor}
+use Rattle.sw_container_steps.specs.Reads.{HasClosed, HasRangeRows, HasRowsFor, HasSharding}
 use Rattle.sw_container_steps.specs.Rules.{cont_rules}
 use Rattle.sw_container_steps.specs.declared.cont_answer.ContAnswer.{ContAnswer}
 use Rattle.sw_container_steps.specs.declared.cont_change.ContChange.{ContChange}
 use Rattle.sw_container_steps.specs.declared.cont_entry.ContEntry.{ContEntry}
 use Rattle.sw_hashpath.specs.declared.place.Place.{Place}
 use Rattle.sw_peer.specs.declared.cont_event.ContEvent.{ContEvent}
-use Rattle.sw_peer.specs.declared.cont_event.ContEvent.TheVariants.{Changed, Timed, Informed, Listed, Parceled}
+use Rattle.sw_peer.specs.declared.cont_event.ContEvent.TheVariants.{Changed, Timed, Informed, Listed, Parceled, Sharded, Cleft}
 use Rattle.sw_peer.specs.declared.line.Event.TheVariants.{AtContainer}
 use Rattle.sw_peer.specs.declared.line.Line.{Line}
 use Rattle.sw_peer.specs.declared.link.Link.{Link}
@@ -30,14 +30,16 @@ line_of link device event entered = record { device = device; link = link; event
 abbrev pub taken : {K : Type 0} → ContKept K → ContKept K
 taken k = record k { fresh = [] }
 
--- over which tables a read takes memory once they were read, by how a line tells of it: a listing where the container is there, and rows to be sent
--- where there are any
+-- over which tables a read takes memory once they were read, by how a line tells of it: a listing, and how it is split, where the container is there, and
+-- rows to be sent where there are any
 abbrev pub read_takes : ContEvent → Option Tables → Type 0
 read_takes (Changed place change answer) = OfNone
 read_takes (Timed place got) = OfNone
-read_takes (Informed place got) = OfNone
+read_takes (Informed place got) = HasClosed
 read_takes (Listed place query got) = λ read. is_present read ≡ true
 read_takes (Parceled place device got) = HasRowsFor device
+read_takes (Sharded place got) = HasSharding
+read_takes (Cleft place range above got) = HasRangeRows range above
 
 module _ {K : Type 0} (tells : K → Bool) (holds : K → Place → Option Tables) (faults calls : K → ℕ) where
   -- a step that may change the container, at its lock. What it entered is in the line alone

@@ -2,12 +2,12 @@
 
 ghost use Rattle.std.specs.Prelude.{◌≡◌, []};
 ghost use Rattle.sw_container_locks.specs.Making.{IsChangedIn, IsReadIn, line_of, taken};
-ghost use Rattle.sw_container_steps.specs.Reads.{info_of, listing_of, parcel_of, times_of};
-ghost use Rattle.sw_peer.specs.declared.cont_event.ContEvent.TheVariants.{Changed, Informed, Listed, Parceled, Timed};
+ghost use Rattle.sw_container_steps.specs.Reads.{info_of, listing_of, parcel_of, range_parcel_of, sharding_of, times_of};
+ghost use Rattle.sw_peer.specs.declared.cont_event.ContEvent.TheVariants.{Changed, Cleft, Informed, Listed, Parceled, Sharded, Timed};
 
 use std::alloc::Global;
 use sw_container_db::ContDir;
-use sw_container_steps::{ContAnswer, ContChange, Info, Parcel};
+use sw_container_steps::{ContAnswer, ContChange, Info, Parcel, Sharding};
 use sw_hashpath::Place;
 use sw_keeper::Keeper;
 use sw_listing::{Entries, Query};
@@ -108,11 +108,48 @@ pub(crate) fn sync_rows_in<K: Keeper + Drop>(
     (got, line)
 }
 
+/// Reads how far the container is split into shards, and makes the line of that.
+pub(crate) fn sharding_in<K: Keeper + Drop>(
+    alloc: Global,
+    dir: &mut ContDir<K>,
+    link: Link,
+    device: u8,
+    place: &Place,
+) -> (Result<Sharding, ContAnswer>, KeptLine)
+    requires fresh { dir.old.fresh ≡ [] }
+    ensures { IsReadIn K.tells K.holds K.faults K.calls dir.old link device place.now sharding_of (λ got. Sharded place.now got) result.0 dir.new result.1 }
+{
+    let got = dir.sharding(alloc, place);
+    let event = ContEvent::Sharded(Seen::of(place), Seen::of(&got));
+    let line = line_of(alloc, dir, link, device, event);
+    (got, line)
+}
+
+/// Reads the rows of a range that are above a number, and makes the line of that.
+pub(crate) fn rows_above_in<K: Keeper + Drop>(
+    alloc: Global,
+    dir: &mut ContDir<K>,
+    link: Link,
+    device: u8,
+    place: &Place,
+    range: u32,
+    above: u64,
+) -> (Result<Parcel, ContAnswer>, KeptLine)
+    requires fresh { dir.old.fresh ≡ [] }
+    ensures { IsReadIn K.tells K.holds K.faults K.calls dir.old link device place.now (range_parcel_of range above) (λ got. Cleft place.now range above got)
+        result.0 dir.new result.1 }
+{
+    let got = dir.rows_above(alloc, place, range, above);
+    let event = ContEvent::Cleft(Seen::of(place), range, above, Seen::of(&got));
+    let line = line_of(alloc, dir, link, device, event);
+    (got, line)
+}
+
 /// What a line tells of a step that may change the container.
 fn changed(place: &Place, change: &ContChange, answer: &ContAnswer) -> ContEvent
     ensures { result ≡ Changed place.now change.now answer.now }
 {
-    ContEvent::Changed(Seen::of(place), Seen::of(change), *answer)
+    ContEvent::Changed(Seen::of(place), Seen::of(change), Seen::of(answer))
 }
 
 /// Takes what the step entered out of the lock, and makes the line of it. No memory is taken.

@@ -1,13 +1,13 @@
 ghost use Rattle.sw_container_locks.specs.Making.{IsReadAt};
 ghost use Rattle.sw_container_locks.specs.Slots.{IsOpen};
-ghost use Rattle.sw_container_steps.specs.Reads.{info_of, listing_of, parcel_of, times_of};
-ghost use Rattle.sw_peer.specs.declared.cont_event.ContEvent.TheVariants.{Informed, Listed, Parceled, Timed};
+ghost use Rattle.sw_container_steps.specs.Reads.{info_of, listing_of, parcel_of, range_parcel_of, sharding_of, times_of};
+ghost use Rattle.sw_peer.specs.declared.cont_event.ContEvent.TheVariants.{Cleft, Informed, Listed, Parceled, Sharded, Timed};
 
 use crate::cont_locks::ContLocks;
 use crate::cont_slot::ContSlot;
-use crate::making::{info_in, list_in, sync_rows_in, times_in};
+use crate::making::{info_in, list_in, rows_above_in, sharding_in, sync_rows_in, times_in};
 use std::alloc::Global;
-use sw_container_steps::{ContAnswer, Info, Parcel};
+use sw_container_steps::{ContAnswer, Info, Parcel, Sharding};
 use sw_hashpath::Place;
 use sw_keeper::Keeper;
 use sw_listing::{Entries, Query};
@@ -96,5 +96,46 @@ impl<K: Keeper + Drop> ContLocks<K> {
             unreachable!()
         };
         sync_rows_in(alloc, dir, link, device, place, to)
+    }
+
+    /// Reads how far the container is split into shards. [`ContAnswer::Absent`] exactly where there is none.
+    pub fn sharding(
+        &mut self,
+        alloc: Global,
+        lock: usize,
+        link: Link,
+        device: u8,
+        place: &Place,
+    ) -> (Result<Sharding, ContAnswer>, KeptLine)
+        requires is_open { IsOpen self.old lock }
+        ensures { IsReadAt K.tells K.holds K.faults K.calls lock link device place.now sharding_of (λ got. Sharded place.now got) self.old result.0
+            self.new result.1 }
+    {
+        let ContSlot::Open(dir) = &mut self.slots[lock] else {
+            unreachable!()
+        };
+        sharding_in(alloc, dir, link, device, place)
+    }
+
+    /// Reads the rows of the range with this index that are above a number, and the greatest number given out. [`ContAnswer::Absent`] exactly where there
+    /// is no container, and then [`ContAnswer::NoRanges`] exactly where it has no ranges.
+    pub fn rows_above(
+        &mut self,
+        alloc: Global,
+        lock: usize,
+        link: Link,
+        device: u8,
+        place: &Place,
+        range: u32,
+        above: u64,
+    ) -> (Result<Parcel, ContAnswer>, KeptLine)
+        requires is_open { IsOpen self.old lock }
+        ensures { IsReadAt K.tells K.holds K.faults K.calls lock link device place.now (range_parcel_of range above) (λ got. Cleft place.now range above got)
+            self.old result.0 self.new result.1 }
+    {
+        let ContSlot::Open(dir) = &mut self.slots[lock] else {
+            unreachable!()
+        };
+        rows_above_in(alloc, dir, link, device, place, range, above)
     }
 }
