@@ -2,3 +2,6 @@ mod Running
 mod Paging
 mod Naming
 mod Syncing
+mod Ranging
+mod Pointing
+mod Columns

@@ -1,5 +1,6 @@
 -- What a database tells of itself, over any database. (This project's own.)
-use Rattle.std.specs.Prelude.{◌≡◌, ◌+◌, ◌-◌, ◌<◌, ◌≤◌, ℕ, ℤ, true, pos, length, map, List, [], ◌∷◌, ◌++◌, Option, None, Some, IfSome, slice_get}
+use Rattle.std.specs.Prelude.{◌≡◌, ◌+◌, ◌-◌, ◌<◌, ◌≤◌, ◌⊎◌, ◌≢◌, ℕ, ℤ, Bool, true, pos, length, map, List, [], ◌∷◌, ◌++◌}
+use Rattle.std.specs.Prelude.{Option, None, Some, IfSome, MatchOption, slice_get, unwrap_or}
 use Rattle.std.specs.List.{flat_map}
 use Rattle.std.specs.Option.{option_map}
 use Rattle.std.specs.Str.{bytes_eq}
@@ -9,12 +10,16 @@ use Rattle.sw_hashpath.specs.declared.place.Place.{Place}
 use Rattle.sw_keeper.specs.declared.tables.Tables.{Tables}
 use Rattle.sw_rows.specs.Rows.{Listed}
 use Rattle.sw_rows.specs.declared.numbered.Numbered.{Numbered}
+use Rattle.sw_shard_range.specs.declared.range.Range.{Range}
 use Rattle.sw_sync.specs.Points.{PointList}
 use Rattle.sw_container_store.specs.declared.reading.Info.{Info}
+use Rattle.sw_container_store.specs.declared.reading_ranges.Sharding.{Sharding}
+use Rattle.sw_container_store.specs.declared.reading_ranges.Split.{Split}
 use Rattle.sw_container_store.specs.declared.statements.Query.{Query}
 use Rattle.sw_container_store.specs.declared.statements.Query.TheVariants.{Format, Info as InfoQuery, Top, Rows, Syncs}
+use Rattle.sw_container_store.specs.declared.statements.Query.TheVariants.{Sharding as ShardingQuery, Ranges, Points}
 use Rattle.sw_container_store.specs.OpenList.{is_same}
-use Rattle.sw_container_store.specs.Values.{info_rows, numbered_values, point_values}
+use Rattle.sw_container_store.specs.Values.{info_rows, numbered_values, point_values, range_rows, sharding_values}
 
 -- the greatest number that was given out, as rows have it
 abbrev pub IsTop : List SqlRow → ℕ → Type 0
@@ -32,12 +37,16 @@ abbrev pub AreSyncs : ℕ → ℕ → PointList → Type 0
 AreSyncs low high [] = low ≤ high
 AreSyncs low high (point ∷ points) = (point.0.0 ≡ 0) × (low ≤ point.0.1) × AreSyncs (point.0.1 + 1) high points
 
+-- no more ranges are closed than there are, and all of them where the rows were taken away
+abbrev pub AreWhole : List Range → ℕ → Bool → Type 0
+AreWhole ranges cursor emptied = (cursor ≤ length ranges) × (emptied ≡ true → cursor ≡ length ranges)
+
 module _ {D : Type 0} where
-  -- asked once, it told that its format is that of this project, which has the number 2
+  -- asked once, it told that its format is that of this project, which has the number 3
   pub record TellsFormat (Shows : Query → SqlRow → D → D → List SqlRow → Type 0) (old new : D) : Type 0 where
     pub row : SqlRow
     pub shown : Shows Format [] old new (row ∷ [])
-    pub number : column row 0 ≡ Int (pos 2)
+    pub number : column row 0 ≡ Int (pos 3)
 
   -- asked once, it told this of itself
   abbrev pub TellsInfo : (Query → SqlRow → D → D → List SqlRow → Type 0) → D → D → Option Info → Type 0
@@ -92,7 +101,34 @@ module _ {D : Type 0} where
     pub shown : Shows Syncs [] old new (map point_values points)
     pub each : AreSyncs 0 256 points
 
-  -- it was asked of itself, then its rows, and then its sync points: it is the database of the place, and these are its times, rows and points
+  -- asked once, it told how many ranges are closed, whether the rows were taken away, and how many ranges and points of them there are
+  abbrev pub TellsSharding : (Query → SqlRow → D → D → List SqlRow → Type 0) → D → D → Sharding → Type 0
+  TellsSharding Shows old new sharding = Shows ShardingQuery [] old new (sharding_values sharding ∷ [])
+
+  -- where it has ranges it told exactly these, asked once; else there are none, and it wasn't asked
+  abbrev pub TellsRanges : (Query → SqlRow → D → D → List SqlRow → Type 0) → ℕ → D → D → Option (List Range) → Type 0
+  TellsRanges Shows count old new ranges =
+      MatchOption ranges ((count ≡ 0) × (new ≡ old)) (λ list. (count ≢ 0) × Shows Ranges [] old new (range_rows 0 list))
+
+  -- where it has points of ranges it told exactly these, asked once; else there are none, and it wasn't asked
+  abbrev pub TellsPoints : (Query → SqlRow → D → D → List SqlRow → Type 0) → ℕ → D → D → PointList → Type 0
+  TellsPoints Shows count old new points =
+      ((count ≡ 0) × (points ≡ []) × (new ≡ old)) ⊎ ((count ≢ 0) × Shows Points [] old new (map point_values points))
+
+  -- it was asked how far it is split, then its ranges and the points of them, where it has any: this is how far, and no range is closed that isn't there
+  pub record TellsSplit (Shows : Query → SqlRow → D → D → List SqlRow → Type 0) (old new : D) (split : Split) : Type 0 where
+    pub sharding : Sharding
+    pub mid : D
+    pub read : D
+    pub told : TellsSharding Shows old mid sharding
+    pub ranges : TellsRanges Shows sharding.ranges mid read split.ranges
+    pub points : TellsPoints Shows sharding.points read new split.points
+    pub cursor : split.cursor ≡ sharding.cursor
+    pub emptied : split.emptied ≡ sharding.emptied
+    pub whole : AreWhole (unwrap_or split.ranges []) split.cursor split.emptied
+
+  -- it was asked of itself, then its rows, then its sync points, and then how far it is split: it is the database of the place, and these are its times,
+  -- rows and points, and its ranges with all that is kept of them
   pub record TellsHeld (Shows : Query → SqlRow → D → D → List SqlRow → Type 0) (place : Place) (old new : D) (tables : Tables) : Type 0 where
     pub mid : D
     pub read : D
@@ -100,7 +136,9 @@ module _ {D : Type 0} where
     pub same : is_same its place ≡ true
     pub info : TellsInfo Shows old mid (Some record { place = its; put_time = tables.put_time; delete_time = tables.delete_time })
     pub rows : TellsRows Shows mid read tables.rows
-    pub syncs : TellsSyncs Shows read new tables.syncs
+    pub synced : D
+    pub syncs : TellsSyncs Shows read synced tables.syncs
+    pub split : TellsSplit Shows synced new (record { ranges = tables.ranges; cursor = tables.cursor; points = tables.points; emptied = tables.emptied })
 
   -- these tables are in it: where none are it was asked of itself, and nothing else
   abbrev pub TellsTables : (Query → SqlRow → D → D → List SqlRow → Type 0) → Place → D → D → Option Tables → Type 0

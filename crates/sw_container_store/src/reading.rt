@@ -9,6 +9,7 @@ ghost use Rattle.sw_timestamp.specs.TimeText.{text_of};
 
 use crate::database::{Damage, Database};
 use crate::open_list::{has_hash, is_same};
+use crate::reading_ranges::split_in;
 use crate::statements::{Query, WHOLE};
 use sqlite::Row;
 use sqlite::types::ValueRef;
@@ -40,11 +41,16 @@ pub(crate) fn tables_in<D: Database>(
     }
     let rows = rows_in(alloc, database)?;
     let syncs = syncs_in(alloc, database)?;
+    let split = split_in(alloc, database)?;
     Ok(Some(Tables {
         put_time: info.put_time,
         delete_time: info.delete_time,
         rows,
+        ranges: split.ranges,
+        cursor: split.cursor,
+        points: split.points,
         syncs,
+        emptied: split.emptied,
     }))
 }
 
@@ -64,14 +70,14 @@ pub(crate) fn check<D: Database>(
     }
 }
 
-/// Whether the database has the format of this project, which has the number 2.
+/// Whether the database has the format of this project, which has the number 3.
 pub(crate) fn check_format<D: Database>(database: &mut D) -> Result<(), StoreError>
     ensures told { OnOk result (TellsFormat D.shows database.old database.new) }
     ensures key { D.key database.new ≡ D.key database.old }
 {
     let rows = database.ask(Query::Format, &[])?;
     match rows.as_slice() {
-        [row] if number(row, 0) == Some(2) => Ok(()),
+        [row] if number(row, 0) == Some(3) => Ok(()),
         _ => Err(database.refuse(Damage::Format)),
     }
 }
@@ -344,7 +350,7 @@ pub(crate) fn number(row: &Row, at: usize) -> Option<u64>
 }
 
 /// Whether the number in a column is 1, where it is that or 0.
-fn flag(row: &Row, at: usize) -> Option<bool>
+pub(crate) fn flag(row: &Row, at: usize) -> Option<bool>
     ensures { IfSome result (λ flag. column row.now at ≡ value.Int (pos (if flag then 1 else 0))) }
 {
     match row.get_ref(at) {
@@ -355,7 +361,7 @@ fn flag(row: &Row, at: usize) -> Option<bool>
 }
 
 /// The digest in a column, where one stands there.
-fn digest(row: &Row, at: usize) -> Option<[u8; 16]>
+pub(crate) fn digest(row: &Row, at: usize) -> Option<[u8; 16]>
     ensures { IfSome result (λ digest. column row.now at ≡ value.Blob digest) }
 {
     match row.get_ref(at) {

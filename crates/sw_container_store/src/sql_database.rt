@@ -1,11 +1,11 @@
-ghost use Rattle.std.specs.Prelude.{◌≡◌, Ok, IfOk, string_bytes};
+ghost use Rattle.std.specs.Prelude.{◌≡◌, ℕ, true, Ok, IfOk, IfSome, string_bytes};
 ghost use Rattle.sqlite.specs.Files.{file_state};
 ghost use Rattle.sqlite.specs.State.{Executes, HasCleanDisk, Shown};
 ghost use Rattle.sw_container_store.specs.Statements.{changes_of, command_text, query_text};
 
 use crate::database::{Damage, Database};
 use crate::reading::number;
-use crate::statements::{Command, Query, SCHEMA, UPGRADE};
+use crate::statements::{Command, Query, SCHEMA, UPGRADE_1, UPGRADE_2};
 use sqlite::types::ValueRef;
 use sqlite::{Connection, Error, ErrorCode, File, FileStore, Row};
 use std::io;
@@ -23,8 +23,8 @@ pub struct SqlDatabase<'a, N: Notes> {
 }
 
 impl<'a, N: Notes> SqlDatabase<'a, N> {
-    /// Opens the database at a path, and makes it with its tables where there is none. One of format 1 gets the table that it lacks. An open looks at the
-    /// whole of it.
+    /// Opens the database at a path, and makes it with its tables where there is none. One of an earlier format gets the tables that it lacks. An open looks at
+    /// the whole of it.
     pub fn open(rt: &HostRuntime, notes: &'a N, path: String) -> Result<Self, StoreError>
         ensures { IfOk result (λ d. d.path ≡ path) }
     {
@@ -64,17 +64,31 @@ fn make_missing(connection: &mut Connection<FileStore<File>>) -> Result<(), Erro
         return connection.execute_batch(SCHEMA);
     }
     let rows = connection.query_all(Query::Format.text(), &[])?;
-    if is_first_format(&rows) {
-        connection.execute_batch(UPGRADE)?;
+    let format = format_of(&rows);
+    if format == Some(1) {
+        connection.execute_batch(UPGRADE_1)?;
+    }
+    if format == Some(1) || format == Some(2) {
+        connection.execute_batch(UPGRADE_2)?;
     }
     Ok(())
 }
 
-/// Whether the rows of the format say that it is format 1.
-fn is_first_format(rows: &[Row]) -> bool {
+/// The number of the format that these rows tell, where they tell one.
+fn format_of(rows: &[Row]) -> Option<u64> {
     match rows {
-        [row] => number(row, 0) == Some(1),
-        _ => false,
+        [row] => number(row, 0),
+        _ => None,
+    }
+}
+
+/// Whether a command may have changed so many rows.
+fn has_changed(command: Command, changed: usize) -> bool
+    ensures { result ≡ true → IfSome (changes_of command) (λ n. changed ≡ n) }
+{
+    match command.changes() {
+        Some(number) => changed == number,
+        None => true,
     }
 }
 
@@ -113,14 +127,15 @@ impl<N: Notes> Database for SqlDatabase<'_, N> {
     ghost key = { λ d. string_bytes d.path };
 
     ghost runs = { λ command values old new. HasCleanDisk (file_state new.connection)
-        → Executes (command_text command) values (file_state old.connection) (file_state new.connection) (Ok (changes_of command)) };
+        → (changed : ℕ) × IfSome (changes_of command) (λ n. changed ≡ n)
+        × Executes (command_text command) values (file_state old.connection) (file_state new.connection) (Ok changed) };
 
     ghost shows = { λ query values old new rows. HasCleanDisk (file_state new.connection)
         → Shown (query_text query) values (file_state old.connection) (file_state new.connection) rows };
 
     fn run(&mut self, command: Command, values: &[ValueRef<'_>]) -> Result<(), StoreError> {
         match self.connection.execute(command.text(), values) {
-            Ok(changed) if changed == command.changes() => Ok(()),
+            Ok(changed) if has_changed(command, changed) => Ok(()),
             Ok(_) => Err(self.refuse(Damage::Change)),
             Err(error) => Err(failed(
                 self.notes,

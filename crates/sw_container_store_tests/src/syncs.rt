@@ -20,7 +20,7 @@ const WITH_POINTS: &str =
     "5 0 1\n1 6f 5 3 746578742f706c61696e 07070707070707070707070707070707 false\nsync 3 9\nsync 255 7";
 
 /// Creates a container, by a keeper of its own.
-fn create<O: Opens>(alloc: Global, host: &O, root: &str) -> Result<(), Fail> {
+pub(crate) fn create<O: Opens>(alloc: Global, host: &O, root: &str) -> Result<(), Fail> {
     let place = place(alloc, "c")?;
     let mut store = host.open(root)?;
     store.commit(alloc, &place, &creation(alloc, "o", 5)?)?;
@@ -51,7 +51,7 @@ fn a_later_start_finds_the_sync_points(rt: HostRuntime) -> Result<(), Fail> {
 }
 
 /// Changes the database of that container, which no keeper has open.
-fn change(rt: &HostRuntime, root: &str, statements: &str) -> Result<(), Fail> {
+pub(crate) fn change(rt: &HostRuntime, root: &str, statements: &str) -> Result<(), Fail> {
     let place = place(rt.alloc(), "c")?;
     let path = database_path(rt.alloc(), root, &place)?;
     let mut connection = Connection::open(rt, path.as_str())?;
@@ -68,7 +68,7 @@ fn a_database_from_before_there_were_sync_points_takes_them(rt: HostRuntime) -> 
     change(
         &rt,
         &root,
-        "BEGIN; DROP TABLE outgoing_sync; UPDATE format SET version = 1; COMMIT",
+        "BEGIN; DROP TABLE outgoing_sync; DROP TABLE shard_range; DROP TABLE shard_sync; DROP TABLE sharding; UPDATE format SET version = 1; COMMIT",
     )?;
     assert_eq!(rt;
         text_with_points(rt.alloc(), &host, &root)?.as_str(),

@@ -1,5 +1,6 @@
-use Rattle.std.proofs.Common.{◌≡◌, ◌∙◌, ◌∷◌, ◌+◌, ◌++◌, ◌≤◌, [], List, length, map, take, refl, sym, ap, subst}
+use Rattle.std.proofs.Common.{◌≡◌, ◌∙◌, ◌∷◌, ◌+◌, ◌++◌, ◌≤◌, [], List, length, take, refl, sym, ap, subst}
 use Rattle.std.proofs.lemmas.List.{take_all, take_more}
+use Rattle.std.specs.List.{flat_map}
 use Rattle.sw_keeper.specs.declared.batch.Change.{Change}
 use Rattle.sw_container_store.specs.Runs.{RunsAll}
 use Rattle.sw_container_store.specs.Values.{asked_of, begin, commit}
@@ -27,10 +28,10 @@ loop-change-preserved g c =
 
 pub returns-clause-runs : goal.returns-clause-runs
 returns-clause-runs g c =
-    runs-all g.D.Database.runs begin (map (asked_of c.args.place.now) c.args.batch.now) commit c.args.database.now c.run.new.self
+    runs-all g.D.Database.runs begin (flat_map (asked_of c.args.place.now) c.args.batch.now) commit c.args.database.now c.run.new.self
     c.loop-change.database c.run-2.new.self
     c.in_ok-run.ensures.runs
-    (subst (λ (xs : List Change). RunsAll g.D.Database.runs (map (asked_of c.args.place.now) xs) c.run.new.self c.loop-change.database)
+    (subst (λ (xs : List Change). RunsAll g.D.Database.runs (flat_map (asked_of c.args.place.now) xs) c.run.new.self c.loop-change.database)
     (take_all c.loop-change.change-index c.args.batch.now
     (subst (λ (xs : List Change). length xs ≤ c.loop-change.change-index) c.as_slice-change-items.ensures c.loop-change-test.false))
     c.loop-change.invariant.asked)
