@@ -1,13 +1,13 @@
 ghost use Rattle.std.specs.Prelude.{◌≡◌, ◌<◌, true};
-ghost use Rattle.sw_container_steps.specs.Reads.{info_of, listing_of, parcel_of, times_of};
+ghost use Rattle.sw_container_steps.specs.Reads.{info_of, listing_of, parcel_of, range_parcel_of, sharding_of, times_of};
 ghost use Rattle.sw_peer.specs.ContSights.{IsContMade, IsLooked};
 ghost use Rattle.sw_peer.specs.Sights.{Calls, Sight};
-ghost use Rattle.sw_peer.specs.declared.cont_event.ContEvent.TheVariants.{Informed, Listed, Parceled, Timed};
+ghost use Rattle.sw_peer.specs.declared.cont_event.ContEvent.TheVariants.{Cleft, Informed, Listed, Parceled, Sharded, Timed};
 
 use crate::door::Door;
 use crate::link::{Link, Lost};
 use std::alloc::Global;
-use sw_container_steps::{ContAnswer, ContChange, Info, Parcel};
+use sw_container_steps::{ContAnswer, ContChange, Info, Parcel, Sharding};
 use sw_hashpath::Place;
 use sw_listing::{Entries, Query};
 use sw_timestamp::Timestamp;
@@ -86,5 +86,36 @@ pub trait ContainerDoor: Door {
         requires fits { (Self.sight self.old).nodes.fits_place place.now ≡ true }
         ensures read { Calls (IsLooked link device place.now (parcel_of to) (λ got. Parceled place.now to got)) (Self.sight self.old) link result
             (Self.sight self.new) }
+        ensures asks { (Self.sight self.new).asks ≡ (Self.sight self.old).asks };
+
+    /// Reads how far the container is split into shards. [`ContAnswer::Absent`] exactly where there is none.
+    fn sharding(
+        &mut self,
+        alloc: Global,
+        link: Link,
+        device: u8,
+        place: &Place,
+    ) -> Result<Result<Sharding, ContAnswer>, Lost>
+        requires device { device < (Self.sight self.old).nodes.devices }
+        requires fits { (Self.sight self.old).nodes.fits_place place.now ≡ true }
+        ensures read { Calls (IsLooked link device place.now sharding_of (λ got. Sharded place.now got)) (Self.sight self.old) link result
+            (Self.sight self.new) }
+        ensures asks { (Self.sight self.new).asks ≡ (Self.sight self.old).asks };
+
+    /// Reads the rows of the range with this index that are above a number, and the greatest number given out. [`ContAnswer::Absent`] exactly where there
+    /// is no container, and then [`ContAnswer::NoRanges`] exactly where it has no ranges.
+    fn rows_above(
+        &mut self,
+        alloc: Global,
+        link: Link,
+        device: u8,
+        place: &Place,
+        range: u32,
+        above: u64,
+    ) -> Result<Result<Parcel, ContAnswer>, Lost>
+        requires device { device < (Self.sight self.old).nodes.devices }
+        requires fits { (Self.sight self.old).nodes.fits_place place.now ≡ true }
+        ensures read { Calls (IsLooked link device place.now (range_parcel_of range above) (λ got. Cleft place.now range above got)) (Self.sight self.old)
+            link result (Self.sight self.new) }
         ensures asks { (Self.sight self.new).asks ≡ (Self.sight self.old).asks };
 }

@@ -105,7 +105,11 @@ cont-moves-quiet : (at : ℕ → Place → Type 0) (s t : Sight) → ContMoves a
 cont-moves-quiet at s t p = record { nodes = p.nodes; objects = p.objects; containers = p.containers; alone = p.alone; faults = p.faults }
 
 pub cont-made-blind : (link : Link) (device : ℕ) (place : Place) (change : ContChange) → IsBlind (IsContMade link device place change)
-cont-made-blind link device place change s t x step = record { moves = cont-moves-quiet (IsIn device place) s t step.moves; step = step.step; trail = inl refl }
+cont-made-blind link device place change s t x step = record {
+  moves = cont-moves-quiet (IsIn device place) s t step.moves;
+  step = step.step;
+  trail = inl refl;
+}
 
 pub looked-blind : {A : Type 0} (link : Link) (device : ℕ) (place : Place) (reading : Option Tables → ℕ → Result A ContAnswer)
     (event : Result A ContAnswer → ContEvent) → IsBlind (IsLooked link device place reading event)

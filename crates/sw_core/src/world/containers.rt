@@ -1,6 +1,6 @@
 use crate::world::World;
 use std::alloc::Global;
-use sw_container_steps::{ContAnswer, ContChange, Info, Parcel};
+use sw_container_steps::{ContAnswer, ContChange, Info, Parcel, Sharding};
 use sw_hashpath::Place;
 use sw_keeper::Keeper;
 use sw_listing::{Entries, Query};
@@ -101,6 +101,44 @@ impl<V: Volume + Drop, K: Keeper + Drop> ContainerDoor for World<V, K> {
         let (got, line) = self
             .containers
             .sync_rows(alloc, lock, link, device, place, to);
+        self.lines.push_reserved(line);
+        Ok(got)
+    }
+
+    fn sharding(
+        &mut self,
+        alloc: Global,
+        link: Link,
+        device: u8,
+        place: &Place,
+    ) -> Result<Result<Sharding, ContAnswer>, Lost> {
+        let lock = self.lock(device, &place.hash);
+        if self.lines.reserve(1).is_err() {
+            self.containers.may_stand(lock);
+            return Ok(Err(ContAnswer::NoMemory));
+        }
+        let (got, line) = self.containers.sharding(alloc, lock, link, device, place);
+        self.lines.push_reserved(line);
+        Ok(got)
+    }
+
+    fn rows_above(
+        &mut self,
+        alloc: Global,
+        link: Link,
+        device: u8,
+        place: &Place,
+        range: u32,
+        above: u64,
+    ) -> Result<Result<Parcel, ContAnswer>, Lost> {
+        let lock = self.lock(device, &place.hash);
+        if self.lines.reserve(1).is_err() {
+            self.containers.may_stand(lock);
+            return Ok(Err(ContAnswer::NoMemory));
+        }
+        let (got, line) = self
+            .containers
+            .rows_above(alloc, lock, link, device, place, range, above);
         self.lines.push_reserved(line);
         Ok(got)
     }

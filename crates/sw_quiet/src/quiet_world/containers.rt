@@ -1,6 +1,6 @@
 use crate::quiet_world::QuietWorld;
 use std::alloc::Global;
-use sw_container_steps::{ContAnswer, ContChange, Info, Parcel};
+use sw_container_steps::{ContAnswer, ContChange, Info, Parcel, Sharding};
 use sw_hashpath::Place;
 use sw_keeper::Keeper;
 use sw_listing::{Entries, Query};
@@ -71,6 +71,34 @@ impl<V: Volume + Drop, K: Keeper + Drop> ContainerDoor for QuietWorld<V, K> {
         to: u8,
     ) -> Result<Result<Parcel, ContAnswer>, Lost> {
         let got = self.world.sync_rows(alloc, link, device, place, to);
+        let _ = self.world.take_trail(alloc);
+        got
+    }
+
+    fn sharding(
+        &mut self,
+        alloc: Global,
+        link: Link,
+        device: u8,
+        place: &Place,
+    ) -> Result<Result<Sharding, ContAnswer>, Lost> {
+        let got = self.world.sharding(alloc, link, device, place);
+        let _ = self.world.take_trail(alloc);
+        got
+    }
+
+    fn rows_above(
+        &mut self,
+        alloc: Global,
+        link: Link,
+        device: u8,
+        place: &Place,
+        range: u32,
+        above: u64,
+    ) -> Result<Result<Parcel, ContAnswer>, Lost> {
+        let got = self
+            .world
+            .rows_above(alloc, link, device, place, range, above);
         let _ = self.world.take_trail(alloc);
         got
     }

@@ -93,7 +93,8 @@ returns-clause-made g c =
     let lock = rw (sym c.self.view_is) at c.lock-lock.ensures.lock in
     let items : c.push_reserved.new.self.items ≡ w.lines ++ c.change-answer.result.1 ∷ [] = c.push_reserved.ensures.items ∙ rw c.reserve.ensures.items refl in
     rw (sym c.self.view_is)
-    (world-change v.tells v.holds v.faults (keeper_seen k.tells k.holds k.faults) w c.args.link c.args.device c.args.place.now c.args.change.now k.calls
+    (world-change v.tells v.holds v.faults (keeper_seen k.tells k.holds k.faults) w c.args.link c.args.device c.args.place.now c.args.change.now
+    k.calls
     c.change-answer.result.0 c.change-answer.new.self
     c.change-answer.result.1 c.push_reserved.new.self.items
     (rw lock at c.change-answer.ensures) items)
