@@ -1,27 +1,30 @@
 -- What a step leaves of the rows and the sync points of its container.
 use Rattle.std.proofs.Common.{◌≡◌, ◌≢◌, ℕ, Bool, true, false, cond, nat_lt, List, [], ◌∷◌, ◌++◌, All, Option, None, Some, ◌⊎◌, inl, inr, refl, sym, ◌∙◌, ap}
-use Rattle.std.proofs.Common.{subst}
+use Rattle.std.proofs.Common.{◌+◌, length, subst}
 use Rattle.std.specs.Bool.{⊤}
 use Rattle.std.specs.List.{fold}
 use Rattle.std.proofs.lemmas.List.Elements.{All-append, All-cons, All-head, All-nil, All-tail}
 use Rattle.std.proofs.lemmas.List.Sums.{fold-append}
 use Rattle.sw_container_steps.proofs.Leaving.{rows-are-merged}
 use Rattle.sw_container_steps.proofs.Ruling.{made-whole}
-use Rattle.sw_container_steps.specs.Entries.{entered, rows_of}
+use Rattle.sw_container_steps.specs.Entries.{closed, entered, ranged, rows_of}
 use Rattle.sw_container_steps.specs.Laws.{left}
 use Rattle.sw_container_steps.specs.Rules.{ContHistory, cont_ending, cont_rules}
 use Rattle.sw_container_steps.specs.Steps.{cont_refusal, created_by, creator, entries_for, merging_entries, rows_entries}
 use Rattle.sw_container_steps.specs.declared.cont_answer.ContAnswer.{ContAnswer}
 use Rattle.sw_container_steps.specs.declared.cont_change.ContChange.{ContChange}
-use Rattle.sw_container_steps.specs.declared.cont_change.ContChange.TheVariants.{Create, Remove, MergeRow, MergeRows, SetSync}
+use Rattle.sw_container_steps.specs.declared.cont_change.ContChange.TheVariants.{Create, Remove, MergeRow, MergeRows, SetRanges, Ack, CloseRange}
+use Rattle.sw_container_steps.specs.declared.cont_change.ContChange.TheVariants.{EmptyOut, SetSync}
 use Rattle.sw_container_steps.specs.declared.cont_entry.ContEntry.{ContEntry}
-use Rattle.sw_container_steps.specs.declared.cont_entry.ContEntry.TheVariants.{Created, Removed, Merged, Synced}
+use Rattle.sw_container_steps.specs.declared.cont_entry.ContEntry.TheVariants.{Created, Removed, Merged, Ranged, Acked, Closed, Emptied, Synced}
 use Rattle.sw_cont_replicator.specs.Meeting.{HasRow, point_in}
 use Rattle.sw_hashpath.specs.declared.place.Place.{Place}
 use Rattle.sw_keeper.specs.declared.tables.Tables.{Tables}
 use Rattle.sw_rows.proofs.Greater.{StandsFor, stands-merged, still-fold}
 use Rattle.sw_rows.specs.Rows.{Listed, find_named, fits, merged}
 use Rattle.sw_rows.specs.declared.row.Row.{Row}
+use Rattle.sw_shard_range.specs.States.{with_state}
+use Rattle.sw_shard_range.specs.declared.range.Range.{Range}
 use Rattle.sw_step.specs.Rules.{Damages, Ending, Fails, Makes, Overflows, Refuses, Wants, has_made}
 use Rattle.sw_step.specs.Steps.{Answers, EndsSeen, EndsUnseen, IsDone, StepChanges}
 use Rattle.sw_sync.proofs.Setting.{point-other, point-set}
@@ -68,21 +71,44 @@ module _ (S : Row → Type 0) where
 
   -- ---- entries
 
-  -- it sets no point, and the row that it merges, where it merges one, is of this kind
+  -- it sets no point and takes no rows away, and the row that it merges, where it merges one, is of this kind
   abbrev pub MergesOnly : ContEntry → Type 0
   MergesOnly (Created place time) = ⊤
   MergesOnly (Removed place time) = ⊤
   MergesOnly (Merged place row) = S row
+  MergesOnly (Ranged place ranges) = ⊤
+  MergesOnly (Acked place range device rowid) = ⊤
+  MergesOnly (Closed place range) = ⊤
+  MergesOnly (Emptied place) = ⊥
   MergesOnly (Synced place device rowid) = ⊥
 
   abbrev pub AllMerge : List ContEntry → Type 0
   AllMerge [] = ⊤
   AllMerge (e ∷ es) = MergesOnly e × AllMerge es
 
+  ranged-merges : (t : Tables) (o : Option (List Range)) (ranges : List Range) → Merges S (Some t) (Some (ranged t o ranges))
+  ranged-merges t None ranges = merges-none (Some t) (Some (ranged t None ranges)) refl (λ device. refl)
+  ranged-merges t (Some old) ranges = merges-same (Some t) (Some t) refl
+
+  closed-merges : (t : Tables) (o : Option (List Range)) → Merges S (Some t) (Some (closed t o))
+  closed-merges t None = merges-same (Some t) (Some t) refl
+  closed-merges t (Some ranges) = by (nat_lt t.cursor (length ranges))
+    where
+      next : Tables
+      next = record t { ranges = Some (with_state 30 t.cursor ranges); cursor = t.cursor + 1 }
+
+      by : (b : Bool) → Merges S (Some t) (Some (cond b next t))
+      by true = merges-none (Some t) (Some next) refl (λ device. refl)
+      by false = merges-same (Some t) (Some t) refl
+
   entered-merges : (t : Option Tables) (e : ContEntry) → MergesOnly e → Merges S t (entered t e)
   entered-merges None (Created place time) only = merges-none None (entered None (Created place time)) refl (λ device. refl)
   entered-merges None (Removed place time) only = merges-same None None refl
   entered-merges None (Merged place row) only = merges-same None None refl
+  entered-merges None (Ranged place ranges) only = merges-same None None refl
+  entered-merges None (Acked place range device rowid) only = merges-same None None refl
+  entered-merges None (Closed place range) only = merges-same None None refl
+  entered-merges None (Emptied place) only = absurd only
   entered-merges None (Synced place device rowid) only = absurd only
   entered-merges (Some t) (Created place time) only = merges-none (Some t) (entered (Some t) (Created place time)) refl (λ device. refl)
   entered-merges (Some t) (Removed place time) only = merges-none (Some t) (entered (Some t) (Removed place time)) refl (λ device. refl)
@@ -92,6 +118,11 @@ module _ (S : Row → Type 0) where
     merged_is = refl;
     points = λ device. refl;
   }
+  entered-merges (Some t) (Ranged place ranges) only = ranged-merges t t.ranges ranges
+  entered-merges (Some t) (Acked place range device rowid) only =
+      merges-none (Some t) (entered (Some t) (Acked place range device rowid)) refl (λ other. refl)
+  entered-merges (Some t) (Closed place range) only = closed-merges t t.ranges
+  entered-merges (Some t) (Emptied place) only = absurd only
   entered-merges (Some t) (Synced place device rowid) only = absurd only
 
   all-merges : (t : Option Tables) (es : List ContEntry) → AllMerge es → Merges S t (fold entered t es)
@@ -101,12 +132,16 @@ module _ (S : Row → Type 0) where
 
   -- ---- the entries of a step
 
-  -- it sets no point, and brings rows of this kind alone
+  -- it sets no point and takes no rows away, and brings rows of this kind alone
   abbrev pub BringsOnly : ContChange → Type 0
   BringsOnly (Create time) = ⊤
   BringsOnly (Remove time) = ⊤
   BringsOnly (MergeRow row) = S row
   BringsOnly (MergeRows rows) = All S rows
+  BringsOnly (SetRanges ranges) = ⊤
+  BringsOnly (Ack range device rowid) = ⊤
+  BringsOnly (CloseRange range devices) = ⊤
+  BringsOnly EmptyOut = ⊥
   BringsOnly (SetSync device rowid) = ⊥
 
   both-merge : (es fs : List ContEntry) → AllMerge es → AllMerge fs → AllMerge (es ++ fs)
@@ -142,6 +177,20 @@ module _ (S : Row → Type 0) where
   entries-merge t place (Remove time) only = (tt, tt)
   entries-merge t place (MergeRow row) only = brought-merge t place (row ∷ []) (All-cons S row [] only (All-nil S))
   entries-merge t place (MergeRows rows) only = brought-merge t place rows only
+  entries-merge t place (SetRanges ranges) only = (tt, tt)
+  entries-merge None place (Ack range device rowid) only = tt
+  entries-merge (Some t) place (Ack range device rowid) only = by (is_above rowid (point_at t.points range device))
+    where
+      by : (b : Bool) → AllMerge (cond b (Acked place range device rowid ∷ []) [])
+      by true = (tt, tt)
+      by false = tt
+  entries-merge None place (CloseRange range devices) only = tt
+  entries-merge (Some t) place (CloseRange range devices) only = by (nat_lt range t.cursor)
+    where
+      by : (b : Bool) → AllMerge (cond b [] (Closed place range ∷ []))
+      by true = tt
+      by false = (tt, tt)
+  entries-merge t place EmptyOut only = absurd only
   entries-merge t place (SetSync device rowid) only = absurd only
 
 -- ---- a step of a lock that tells, and that nobody else changes

@@ -6,7 +6,8 @@ use Rattle.sw_container_steps.proofs.Placing.{place-cases}
 use Rattle.sw_container_steps.specs.Entries.{rows_of}
 use Rattle.sw_container_steps.specs.declared.cont_answer.ContAnswer.{ContAnswer}
 use Rattle.sw_container_steps.specs.declared.cont_change.ContChange.{ContChange}
-use Rattle.sw_container_steps.specs.declared.cont_change.ContChange.TheVariants.{Create, Remove, MergeRow, MergeRows, SetSync}
+use Rattle.sw_container_steps.specs.declared.cont_change.ContChange.TheVariants.{Create, Remove, MergeRow, MergeRows, SetRanges, Ack, CloseRange}
+use Rattle.sw_container_steps.specs.declared.cont_change.ContChange.TheVariants.{EmptyOut, SetSync}
 use Rattle.sw_container_steps.specs.declared.syncing.Parcel.{Parcel}
 use Rattle.sw_cont_replicator.proofs.Entering.{BringsOnly, Merges, merges-same}
 use Rattle.sw_cont_replicator.proofs.Keeping.{run-keeps}
@@ -174,15 +175,19 @@ points-begin place s none d e = subst (λ (x : Option Tables). TellsTruly e x (r
   has = λ point is. cc;
 })
 
-brings-any : (change : ContChange) → ((to point : ℕ) → change ≢ SetSync to point) → BringsOnly Any change
-brings-any (Create time) unset = tt
-brings-any (Remove time) unset = tt
-brings-any (MergeRow row) unset = tt
-brings-any (MergeRows rows) unset = all-any rows
-brings-any (SetSync device rowid) unset = absurd (unset device rowid refl)
+brings-any : (change : ContChange) → ((to point : ℕ) → change ≢ SetSync to point) → change ≢ EmptyOut → BringsOnly Any change
+brings-any (Create time) unset keeps = tt
+brings-any (Remove time) unset keeps = tt
+brings-any (MergeRow row) unset keeps = tt
+brings-any (MergeRows rows) unset keeps = all-any rows
+brings-any (SetRanges ranges) unset keeps = tt
+brings-any (Ack range device rowid) unset keeps = tt
+brings-any (CloseRange range devices) unset keeps = tt
+brings-any EmptyOut unset keeps = absurd (keeps refl)
+brings-any (SetSync device rowid) unset keeps = absurd (unset device rowid refl)
 
 pub steps-keep-points : StepsKeepPoints
-steps-keep-points link device at change s answer t place made unset told alone points =
+steps-keep-points link device at change s answer t place made unset keeps told alone points =
     points-merged place s t (λ d. by d (cases_eq d device) (place-cases place at)) points
   where
     sure : Sure device at t
@@ -192,7 +197,7 @@ steps-keep-points link device at change s answer t place made unset told alone p
     by d (inl own) (inl here) =
         subst (λ (k : ℕ). Merges Any (replica s k place) (replica t k place)) (sym own)
         (subst (λ (p : Place). Merges Any (replica s device p) (replica t device p)) (sym here)
-        (here-merges link device at change s answer t made sure Any (brings-any change unset)))
+        (here-merges link device at change s answer t made sure Any (brings-any change unset keeps)))
     by d (inr away) same =
         merges-same Any (replica s d place) (replica t d place) (elsewhere link device at change s answer t made alone d place (λ is. away is.0))
     by d own (inr other) =

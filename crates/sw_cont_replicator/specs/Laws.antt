@@ -3,7 +3,7 @@ use Rattle.std.specs.Prelude.{◌≡◌, ◌≢◌, ℕ, ◌<◌, true, List, Al
 use Rattle.sw_container_steps.specs.Entries.{rows_of}
 use Rattle.sw_container_steps.specs.declared.cont_answer.ContAnswer.{ContAnswer}
 use Rattle.sw_container_steps.specs.declared.cont_change.ContChange.{ContChange}
-use Rattle.sw_container_steps.specs.declared.cont_change.ContChange.TheVariants.{SetSync}
+use Rattle.sw_container_steps.specs.declared.cont_change.ContChange.TheVariants.{EmptyOut, SetSync}
 use Rattle.sw_cont_replicator.specs.Meeting.{Agree, GoesAlone, HasRow, IsDone, PointsTell, IsTold, TellsTruly, greatest, owed_above, replica, row_in}
 use Rattle.sw_cont_replicator.specs.Pushing.{IsPush}
 use Rattle.sw_hashpath.specs.declared.place.Place.{Place}
@@ -63,10 +63,11 @@ ExchangesAgree = (a b : ℕ) (place : Place) (s m n t : Sight) → IsExchange a 
 abbrev pub PointsBegin : Type 0
 PointsBegin = (place : Place) (s : Sight) → ((d : ℕ) → replica s d place ≡ None) → PointsTell place s
 
--- a step at any container of any device keeps them, however it ends, but one that sets a point
+-- A step at any container of any device keeps them, however it ends, but one that sets a point, and one that takes the rows away: a device whose rows are at
+-- the shards has none of those that others know it to have
 abbrev pub StepsKeepPoints : Type 0
 StepsKeepPoints = (link : Link) (device : ℕ) (at : Place) (change : ContChange) (s : Sight) (answer : ContAnswer) (t : Sight) (place : Place)
-    → IsContMade link device at change s answer t → ((to point : ℕ) → change ≢ SetSync to point) → IsTold device at s → t.alone ≡ true
+    → IsContMade link device at change s answer t → ((to point : ℕ) → change ≢ SetSync to point) → change ≢ EmptyOut → IsTold device at s → t.alone ≡ true
     → PointsTell place s → PointsTell place t
 
 -- and so does a restart

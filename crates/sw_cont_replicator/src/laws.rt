@@ -33,7 +33,7 @@ pub fn points_begin()
     ensures { PointsBegin }
 {}
 
-/// A step at a container that sets no sync point keeps them telling truly, however it ends.
+/// A step at a container that sets no sync point, and takes no rows away, keeps them telling truly, however it ends.
 pub fn steps_keep_points()
     ensures { StepsKeepPoints }
 {}

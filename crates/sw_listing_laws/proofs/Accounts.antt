@@ -1,5 +1,5 @@
 -- The ledger that accounts for a machine.
-use Rattle.std.proofs.Common.{◌≡◌, ℕ, true, List, Some, ◌⊎◌}
+use Rattle.std.proofs.Common.{◌≡◌, ℕ, true, false, List, Some, ◌⊎◌}
 use Rattle.std.specs.Bool.{⊤}
 use Rattle.std.specs.List.{All, Contains}
 use Rattle.sw_container_steps.specs.Entries.{rows_of}
@@ -8,8 +8,8 @@ use Rattle.sw_container_steps.specs.declared.cont_answer.ContAnswer.{ContAnswer}
 use Rattle.sw_container_steps.specs.declared.cont_change.ContChange.TheVariants.{MergeRow}
 use Rattle.sw_container_steps.specs.declared.cont_entry.ContEntry.{ContEntry}
 use Rattle.sw_hashpath.specs.declared.place.Place.{Place}
-use Rattle.sw_machine.specs.Machine.{Came, ContSide, KnownWrite, Machine, ObjSide, RunLine, Went}
-use Rattle.sw_machine.specs.Messages.{Message, Row_of, Rows_of, Update_of, Write_of}
+use Rattle.sw_machine.specs.Machine.{Came, ContSide, KnownWrite, Machine, ObjSide, RunLine, Went, is_emptied}
+use Rattle.sw_machine.specs.Messages.{Creation_of, Message, Ranges_of, Row_of, Rows_of, Update_of, Write_of}
 use Rattle.sw_machine.specs.Sides.{TellsAt}
 use Rattle.sw_object_steps.specs.Journals.{Hash}
 use Rattle.sw_object_steps.specs.Values.{ObjValue, Records}
@@ -26,7 +26,9 @@ use Rattle.sw_rows.specs.declared.row.Row.{Row}
 use Rattle.sw_state.specs.Bases.{base_at}
 use Rattle.sw_state.specs.declared.base.Base.{Base}
 use Rattle.sw_step.specs.Rules.{has_made}
+use Rattle.sw_listing_laws.proofs.Bringing.{HasOnly}
 use Rattle.sw_listing_laws.proofs.Grounds.{ground}
+use Rattle.sw_listing_laws.proofs.Splitting.{IsSplitWhereEmptied}
 use Rattle.sw_listing_laws.proofs.Standing.{Stands, reach}
 use Rattle.sw_listing_laws.specs.Honest.{Cluster, IsNamed}
 
@@ -53,16 +55,22 @@ pub record ObjAccounts (c : Cluster) (m : ObjSide) (records : ℕ → Records) (
 
 -- ---- containers
 
+-- The ledger has all rows that came. A device has the same where no rows were taken away, which is done only where it has shard ranges
 pub record ContAccounts (c : Cluster) (m : ContSide) (tables : ℕ → Place → Listed) : Type 0 where
   pub tell : (device : ℕ) (place : Place) → TellsAt (cont_lock c.nodes) m device place
-  pub rows : (device : ℕ) (place : Place) → tables device place ≡ rows_of (m.half.holds device place)
+  pub rows : (device : ℕ) (place : Place) → is_emptied (m.half.holds device place) ≡ false → tables device place ≡ rows_of (m.half.holds device place)
   pub listed : (device : ℕ) (place : Place) → IsListed (tables device place)
-
--- ---- messages
+  pub split : (device : ℕ) (place : Place) → IsSplitWhereEmptied (m.half.holds device place)
 
 -- the row may come to the container
 abbrev pub IsRight : Cluster → Ledger → Place → Row → Type 0
 IsRight c l place row = (c.is_hidden place ≡ true) ⊎ IsRowIn (ground c) l place row
+
+-- each device has only such rows, also where others were taken away before
+abbrev pub AreRight : Cluster → Ledger → ContSide → Type 0
+AreRight c l m = (device : ℕ) (place : Place) → HasOnly (IsRight c l place) (rows_of (m.half.holds device place))
+
+-- ---- messages
 
 -- some device has reached it
 abbrev pub HasReached : Ledger → Hash → Base → Type 0
@@ -74,8 +82,10 @@ told from filed row = record { from = from; key = key_of filed; row = row }
 abbrev pub IsAccounted : Cluster → Ledger → Message → Type 0
 IsAccounted c l (Write_of to name write) = (b : Base) → base_at write.time write.kind ≡ Some b → HasReached l name.hash b
 IsAccounted c l (Row_of to place row) = IsRight c l place row
-IsAccounted c l (Rows_of to place rows) = All (IsRight c l place) rows
+IsAccounted c l (Rows_of to place at rows) = All (IsRight c l at) rows
 IsAccounted c l (Update_of to filed place row) = (from : ℕ) × Contains l.sent (told from filed row) × (place ≡ (ground c).place filed.name.hash)
+IsAccounted c l (Creation_of to place time) = ⊤
+IsAccounted c l (Ranges_of to place ranges) = ⊤
 
 abbrev pub AreAccounted : Cluster → Ledger → List Message → Type 0
 AreAccounted c l sent = (message : Message) → Contains sent message → IsAccounted c l message
@@ -85,6 +95,7 @@ AreAccounted c l sent = (message : Message) → Contains sent message → IsAcco
 pub record Accounts (c : Cluster) (m : Machine) (l : Ledger) : Type 0 where
   pub objects : ObjAccounts c m.objects l.records l.reached
   pub containers : ContAccounts c m.containers l.tables
+  pub right : AreRight c l m.containers
   pub sent : AreAccounted c l m.sent
 
 -- ---- lines

@@ -1,5 +1,5 @@
 -- The ledger goes on with what comes to a device.
-use Rattle.std.proofs.Common.{◌≡◌, ℕ, true, List, ◌⊎◌, inl, inr, refl, sym, ◌∙◌, ap, subst}
+use Rattle.std.proofs.Common.{◌≡◌, ℕ, true, false, List, Option, ◌⊎◌, inl, inr, refl, sym, ap, subst}
 use Rattle.std.specs.List.{Contains}
 use Rattle.std.proofs.lemmas.Bool.{cases_eq}
 use Rattle.sw_container_steps.specs.Entries.{rows_of}
@@ -9,7 +9,8 @@ use Rattle.sw_container_steps.specs.declared.cont_change.ContChange.{ContChange}
 use Rattle.sw_container_steps.specs.declared.cont_change.ContChange.TheVariants.{MergeRow}
 use Rattle.sw_container_steps.specs.declared.cont_entry.ContEntry.{ContEntry}
 use Rattle.sw_hashpath.specs.declared.place.Place.{Place}
-use Rattle.sw_machine.specs.Machine.{Came, ContSide, KnownWrite, Machine, RunLine}
+use Rattle.sw_keeper.specs.declared.tables.Tables.{Tables}
+use Rattle.sw_machine.specs.Machine.{Came, ContSide, KnownWrite, Machine, RunLine, is_emptied}
 use Rattle.sw_machine.specs.Sides.{Side, SideRestarts, TellsAt}
 use Rattle.sw_object_steps.specs.Journals.{Hash}
 use Rattle.sw_object_steps.specs.Values.{ObjValue}
@@ -22,11 +23,13 @@ use Rattle.sw_pending_laws.specs.Ledger.{IsHeld, Ledger}
 use Rattle.sw_rows.specs.Rows.{Listed as RowList}
 use Rattle.sw_rows.specs.declared.row.Row.{Row}
 use Rattle.sw_step.specs.Rules.{has_made}
-use Rattle.sw_listing_laws.proofs.Accounts.{Accounts, AreAccounted, ContAccounts, Fits, IsKnown, ObjAccounts, Says}
-use Rattle.sw_listing_laws.proofs.Going.{LineNext, all-still, goes-nowhere}
+use Rattle.sw_listing_laws.proofs.Accounts.{Accounts, AreAccounted, AreRight, ContAccounts, Fits, IsKnown, IsRight, ObjAccounts, Says}
+use Rattle.sw_listing_laws.proofs.Bringing.{HasOnly}
+use Rattle.sw_listing_laws.proofs.Going.{LineNext, all-right-still, all-still, goes-nowhere}
 use Rattle.sw_listing_laws.proofs.Grounds.{ground}
 use Rattle.sw_listing_laws.proofs.Merging.{ContNext}
 use Rattle.sw_listing_laws.proofs.Objects.{ObjNext}
+use Rattle.sw_listing_laws.proofs.Splitting.{IsSplitWhereEmptied}
 use Rattle.sw_listing_laws.specs.Honest.{Cluster}
 
 -- ---- what leaves all that is held
@@ -70,9 +73,14 @@ module _ (c : Cluster) (m : Machine) (l : Ledger) (accounts : Accounts c m l) (a
       → ContAccounts c after.containers l.tables
   containers-stay tell holds = record {
     tell = tell;
-    rows = λ d p. accounts.containers.rows d p ∙ ap rows_of (sym (holds d p));
+    rows = λ d p.
+        subst (λ (t : Option Tables). is_emptied t ≡ false → l.tables d p ≡ rows_of t) (sym (holds d p)) (accounts.containers.rows d p);
     listed = accounts.containers.listed;
+    split = λ d p. subst IsSplitWhereEmptied (sym (holds d p)) (accounts.containers.split d p);
   }
+
+  right-stays : ((d : ℕ) (p : Place) → after.containers.half.holds d p ≡ m.containers.half.holds d p) → AreRight c l after.containers
+  right-stays holds d p = subst (λ (t : Option Tables). HasOnly (IsRight c l p) (rows_of t)) (sym (holds d p)) (accounts.right d p)
 
   messages-stay : (next : Ledger) → AreAccounted c next m.sent → AreAccounted c next after.sent
   messages-stay next are message there = are message (subst (λ xs. Contains xs message) sent there)
@@ -87,6 +95,7 @@ module _ (c : Cluster) (m : Machine) (l : Ledger) (accounts : Accounts c m l) (a
       accounts = record {
         objects = objects-stay obj_tell stays;
         containers = containers-stay cont_tell holds;
+        right = right-stays holds;
         sent = messages-stay l accounts.sent;
       };
       says = says;
@@ -102,6 +111,7 @@ module _ (c : Cluster) (m : Machine) (l : Ledger) (accounts : Accounts c m l) (a
         containers =
             subst (λ (t : ℕ → Place → RowList). ContAccounts c after.containers t) (sym n.tables)
             (containers-stay cont_tell (λ d p. ap (λ (x : ContSide). x.half.holds d p) same));
+        right = all-right-still c l n.next n.goes after.containers (right-stays (λ d p. ap (λ (x : ContSide). x.half.holds d p) same));
         sent = messages-stay n.next (all-still c l n.next n.goes m.sent accounts.sent);
       };
       says = says;
@@ -118,6 +128,7 @@ module _ (c : Cluster) (m : Machine) (l : Ledger) (accounts : Accounts c m l) (a
       accounts = record {
         objects = objects-stay obj_tell (stays-same m.objects after.objects same);
         containers = n.accounts;
+        right = n.right;
         sent = messages-stay (record l { tables = n.tables }) (all-still c l (record l { tables = n.tables }) n.goes m.sent accounts.sent);
       };
       says = λ p row ans es event made. says p row ans es event made;

@@ -1,16 +1,19 @@
 -- From one ledger to a later one, by changes of which each is plain.
 use Rattle.std.proofs.Common.{ℕ, Bool, List, inl, inr}
 use Rattle.std.specs.List.{Contains}
+use Rattle.std.proofs.lemmas.List.Elements.{All-weaker}
+use Rattle.sw_container_steps.specs.Entries.{rows_of}
 use Rattle.sw_hashpath.specs.declared.place.Place.{Place}
-use Rattle.sw_machine.specs.Machine.{Came, Machine, RunLine, Went}
-use Rattle.sw_machine.specs.Messages.{Message, Row_of, Rows_of, Update_of, Write_of}
+use Rattle.sw_machine.specs.Machine.{Came, ContSide, Machine, RunLine, Went}
+use Rattle.sw_machine.specs.Messages.{Creation_of, Message, Ranges_of, Row_of, Rows_of, Update_of, Write_of}
 use Rattle.sw_pending_laws.proofs.Plain.{plain-step}
 use Rattle.sw_pending_laws.proofs.Rows.{rows-rise}
 use Rattle.sw_pending_laws.proofs.Steady.{steady-step}
 use Rattle.sw_pending_laws.specs.Ledger.{Change, Ground, IsHeld, IsPlain, Ledger, Makes, Reach, Told}
 use Rattle.sw_pending_laws.specs.Sound.{ComesFromClients, IsSteady}
+use Rattle.sw_rows.specs.declared.numbered.Numbered.{Numbered}
 use Rattle.sw_rows.specs.declared.row.Row.{Row}
-use Rattle.sw_listing_laws.proofs.Accounts.{Accounts, AreAccounted, IsAccounted, IsRight, Says, Tells}
+use Rattle.sw_listing_laws.proofs.Accounts.{Accounts, AreAccounted, AreRight, IsAccounted, IsRight, Says, Tells}
 use Rattle.sw_listing_laws.proofs.Grounds.{ground}
 use Rattle.sw_listing_laws.specs.Honest.{Cluster}
 
@@ -60,11 +63,18 @@ module _ (c : Cluster) (l after : Ledger) (goes : Goes (ground c) l after) where
   right-still place row (inl hidden) = inl hidden
   right-still place row (inr is) = inr (is.0, goes.reached is.0 is.1, is.2, is.3)
 
+  pub all-right-still : (m : ContSide) → AreRight c l m → AreRight c after m
+  all-right-still m are d p =
+      All-weaker (λ (n : Numbered). IsRight c l p n.row) (λ (n : Numbered). IsRight c after p n.row) (λ (n : Numbered). right-still p n.row)
+      (rows_of (m.half.holds d p)).list (are d p)
+
   pub accounted-still : (message : Message) → IsAccounted c l message → IsAccounted c after message
   accounted-still (Write_of to name write) is = λ b base. ((is b base).0, goes.reached (is b base).0 (is b base).1, (is b base).2, (is b base).3)
   accounted-still (Row_of to place row) is = right-still place row is
-  accounted-still (Rows_of to place rows) is = λ k d within. right-still place _ (is k d within)
+  accounted-still (Rows_of to place at rows) is = λ k d within. right-still at _ (is k d within)
   accounted-still (Update_of to filed place row) is = (is.0, goes.sent _ is.1, is.2)
+  accounted-still (Creation_of to place time) is = tt
+  accounted-still (Ranges_of to place ranges) is = tt
 
   pub all-still : (sent : List Message) → AreAccounted c l sent → AreAccounted c after sent
   all-still sent are message there = accounted-still message (are message there)
@@ -72,8 +82,10 @@ module _ (c : Cluster) (l after : Ledger) (goes : Goes (ground c) l after) where
   says-still : (line : RunLine) → Says c l line → Says c after line
   says-still (Went from (Write_of to name write)) is = tt
   says-still (Went from (Row_of to place row)) is = tt
-  says-still (Went from (Rows_of to place rows)) is = tt
+  says-still (Went from (Rows_of to place at rows)) is = tt
   says-still (Went from (Update_of to filed place row)) is = (goes.sent _ is.0, is.1)
+  says-still (Went from (Creation_of to place time)) is = tt
+  says-still (Went from (Ranges_of to place ranges)) is = tt
   says-still (Came line) is = λ place row answer entries event made.
       goes.rise line.device place row.name row.created_at row.deleted (is place row answer entries event made)
 

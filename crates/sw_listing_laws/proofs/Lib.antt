@@ -1,5 +1,7 @@
 pub mod Grounds
 pub mod Standing
+pub mod Splitting
+pub mod Bringing
 pub mod Accounts
 pub mod Going
 pub mod Making

@@ -1,11 +1,15 @@
 -- A replica's live rows are those of the live objects, so it lists what these do; and so does each listing that comes.
 use Rattle.std.proofs.Common.{◌≡◌, ℕ, Bool, true, false, cond, not, ◌&&◌, List, [], ◌∷◌, length, Option, None, Some, Ok, Err, refl, sym, ◌∙◌, ap, subst}
+use Rattle.std.proofs.Common.{◌⊎◌, inl, inr}
 use Rattle.std.specs.Str.{IsUtf8}
+use Rattle.std.proofs.lemmas.Bool.{cases_Bool}
 use mathlib.Core.HLevel.{is_prop→PathP}
 use mathlib.Core.Logic.{∥∥₁_prop}
 use Rattle.sw_container_steps.specs.Entries.{rows_of}
 use Rattle.sw_container_steps.specs.Presence.{deletion_after, is_no_time}
+use Rattle.sw_container_steps.proofs.Unsplit.{unsplit-shows}
 use Rattle.sw_container_steps.specs.Reads.{listing_of}
+use Rattle.sw_container_steps.specs.Serving.{IsUnsplit, unserved}
 use Rattle.sw_container_steps.specs.declared.cont_answer.ContAnswer.TheVariants as answers
 use Rattle.sw_container_steps.specs.declared.cont_entry.ContEntry.{ContEntry}
 use Rattle.sw_hashpath.specs.declared.place.Place.{Place}
@@ -16,7 +20,7 @@ use Rattle.sw_listing.specs.Listing.{entry_of, listing, shows}
 use Rattle.sw_listing.specs.declared.entry.Entry.{Entry}
 use Rattle.sw_listing.specs.declared.query.Query.{Query}
 use Rattle.sw_machine.proofs.Runs.{rows-are-merged}
-use Rattle.sw_machine.specs.Machine.{Came, Comes, ContReads, ContSide, Machine}
+use Rattle.sw_machine.specs.Machine.{Came, Comes, ContReads, ContSide, Machine, is_emptied}
 use Rattle.sw_machine.specs.Sides.{TellsAt}
 use Rattle.sw_object_steps.specs.BaseRows.{IsRowOf}
 use Rattle.sw_peer.specs.Sights.{Nodes, cont_lock}
@@ -35,6 +39,7 @@ use Rattle.sw_listing_laws.proofs.Grounds.{ground-place, named-object, one-hash,
 use Rattle.sw_listing_laws.proofs.Listing.{contained-in, in-contained, listing-one, row-found, row-itself}
 use Rattle.sw_listing_laws.proofs.Running.{IsAtEnd, ends}
 use Rattle.sw_listing_laws.proofs.Showing.{begins, settled-shows}
+use Rattle.sw_listing_laws.proofs.Splitting.{IsSplitWhereEmptied}
 use Rattle.sw_listing_laws.specs.Honest.{Cluster, IsNamed}
 use Rattle.sw_listing_laws.specs.Laws.{AreLiveRows, DoAgree, IsLive, ListingsAreExact, SettledContainersListExactly, ShowsExactly}
 
@@ -99,12 +104,13 @@ module _ (c : Cluster) (m : Machine) (l : Ledger) (accounts : Accounts c m l) (s
 
   -- ---- what a replica lists
 
-  module _ (device : ℕ) (shown : (object : List ℕ) → ShowsExactly c m device place object) (rows : List Numbered) (are : AreLiveRows c m place rows) where
+  module _ (device : ℕ) (kept : is_emptied (m.containers.half.holds device place) ≡ false) (shown : (object : List ℕ) → ShowsExactly c m device place object)
+      (rows : List Numbered) (are : AreLiveRows c m place rows) where
     abbrev held : List Numbered
     held = (rows_of (m.containers.half.holds device place)).list
 
     once : IsNamedOnce held
-    once = subst (λ (t : Listed). IsNamedOnce t.list) (accounts.containers.rows device place) (accounts.containers.listed device place).once
+    once = subst (λ (t : Listed). IsNamedOnce t.list) (accounts.containers.rows device place kept) (accounts.containers.listed device place).once
 
     module _ (query : Query) where
       forth : (e : Entry) → IsShown query held e → IsShown query rows e
@@ -131,35 +137,47 @@ module _ (c : Cluster) (m : Machine) (l : Ledger) (accounts : Accounts c m l) (s
       lists-exactly = listing-one query held rows once are.once forth back
 
 pub settled-lists : SettledContainersListExactly
-settled-lists c m lines after new run same place shown all device ring rows are query =
+settled-lists c m lines after new run same place shown all device ring kept rows are query =
     let e : IsAtEnd c after = ends c lines [] m begun after (begins c m new) run in
-    lists-exactly c after e.ledger e.accounts same place device
-    (λ object. settled-shows c m lines after new run same place shown all device ring object) rows are query
+    lists-exactly c after e.ledger e.accounts same place device kept
+    (λ object. settled-shows c m lines after new run same place shown all device ring kept object) rows are query
 
 -- ---- what comes in a run
 
 -- a listing that is read is that of the rows of the device
 read-listed : (nodes : Nodes) (m after : ContSide) (device : ℕ) (place : Place) (query : Query) (listed : List Entry) (entries : List ContEntry)
     → ContReads nodes m device place (listing_of query) (Ok listed) entries after → TellsAt (cont_lock nodes) after device place
-    → listed ≡ listing query (rows_of (m.half.holds device place)).list
-read-listed nodes m after device place query listed entries reads told =
+    → IsUnsplit (m.half.holds device place) → listed ≡ listing query (rows_of (m.half.holds device place)).list
+read-listed nodes m after device place query listed entries reads told whole =
     let stands : reads.step.read place ≡ m.half.holds device place =
     reads.step.held refl told refl place refl ∙ (reads.is_held place refl ∙ reads.holds device place) in
-    at (m.half.holds device place) (reads.step.shown refl ∙ ap (λ (t : Option Tables). listing_of query t 0) stands)
+    at (m.half.holds device place) whole (reads.step.shown refl ∙ ap (λ (t : Option Tables). listing_of query t 0) stands)
   where
-    present : (t : Tables) (b : Bool) → Ok listed ≡ cond b (Ok (listing query t.rows.list)) (Err answers.Absent) → listed ≡ listing query t.rows.list
-    present t true is = cc
-    present t false is = cc
+    present : (t : Tables) (b : Bool) → IsUnsplit (Some t) → Ok listed ≡ cond b (Ok (listing query (unserved t))) (Err answers.Absent)
+        → listed ≡ listing query t.rows.list
+    present t true whole is =
+        let all : listed ≡ listing query (unserved t) = cc in
+        all ∙ ap (λ (ns : List Numbered). listing query ns) (unsplit-shows t whole)
+    present t false whole is = cc
 
-    at : (o : Option Tables) → Ok listed ≡ listing_of query o 0 → listed ≡ listing query (rows_of o).list
-    at None is = cc
-    at (Some t) is = present t (is_no_time (deletion_after t.put_time t.delete_time)) is
+    at : (o : Option Tables) → IsUnsplit o → Ok listed ≡ listing_of query o 0 → listed ≡ listing query (rows_of o).list
+    at None whole is = cc
+    at (Some t) whole is = present t (is_no_time (deletion_after t.put_time t.delete_time)) whole is
+
+-- what has no ranges has its rows
+kept-unsplit : (t : Option Tables) → IsSplitWhereEmptied t → IsUnsplit t → is_emptied t ≡ false
+kept-unsplit t split whole = by (cases_Bool (is_emptied t))
+  where
+    by : (is_emptied t ≡ true) ⊎ (is_emptied t ≡ false) → is_emptied t ≡ false
+    by (inl gone) = absurd (split gone whole)
+    by (inr kept) = kept
 
 pub listings-exact : ListingsAreExact
-listings-exact c m lines mid line after new run step same place query listed entries event shown all ring rows are =
+listings-exact c m lines mid line after new run step same place query listed entries event shown all ring whole rows are =
     let e : IsAtEnd c mid = ends c lines [] m begun mid (begins c m new) run in
     let came = subst (λ (x : Event). Comes c.nodes mid line.device x line.added after) event step.1 in
     let told : TellsAt (cont_lock c.nodes) after.containers line.device place =
     ((rows-are-merged c.nodes mid (Came line ∷ []) after (after, step, refl)).place line.device place (e.accounts.containers.tell line.device place)).told in
-    read-listed c.nodes mid.containers after.containers line.device place query listed entries came.1 told
-    ∙ settled-lists c m lines mid new run same place shown all line.device ring rows are query
+    let kept = kept-unsplit (mid.containers.half.holds line.device place) (e.accounts.containers.split line.device place) whole in
+    read-listed c.nodes mid.containers after.containers line.device place query listed entries came.1 told whole
+    ∙ settled-lists c m lines mid new run same place shown all line.device ring kept rows are query

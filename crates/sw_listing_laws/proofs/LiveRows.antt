@@ -4,7 +4,7 @@ use Rattle.std.specs.List.{find}
 use Rattle.sw_container_steps.specs.Entries.{rows_of}
 use Rattle.sw_hashpath.specs.declared.place.Place.{Place}
 use Rattle.sw_listing.proofs.Members.{In}
-use Rattle.sw_machine.specs.Machine.{Machine}
+use Rattle.sw_machine.specs.Machine.{Machine, is_emptied}
 use Rattle.sw_object_steps.specs.BaseRows.{IsRowOf}
 use Rattle.sw_pending_laws.specs.Laws.{begun}
 use Rattle.sw_pending_laws.specs.Ledger.{Ledger}
@@ -67,12 +67,12 @@ once-kept (m ∷ ms) once = at (live m) (once-kept ms once.1)
     at false later = later
 
 module _ (c : Cluster) (m : Machine) (l : Ledger) (accounts : Accounts c m l) (place : Place) (device : ℕ)
-    (shown : (object : List ℕ) → ShowsExactly c m device place object) where
+    (kept : is_emptied (m.containers.half.holds device place) ≡ false) (shown : (object : List ℕ) → ShowsExactly c m device place object) where
   abbrev held : List Numbered
   held = (rows_of (m.containers.half.holds device place)).list
 
   once : IsNamedOnce held
-  once = subst (λ (t : Listed). IsNamedOnce t.list) (accounts.containers.rows device place) (accounts.containers.listed device place).once
+  once = subst (λ (t : Listed). IsNamedOnce t.list) (accounts.containers.rows device place kept) (accounts.containers.listed device place).once
 
   pub live-rows : AreLiveRows c m place (filter live held)
   live-rows = record {
@@ -95,6 +95,7 @@ module _ (c : Cluster) (m : Machine) (l : Ledger) (accounts : Accounts c m l) (p
       named object (bases.Del time) row is = is.name_is
 
 pub live-rows-there : LiveRowsAreThere
-live-rows-there c m lines after new run same place shown all device ring =
+live-rows-there c m lines after new run same place shown all device ring kept =
     let e : IsAtEnd c after = ends c lines [] m begun after (begins c m new) run in
-    live-rows c after e.ledger e.accounts place device (λ object. settled-shows c m lines after new run same place shown all device ring object)
+    live-rows c after e.ledger e.accounts place device kept
+    (λ object. settled-shows c m lines after new run same place shown all device ring kept object)

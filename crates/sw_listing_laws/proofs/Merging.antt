@@ -1,20 +1,22 @@
 -- The ledger goes on with a step at a container.
 use Rattle.std.proofs.Common.{◌≡◌, ℕ, Bool, true, false, cond, ◌&&◌, nat_eq, List, [], ◌∷◌, map, Option, ◌⊎◌, inl, inr, refl, sym, ◌∙◌, ap, subst}
-use Rattle.std.proofs.Common.{if◌then◌else◌}
+use Rattle.std.proofs.Common.{if◌then◌else◌, true≢false}
 use Rattle.std.specs.List.{All, fold}
-use Rattle.std.proofs.lemmas.Bool.{and_parts, eq-eqb, eqb-true}
+use Rattle.std.proofs.lemmas.Bool.{and_parts, cases_Bool, eq-eqb, eqb-true}
 use Rattle.std.proofs.lemmas.List.Elements.{All-head, All-nil, All-tail}
 use Rattle.sw_container_steps.proofs.Placing.{place-same, place-self}
-use Rattle.sw_container_steps.specs.Entries.{is_same_place, rows_of}
+use Rattle.sw_container_steps.proofs.Ruling.{made-whole}
+use Rattle.sw_container_steps.specs.Entries.{entered, is_same_place, rows_of}
 use Rattle.sw_container_steps.specs.Rules.{cont_ending}
+use Rattle.sw_container_steps.specs.Steps.{entries_for}
 use Rattle.sw_container_steps.specs.declared.cont_answer.ContAnswer.{ContAnswer}
 use Rattle.sw_container_steps.specs.declared.cont_change.ContChange.{ContChange}
 use Rattle.sw_container_steps.specs.declared.cont_change.ContChange.TheVariants.{MergeRow}
 use Rattle.sw_container_steps.specs.declared.cont_entry.ContEntry.{ContEntry}
 use Rattle.sw_hashpath.specs.declared.place.Place.{Place}
 use Rattle.sw_keeper.specs.declared.tables.Tables.{Tables}
-use Rattle.sw_machine.proofs.Rows.{made-merges}
-use Rattle.sw_machine.specs.Machine.{ContMakes, ContSide, KnownRow, made_rows, rows_in, was_made}
+use Rattle.sw_machine.proofs.Rows.{emptied-still, unemptied-merges}
+use Rattle.sw_machine.specs.Machine.{ContMakes, ContSide, KnownRow, is_emptied, made_rows, rows_in, was_made}
 use Rattle.sw_machine.specs.Sides.{TellsAt}
 use Rattle.sw_peer.specs.Sights.{cont_lock}
 use Rattle.sw_pending_laws.specs.Ledger.{AreMerged, IsHeld, IsPlain, Ledger}
@@ -23,9 +25,11 @@ use Rattle.sw_rows.proofs.Greater.{listed-merged, stands-merged}
 use Rattle.sw_rows.specs.Rows.{IsListed, Listed, merged}
 use Rattle.sw_rows.specs.declared.row.Row.{Row}
 use Rattle.sw_step.specs.Rules.{has_made}
-use Rattle.sw_listing_laws.proofs.Accounts.{ContAccounts, IsRight}
+use Rattle.sw_listing_laws.proofs.Accounts.{AreRight, ContAccounts, IsRight}
+use Rattle.sw_listing_laws.proofs.Bringing.{HasOnly, step-only}
 use Rattle.sw_listing_laws.proofs.Going.{Goes, goes-by, goes-nowhere, goes-on}
 use Rattle.sw_listing_laws.proofs.Grounds.{ground}
+use Rattle.sw_listing_laws.proofs.Splitting.{IsSplitWhereEmptied, split-still}
 use Rattle.sw_listing_laws.specs.Honest.{Cluster}
 
 module _ (device : ℕ) (place : Place) where
@@ -97,11 +101,12 @@ module _ (device : ℕ) (place : Place) where
       pub tables : ℕ → Place → Listed
       pub goes : Goes (ground c) l (record l { tables = tables })
       pub accounts : ContAccounts c after tables
+      pub right : AreRight c l after
       pub acknowledged : (row : Row) → change ≡ MergeRow row → has_made (cont_ending answer) ≡ true
           → IsHeld (tables device place) row.name row.created_at row.deleted
 
-    module _ (m : ContSide) (l : Ledger) (accounts : ContAccounts c m l.tables) (change : ContChange) (answer : ContAnswer) (added : List ContEntry)
-        (after : ContSide) (makes : ContMakes c.nodes m device place change answer added after)
+    module _ (m : ContSide) (l : Ledger) (accounts : ContAccounts c m l.tables) (stood : AreRight c l m) (change : ContChange) (answer : ContAnswer)
+        (added : List ContEntry) (after : ContSide) (makes : ContMakes c.nodes m device place change answer added after)
         (tell : (d : ℕ) (p : Place) → TellsAt (cont_lock c.nodes) after d p) where
       abbrev rows : List Row
       rows = map (λ (n : KnownRow). n.row) (made_rows place change answer makes.step.made)
@@ -121,31 +126,86 @@ module _ (device : ℕ) (place : Place) where
           by true = right
           by false = All-nil (IsRight c l place)
 
-      left : rows_of (after.half.holds device place) ≡ fold merged (l.tables device place) rows
-      left =
-          made-merges (m.half.seen (cont_lock c.nodes device place)) makes.held place change answer (after.half.seen (cont_lock c.nodes device place))
-          (after.half.holds device place) makes.step (accounts.tell device place)
-          ∙ (ap (λ (t : Option Tables). fold merged (rows_of t) rows) (makes.is_held place refl)
-          ∙ ap (λ (t : Listed). fold merged t rows) (sym (accounts.rows device place)))
-
-      each-row : (d : ℕ) (p : Place) → fold merge_at l.tables rows d p ≡ rows_of (after.half.holds d p)
-      each-row d p = by (is_here d p) refl
+      -- what is so of this container, and was of each other one, is so of each
+      each : (P : ℕ → Place → Option Tables → Type 0) → P device place (after.half.holds device place)
+          → ((d : ℕ) (p : Place) → is_here d p ≡ false → P d p (m.half.holds d p)) → (d : ℕ) (p : Place) → P d p (after.half.holds d p)
+      each P this others d p = by (is_here d p) refl
         where
-          by : (b : Bool) → is_here d p ≡ b → fold merge_at l.tables rows d p ≡ rows_of (after.half.holds d p)
+          apart : is_here d p ≡ false → (d ≡ device) × (p ≡ place) → ⊥
+          apart isnt same =
+              let one : nat_eq d device ≡ true = eq-eqb d device same.0 in
+              let two : is_same_place p place ≡ true = subst (λ (q : Place). is_same_place p q ≡ true) same.1 (place-self p) in
+              let never : is_here d p ≡ true = rw (one, two) refl in cc
+
+          by : (b : Bool) → is_here d p ≡ b → P d p (after.half.holds d p)
           by true is =
               let parts = and_parts (nat_eq d device) (is_same_place p place) is in
-              subst (λ (e : ℕ). fold merge_at l.tables rows e p ≡ rows_of (after.half.holds e p)) (sym (eqb-true d device parts.0))
-              (subst (λ (q : Place). fold merge_at l.tables rows device q ≡ rows_of (after.half.holds device q)) (sym (place-same p place parts.1))
-              (all-here l.tables rows ∙ sym left))
-          by false is =
-              all-apart l.tables rows d p is
-              ∙ (accounts.rows d p ∙ ap rows_of (sym (makes.moves.others refl d p (λ same. apart is same))))
-            where
-              apart : is_here d p ≡ false → (d ≡ device) × (p ≡ place) → ⊥
-              apart isnt same =
-                  let one : nat_eq d device ≡ true = eq-eqb d device same.0 in
-                  let two : is_same_place p place ≡ true = subst (λ (q : Place). is_same_place p q ≡ true) same.1 (place-self p) in
-                  let never : is_here d p ≡ true = rw (one, two) refl in cc
+              subst (λ (e : ℕ). P e p (after.half.holds e p)) (sym (eqb-true d device parts.0))
+              (subst (λ (q : Place). P device q (after.half.holds device q)) (sym (place-same p place parts.1)) this)
+          by false is = subst (λ (t : Option Tables). P d p t) (sym (makes.moves.others refl d p (λ same. apart is same))) (others d p is)
+
+      -- ---- the rows that came, where none were taken away
+
+      -- nor were they before
+      kept-before : is_emptied (after.half.holds device place) ≡ false → is_emptied (m.half.holds device place) ≡ false
+      kept-before kept = by (cases_Bool (is_emptied (m.half.holds device place)))
+        where
+          by : (is_emptied (m.half.holds device place) ≡ true) ⊎ (is_emptied (m.half.holds device place) ≡ false)
+              → is_emptied (m.half.holds device place) ≡ false
+          by (inl gone) =
+              let still : is_emptied (after.half.holds device place) ≡ true =
+              emptied-still (m.half.seen (cont_lock c.nodes device place)) makes.held place change answer (after.half.seen (cont_lock c.nodes device place))
+              (after.half.holds device place) makes.step (accounts.tell device place) (ap is_emptied (makes.is_held place refl) ∙ gone) in
+              absurd (true≢false (sym still ∙ kept))
+          by (inr stays) = stays
+
+      here-rows : is_emptied (after.half.holds device place) ≡ false
+          → fold merge_at l.tables rows device place ≡ rows_of (after.half.holds device place)
+      here-rows kept =
+          all-here l.tables rows
+          ∙ sym
+          (unemptied-merges (m.half.seen (cont_lock c.nodes device place)) makes.held place change answer (after.half.seen (cont_lock c.nodes device place))
+          (after.half.holds device place) makes.step (accounts.tell device place) kept
+          ∙ (ap (λ (t : Option Tables). fold merged (rows_of t) rows) (makes.is_held place refl)
+          ∙ ap (λ (t : Listed). fold merged t rows) (sym (accounts.rows device place (kept-before kept)))))
+
+      each-row : (d : ℕ) (p : Place) → is_emptied (after.half.holds d p) ≡ false → fold merge_at l.tables rows d p ≡ rows_of (after.half.holds d p)
+      each-row =
+          each (λ d p t. is_emptied t ≡ false → fold merge_at l.tables rows d p ≡ rows_of t) here-rows
+          (λ d p is kept. all-apart l.tables rows d p is ∙ accounts.rows d p kept)
+
+      -- ---- what entries leave
+
+      -- what is so of what was held, and stays so whatever the step enters, is so
+      entering : (P : Option Tables → Type 0) → ((t read : Option Tables) → P t → P (fold entered t (entries_for read place change)))
+          → P (m.half.holds device place) → P (after.half.holds device place)
+      entering P stays was =
+          let step = makes.step in
+          let told = step.follows.told ∙ accounts.tell device place in
+          subst P (sym (step.leaves refl told))
+          (by (made-whole step.looked step.read step.before.journal place change answer step.made
+          (after.half.seen (cont_lock c.nodes device place)).journal step.answered))
+        where
+          held : P (makes.held place)
+          held = subst P (sym (makes.is_held place refl)) was
+
+          by : (makes.step.made ≡ []) ⊎ ((makes.step.looked ≡ true) × (makes.step.made ≡ entries_for makes.step.read place change))
+              → P (fold entered (makes.held place) makes.step.made)
+          by (inl none) = rw none held
+          by (inr all) = rw all.1 (stays (makes.held place) makes.step.read held)
+
+      each-split : (d : ℕ) (p : Place) → IsSplitWhereEmptied (after.half.holds d p)
+      each-split =
+          each (λ d p t. IsSplitWhereEmptied t)
+          (entering IsSplitWhereEmptied (λ t read is. split-still t (entries_for read place change) is) (accounts.split device place))
+          (λ d p is. accounts.split d p)
+
+      each-right : All (IsRight c l place) (rows_in change) → AreRight c l after
+      each-right right =
+          each (λ d p t. HasOnly (IsRight c l p) (rows_of t))
+          (entering (λ t. HasOnly (IsRight c l place) (rows_of t)) (λ t read only. step-only (IsRight c l place) t read place change right only)
+          (stood device place))
+          (λ d p is. stood d p)
 
       acknowledged : (row : Row) → change ≡ MergeRow row → has_made (cont_ending answer) ≡ true
           → IsHeld (fold merge_at l.tables rows device place) row.name row.created_at row.deleted
@@ -168,6 +228,7 @@ module _ (device : ℕ) (place : Place) where
       comes right = record {
         tables = fold merge_at l.tables rows;
         goes = merges l rows (all-right right);
-        accounts = record { tell = tell; rows = each-row; listed = all-listed l.tables rows accounts.listed };
+        accounts = record { tell = tell; rows = each-row; listed = all-listed l.tables rows accounts.listed; split = each-split };
+        right = each-right right;
         acknowledged = acknowledged;
       }

@@ -4,13 +4,14 @@ use Rattle.std.specs.List.{All, Contains}
 use Rattle.std.proofs.lemmas.List.Elements.{All-cons, All-nil, All-weaker, Contains-append_right}
 use Rattle.sw_container_steps.specs.declared.cont_answer.ContAnswer.{ContAnswer}
 use Rattle.sw_container_steps.specs.declared.cont_change.ContChange.{ContChange}
-use Rattle.sw_container_steps.specs.declared.cont_change.ContChange.TheVariants.{Create, MergeRow, MergeRows, Remove, SetSync}
+use Rattle.sw_container_steps.specs.declared.cont_change.ContChange.TheVariants.{Ack, CloseRange, Create, EmptyOut, MergeRow, MergeRows, Remove}
+use Rattle.sw_container_steps.specs.declared.cont_change.ContChange.TheVariants.{SetRanges, SetSync}
 use Rattle.sw_container_steps.specs.declared.cont_entry.ContEntry.{ContEntry}
 use Rattle.sw_hashpath.specs.Places.{IsPlaceOf}
 use Rattle.sw_hashpath.specs.declared.name.Name.{Name}
 use Rattle.sw_hashpath.specs.declared.place.Place.{Place}
 use Rattle.sw_machine.specs.Machine.{Came, Machine, RunLine, Went, rows_in}
-use Rattle.sw_machine.specs.Messages.{Arrives, Message, Row_of, Rows_of, Update_of, Write_of}
+use Rattle.sw_machine.specs.Messages.{Arrives, Creation_of, Message, Ranges_of, Row_of, Rows_of, Update_of, Write_of}
 use Rattle.sw_object_steps.specs.BaseRows.{IsRowOf}
 use Rattle.sw_object_steps.specs.declared.answer.Answer.{Answer}
 use Rattle.sw_object_steps.specs.declared.change.Change.TheVariants.{Receive}
@@ -63,8 +64,10 @@ module _ (c : Cluster) (m : Machine) (l : Ledger) (accounts : Accounts c m l) wh
       same : Receive write ≡ Receive w → write ≡ w
       same e = cc
   write-arrives device name write answer (Row_of to place row) comes is b base_is = absurd comes
-  write-arrives device name write answer (Rows_of to place rows) comes is b base_is = absurd comes
+  write-arrives device name write answer (Rows_of to place at rows) comes is b base_is = absurd comes
   write-arrives device name write answer (Update_of to filed place row) comes is b base_is = absurd comes
+  write-arrives device name write answer (Creation_of to place time) comes is b base_is = absurd comes
+  write-arrives device name write answer (Ranges_of to place ranges) comes is b base_is = absurd comes
 
   -- a write that comes has reached some device
   pub write-fair : (device : ℕ) (link : Link) (name : Name) (write : Write) (answer : Answer)
@@ -105,25 +108,29 @@ module _ (c : Cluster) (m : Machine) (l : Ledger) (accounts : Accounts c m l) wh
       where
         same : MergeRow row ≡ MergeRow x → row ≡ x
         same e = cc
-    row-arrives device place row answer entries (Rows_of to p xs) comes is = cc
+    row-arrives device place row answer entries (Rows_of to p at xs) comes is = cc
     row-arrives device place row answer entries (Update_of to filed p x) comes is =
         subst (λ (q : Place). IsRight c l q row) (sym (comes.1 ∙ is.2))
         (subst (λ (y : Row). IsRight c l ((ground c).place filed.name.hash) y) (sym (same comes.2)) (inr (clients.sent (told is.0 filed x) is.1)))
       where
         same : MergeRow row ≡ MergeRow x → row ≡ x
         same e = cc
+    row-arrives device place row answer entries (Creation_of to p time) comes is = cc
+    row-arrives device place row answer entries (Ranges_of to p ranges) comes is = cc
 
     rows-arrive : (device : ℕ) (place : Place) (rows : List Row) (answer : ContAnswer) (entries : List ContEntry) (message : Message)
         → Arrives message device (AtContainer (cont_events.Changed place (MergeRows rows) answer) entries) → IsAccounted c l message
         → All (IsRight c l place) rows
     rows-arrive device place rows answer entries (Write_of to name write) comes is = absurd comes
     rows-arrive device place rows answer entries (Row_of to p x) comes is = cc
-    rows-arrive device place rows answer entries (Rows_of to p xs) comes is =
-        subst (λ (q : Place). All (IsRight c l q) rows) (sym comes.1) (subst (λ (ys : List Row). All (IsRight c l p) ys) (sym (same comes.2)) is)
+    rows-arrive device place rows answer entries (Rows_of to p at xs) comes is =
+        subst (λ (q : Place). All (IsRight c l q) rows) (sym comes.1) (subst (λ (ys : List Row). All (IsRight c l at) ys) (sym (same comes.2)) is)
       where
         same : MergeRows rows ≡ MergeRows xs → rows ≡ xs
         same e = cc
     rows-arrive device place rows answer entries (Update_of to filed p x) comes is = cc
+    rows-arrive device place rows answer entries (Creation_of to p time) comes is = cc
+    rows-arrive device place rows answer entries (Ranges_of to p ranges) comes is = cc
 
     -- the rows that come to a container may come there
     pub rows-fair : (device : ℕ) (link : Link) (place : Place) (change : ContChange) (answer : ContAnswer) (entries : List ContEntry)
@@ -131,6 +138,10 @@ module _ (c : Cluster) (m : Machine) (l : Ledger) (accounts : Accounts c m l) wh
         → (link ≡ Local → IsPlainChange c m place change) → All (IsRight c l place) (rows_in change)
     rows-fair device link place (Create time) answer entries sent plain = All-nil (IsRight c l place)
     rows-fair device link place (Remove time) answer entries sent plain = All-nil (IsRight c l place)
+    rows-fair device link place (SetRanges ranges) answer entries sent plain = All-nil (IsRight c l place)
+    rows-fair device link place (Ack range other rowid) answer entries sent plain = All-nil (IsRight c l place)
+    rows-fair device link place (CloseRange range devices) answer entries sent plain = All-nil (IsRight c l place)
+    rows-fair device link place EmptyOut answer entries sent plain = All-nil (IsRight c l place)
     rows-fair device link place (SetSync other rowid) answer entries sent plain = All-nil (IsRight c l place)
     rows-fair device link place (MergeRow row) answer entries sent plain =
         All-cons (IsRight c l place) row []

@@ -89,7 +89,7 @@ module _ (c : Cluster) (done : List RunLine) (m : Machine) (l : Ledger) (sound :
         at-container c m l sound.accounts after step.2 (tell-objects (Came (line (AtContainer (cont_events.Changed place change answer) entries))) step)
         (tell-containers (Came (line (AtContainer (cont_events.Changed place change answer) entries))) step) device link place change answer entries added
         step.1.2
-        (comes device place c m.containers l sound.accounts.containers change answer entries after.containers step.1.1
+        (comes device place c m.containers l sound.accounts.containers sound.accounts.right change answer entries after.containers step.1.1
         (tell-containers (Came (line (AtContainer (cont_events.Changed place change answer) entries))) step)
         (rows-fair c m l sound.accounts sound.clients device link place change answer entries (λ is. step.0 is tt) plain))
     at-places (cont_events.Timed place got) entries step plain = still (AtContainer (cont_events.Timed place got) entries) step (λ p row ans es event made. cc)
@@ -103,6 +103,12 @@ module _ (c : Cluster) (done : List RunLine) (m : Machine) (l : Ledger) (sound :
     at-places (cont_events.Parceled place to got) entries step plain =
         still (AtContainer (cont_events.Parceled place to got) entries) step (λ p row ans es event made. cc) (stays-same m.objects after.objects step.1.2)
         step.1.1.holds
+    at-places (cont_events.Sharded place got) entries step plain =
+        still (AtContainer (cont_events.Sharded place got) entries) step (λ p row ans es event made. cc) (stays-same m.objects after.objects step.1.2)
+        step.1.1.holds
+    at-places (cont_events.Cleft place range above got) entries step plain =
+        still (AtContainer (cont_events.Cleft place range above got) entries) step (λ p row ans es event made. cc)
+        (stays-same m.objects after.objects step.1.2) step.1.1.holds
 
     came : (event : Event) → Steps c.nodes m (Came (line event)) after → IsHonestEvent c.nodes.secrets c.replicas done device event
         → (link ≡ Local → IsPlainEvent c m event)
@@ -134,7 +140,7 @@ module _ (c : Cluster) (done : List RunLine) (m : Machine) (l : Ledger) (sound :
   one (Came line) step honest plain named = came line.device line.link line.added line.event step honest plain named
   one (Went from message) step honest plain named =
       subst (λ (x : Machine). LineNext c x l (Went from message)) (sym step.1)
-      (sends c m l sound.accounts sound.clients from message step.0 named)
+      (sends c m l sound.accounts from message step.0 plain named)
 
   pub goes-on-with : (line : RunLine) → Steps c.nodes m line after → IsHonest c.nodes.secrets c.replicas done line → IsPlain c m line → IsNamedLine c line
       → (next : Ledger) × IsSound c (done ++ line ∷ []) after next

@@ -1,22 +1,18 @@
 -- The ledger goes on with a message that is sent.
-use Rattle.std.proofs.Common.{◌≡◌, ℕ, true, false, List, [], ◌∷◌, ◌++◌, map, Option, None, Some, ◌⊎◌, inl, inr, refl, sym, ◌∙◌, ap, subst}
+use Rattle.std.proofs.Common.{◌≡◌, ℕ, true, false, All, List, [], ◌∷◌, ◌++◌, map, Option, None, Some, ◌⊎◌, inl, inr, refl, sym, ◌∙◌, ap, subst}
 use Rattle.std.specs.List.{Contains}
-use Rattle.std.proofs.lemmas.Bool.{cases_Bool}
 use Rattle.std.proofs.lemmas.List.Elements.{All-contains, All-map, All-weaker, Contains-append_cases, Contains-push_cases}
 use Rattle.sw_container_steps.specs.Entries.{rows_of}
 use Rattle.sw_hashpath.specs.declared.name.Name.{Name}
 use Rattle.sw_hashpath.specs.declared.place.Place.{Place}
 use Rattle.sw_machine.specs.Machine.{Carries, HasRow, Machine, Went}
-use Rattle.sw_machine.specs.Messages.{Message, Row_of, Rows_of, Update_of, Write_of}
+use Rattle.sw_machine.specs.Messages.{Creation_of, Message, Ranges_of, Row_of, Rows_of, Update_of, Write_of}
 use Rattle.sw_object_steps.specs.BaseRows.{IsBaseFor, IsRowOf}
 use Rattle.sw_object_steps.specs.Outlines.{is_before}
 use Rattle.sw_pending.specs.declared.filed.Filed.{Filed}
 use Rattle.sw_pending_laws.proofs.Among.{behind, front-or-behind, in-front, none-among}
 use Rattle.sw_pending_laws.specs.Ledger.{CanSend, Ledger}
 use Rattle.sw_pending_laws.specs.Ledger.Change.{Sends}
-use Rattle.sw_pending_laws.specs.Sound.{ComesFromClients}
-use Rattle.sw_rows.proofs.Greater.{once-found}
-use Rattle.sw_rows.specs.Rows.{IsNamedOnce, Listed, find_named}
 use Rattle.sw_rows.specs.declared.numbered.Numbered.{Numbered}
 use Rattle.sw_rows.specs.declared.row.Row.{Row}
 use Rattle.sw_state.specs.Bases.{base_at}
@@ -30,7 +26,7 @@ use Rattle.sw_listing_laws.proofs.Accounts.{Accounts, HasReached, IsAccounted, I
 use Rattle.sw_listing_laws.proofs.Going.{Goes, LineNext, all-still, goes-by, goes-nowhere}
 use Rattle.sw_listing_laws.proofs.Grounds.{ground, ground-place, named-object}
 use Rattle.sw_listing_laws.proofs.Standing.{Stands, reach, stands-late, standing}
-use Rattle.sw_listing_laws.specs.Honest.{Cluster, IsNamed, IsNamedMessage}
+use Rattle.sw_listing_laws.specs.Honest.{Cluster, IsNamed, IsNamedMessage, IsPlainMessage}
 
 -- ---- the write that a state has of its base
 
@@ -58,7 +54,7 @@ written-base s w b there is = by (Contains-append_cases (base_writes s.base) (me
     by (inl of_base) = in-base s.base w b of_base is
     by (inr of_meta) = absurd (in-meta s.meta w b of_meta is)
 
-module _ (c : Cluster) (m : Machine) (l : Ledger) (accounts : Accounts c m l) (clients : ComesFromClients (ground c) l) (from : ℕ) where
+module _ (c : Cluster) (m : Machine) (l : Ledger) (accounts : Accounts c m l) (from : ℕ) where
   -- ---- writes
 
   stands : (name : Name) (b : Base) → (m.objects.half.holds from name.hash).state.base ≡ Some b → Stands l.reached from name.hash (Some b)
@@ -76,22 +72,9 @@ module _ (c : Cluster) (m : Machine) (l : Ledger) (accounts : Accounts c m l) (c
   -- ---- rows
 
   row-right : (place : Place) (row : Row) → HasRow m from place row → IsRight c l place row
-  row-right place row has = by (cases_Bool (c.is_hidden place))
-    where
-      all : (ns : List Numbered) → (l.tables from place).list ≡ ns → Contains (map (λ (n : Numbered). n.row) ns) row
-          → find_named (l.tables from place).list row.name ≡ Some row
-      all ns same there =
-          ap (λ (xs : List Numbered). find_named xs row.name) same
-          ∙ All-contains (λ (x : Row). find_named ns x.name ≡ Some x) (map (λ (n : Numbered). n.row) ns) row
-          (All-map (λ (x : Row). find_named ns x.name ≡ Some x) (λ (n : Numbered). n.row) ns
-          (once-found ns (subst (λ (xs : List Numbered). IsNamedOnce xs) same (accounts.containers.listed from place).once)))
-          there
-
-      by : (c.is_hidden place ≡ true) ⊎ (c.is_hidden place ≡ false) → IsRight c l place row
-      by (inl hidden) = inl hidden
-      by (inr shown) =
-          inr (clients.rows from place row.name row shown
-          (all (rows_of (m.containers.half.holds from place)).list (ap (λ (x : Listed). x.list) (accounts.containers.rows from place)) has))
+  row-right place row has =
+      All-contains (IsRight c l place) (map (λ (n : Numbered). n.row) (rows_of (m.containers.half.holds from place)).list) row
+      (All-map (IsRight c l place) (λ (n : Numbered). n.row) (rows_of (m.containers.half.holds from place)).list (accounts.right from place)) has
 
   -- ---- updates
 
@@ -120,6 +103,7 @@ module _ (c : Cluster) (m : Machine) (l : Ledger) (accounts : Accounts c m l) (c
     accounts = record {
       objects = accounts.objects;
       containers = accounts.containers;
+      right = accounts.right;
       sent = λ x there. by x (Contains-push_cases m.sent message x there);
     };
     says = says l;
@@ -137,6 +121,7 @@ module _ (c : Cluster) (m : Machine) (l : Ledger) (accounts : Accounts c m l) (c
     accounts = record {
       objects = accounts.objects;
       containers = accounts.containers;
+      right = accounts.right;
       sent = λ x there. by x (Contains-push_cases m.sent (Update_of to filed place row) x there);
     };
     says = (in-front (told from filed row) l.sent, there_is);
@@ -159,13 +144,20 @@ module _ (c : Cluster) (m : Machine) (l : Ledger) (accounts : Accounts c m l) (c
           subst (λ (y : Message). IsAccounted c (record l { sent = told from filed row ∷ l.sent }) y) new
           (from, in-front (told from filed row) l.sent, there_is)
 
-  pub sends : (message : Message) → Carries c.nodes m from message → IsNamedMessage c message
+  -- rows of a container are right for it, and for one that is hidden all are
+  rows-right : (place at : Place) (rows : List Row) → (at ≡ place) ⊎ (c.is_hidden at ≡ true) → All (HasRow m from place) rows → All (IsRight c l at) rows
+  rows-right place at rows (inl same) has =
+      subst (λ (p : Place). All (IsRight c l p) rows) (sym same) (All-weaker (HasRow m from place) (IsRight c l place) (row-right place) rows has)
+  rows-right place at rows (inr hidden) has = All-weaker (HasRow m from place) (IsRight c l at) (λ row there. inl hidden) rows has
+
+  pub sends : (message : Message) → Carries c.nodes m from message → IsPlainMessage c message → IsNamedMessage c message
       → LineNext c (record m { sent = m.sent ++ message ∷ [] }) l (Went from message)
-  sends (Write_of to name write) carries named =
+  sends (Write_of to name write) carries plain named =
       unsaid (Write_of to name write) (write-reached name write (carries (accounts.objects.tell from name.hash))) (λ next. tt)
-  sends (Row_of to place row) carries named =
+  sends (Row_of to place row) carries plain named =
       unsaid (Row_of to place row) (row-right place row (carries (accounts.containers.tell from place))) (λ next. tt)
-  sends (Rows_of to place rows) carries named =
-      unsaid (Rows_of to place rows)
-      (All-weaker (HasRow m from place) (IsRight c l place) (row-right place) rows (carries (accounts.containers.tell from place))) (λ next. tt)
-  sends (Update_of to filed place row) carries named = update to filed place row named carries
+  sends (Rows_of to place at rows) carries plain named =
+      unsaid (Rows_of to place at rows) (rows-right place at rows plain (carries (accounts.containers.tell from place))) (λ next. tt)
+  sends (Update_of to filed place row) carries plain named = update to filed place row named carries
+  sends (Creation_of to place time) carries plain named = unsaid (Creation_of to place time) tt (λ next. tt)
+  sends (Ranges_of to place ranges) carries plain named = unsaid (Ranges_of to place ranges) tt (λ next. tt)

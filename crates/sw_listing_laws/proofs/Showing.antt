@@ -1,12 +1,12 @@
 -- What is shown at the end of a run, by the ledger of the machine.
-use Rattle.std.proofs.Common.{◌≡◌, ℕ, ◌≤◌, List, [], Option, None, Some, refl, sym, ◌∙◌, ap, subst}
+use Rattle.std.proofs.Common.{◌≡◌, ℕ, ◌≤◌, false, true≢false, List, [], Option, None, Some, refl, sym, ◌∙◌, ap, subst}
 use Rattle.std.specs.List.{Contains}
 use Rattle.std.proofs.lemmas.List.Elements.{All-nil}
 use Rattle.sw_container_steps.specs.Entries.{rows_of}
 use Rattle.sw_hashpath.specs.Places.{IsPlaceOf}
 use Rattle.sw_hashpath.specs.declared.name.Name.{Name}
 use Rattle.sw_hashpath.specs.declared.place.Place.{Place}
-use Rattle.sw_machine.specs.Machine.{KnownWrite, Machine}
+use Rattle.sw_machine.specs.Machine.{KnownWrite, Machine, is_emptied}
 use Rattle.sw_machine.specs.Messages.{Message}
 use Rattle.sw_object_steps.specs.Journals.{Hash}
 use Rattle.sw_pending_laws.proofs.Among.{none-among}
@@ -18,7 +18,8 @@ use Rattle.sw_rows.specs.Rows.{IsListed, Listed, find_named, no_rows}
 use Rattle.sw_rows.specs.declared.numbered.Numbered.{Numbered}
 use Rattle.sw_state.specs.Bases.{base_at}
 use Rattle.sw_state.specs.declared.base.Base.{Base}
-use Rattle.sw_listing_laws.proofs.Accounts.{Accounts, AreAccounted, Fits, IsKnown, IsSound}
+use Rattle.sw_listing_laws.proofs.Accounts.{Accounts, AreAccounted, Fits, IsKnown, IsRight, IsSound}
+use Rattle.sw_listing_laws.proofs.Bringing.{HasOnly}
 use Rattle.sw_listing_laws.proofs.Grounds.{ground, ground-place, home-is, named-object, one-hash, one-name, place-of}
 use Rattle.sw_listing_laws.proofs.Running.{IsAtEnd, ends}
 use Rattle.sw_listing_laws.proofs.Standing.{Stands, reach}
@@ -53,7 +54,15 @@ module _ (c : Cluster) (m : Machine) (new : IsNew c m) where
         fits = none-filed;
         known = subst (λ (xs : List (ℕ × KnownWrite)). IsKnown c xs []) (sym new.no_writes) none-known;
       };
-      containers = record { tell = new.containers_tell; rows = λ d p. sym (new.no_rows d p); listed = λ d p. none-listed };
+      containers = record {
+        tell = new.containers_tell;
+        rows = λ d p kept. sym (new.no_rows d p);
+        listed = λ d p. none-listed;
+        split = λ d p gone whole. true≢false (sym gone ∙ new.kept d p);
+      };
+      right = λ d p.
+          subst (λ (t : Listed). HasOnly (IsRight c ledgers.begun p) t) (sym (new.no_rows d p))
+          (All-nil (λ (n : Numbered). IsRight c ledgers.begun p n.row));
       sent = subst (λ (xs : List Message). AreAccounted c ledgers.begun xs) (sym new.no_messages) (λ message there. absurd (none-among message there));
     };
     tells = λ line there. absurd (none-among line there);
@@ -139,8 +148,9 @@ module _ (c : Cluster) (m : Machine) (l : Ledger) (accounts : Accounts c m l) wh
       k : IsKnownAs a
       k = known-as a live.reached
 
-  shows : (device : ℕ) (place : Place) (object : List ℕ) → ledgers.ShowsExactly (ground c) l device place object → ShowsExactly c m device place object
-  shows device place object s = record {
+  shows : (device : ℕ) (place : Place) → is_emptied (m.containers.half.holds device place) ≡ false → (object : List ℕ)
+      → ledgers.ShowsExactly (ground c) l device place object → ShowsExactly c m device place object
+  shows device place kept object s = record {
     shown = λ row found live.
         let a = s.shown row (ap (λ (t : Listed). find_named t.list object) rows ∙ found) live in
         ((a.0).base, live-here place object a.0 a.1, a.2);
@@ -150,13 +160,13 @@ module _ (c : Cluster) (m : Machine) (l : Ledger) (accounts : Accounts c m l) wh
   }
     where
       rows : l.tables device place ≡ rows_of (m.containers.half.holds device place)
-      rows = accounts.containers.rows device place
+      rows = accounts.containers.rows device place kept
 
 -- ---- the law
 
 pub settled-shows : SettledContainersShowExactly
-settled-shows c m lines after new run same place shown all device ring object =
+settled-shows c m lines after new run same place shown all device ring kept object =
     let e : IsAtEnd c after = ends c lines [] m ledgers.begun after (begins c m new) run in
-    shows c after e.ledger e.accounts device place object
+    shows c after e.ledger e.accounts device place kept object
     (shows-exactly (ground c) e.ledger e.steady e.clients (agree c after e.ledger e.accounts same) place shown
     (settled c after e.ledger e.accounts place all) device ring object)

@@ -14,7 +14,7 @@ use Rattle.sw_hashpath.specs.declared.place.Place.{Place}
 use Rattle.sw_hashpath.specs.declared.secrets.Secrets.{Secrets}
 use Rattle.sw_machine.specs.Doors.{GoesOn, StandsFor}
 use Rattle.sw_machine.specs.Machine.{Came, KnownWrite, Machine, RunLine, Steps, Went}
-use Rattle.sw_machine.specs.Messages.{Message, Update_of}
+use Rattle.sw_machine.specs.Messages.{Message, Rows_of, Update_of}
 use Rattle.sw_object_steps.specs.BaseRows.{IsRowOf}
 use Rattle.sw_object_steps.specs.Journals.{Hash}
 use Rattle.sw_object_steps.specs.declared.change.Change.{Change}
@@ -115,10 +115,15 @@ IsPlainEvent c m (Changed name (Receive write) answer) = (base : Base) → base_
 IsPlainEvent c m (AtContainer (cont_events.Changed place change answer) entries) = IsPlainChange c m place change
 IsPlainEvent c m event = ⊤
 
+-- rows go to their own container, or to one that is hidden, as shards are
+abbrev pub IsPlainMessage : Cluster → Message → Type 0
+IsPlainMessage c (Rows_of to place at rows) = (at ≡ place) ⊎ (c.is_hidden at ≡ true)
+IsPlainMessage c message = ⊤
+
 -- what comes in a message is another device's
 abbrev pub IsPlain : Cluster → Machine → RunLine → Type 0
 IsPlain c m (Came line) = line.link ≡ Local → IsPlainEvent c m line.event
-IsPlain c m (Went from message) = ⊤
+IsPlain c m (Went from message) = IsPlainMessage c message
 
 -- ---- names
 

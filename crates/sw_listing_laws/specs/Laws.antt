@@ -1,13 +1,14 @@
 -- What a container's replicas list. (This project's own.)
 use Rattle.std.specs.Prelude.{◌≡◌, ⊤, ℕ, true, false, not, filter, List, [], ◌∷◌, Contains, None, Some, Ok}
 use Rattle.sw_container_steps.specs.Entries.{rows_of}
+use Rattle.sw_container_steps.specs.Serving.{IsUnsplit}
 use Rattle.sw_container_steps.specs.declared.cont_entry.ContEntry.{ContEntry}
 use Rattle.sw_hashpath.specs.Places.{IsPlaceOf}
 use Rattle.sw_hashpath.specs.declared.place.Place.{Place}
 use Rattle.sw_listing.specs.Listing.{listing}
 use Rattle.sw_listing.specs.declared.entry.Entry.{Entry}
 use Rattle.sw_listing.specs.declared.query.Query.{Query}
-use Rattle.sw_machine.specs.Machine.{Came, KnownWrite, Machine, RunLine, Runs, Steps}
+use Rattle.sw_machine.specs.Machine.{Came, KnownWrite, Machine, RunLine, Runs, Steps, is_emptied}
 use Rattle.sw_machine.specs.Sides.{TellsAt}
 use Rattle.sw_object_steps.specs.BaseRows.{IsRowOf}
 use Rattle.sw_object_steps.specs.Journals.{Hash}
@@ -26,13 +27,14 @@ use Rattle.sw_state.specs.Bases.{base_at, base_time, is_deletion}
 use Rattle.sw_state.specs.declared.base.Base.{Base}
 use Rattle.sw_listing_laws.specs.Honest.{AreHonest, Cluster, IsNamedLine, IsPlain, RunsSoundly}
 
--- nothing stands at any device, and nothing is on its way; each lock tells its contents
+-- nothing stands at any device or was taken away there, and nothing is on its way; each lock tells its contents
 pub record IsNew (c : Cluster) (m : Machine) : Type 0 where
   pub objects_tell : (device : ℕ) (hash : Hash) → TellsAt c.nodes.lock m.objects device hash
   pub containers_tell : (device : ℕ) (place : Place) → TellsAt (cont_lock c.nodes) m.containers device place
   pub no_objects : (device : ℕ) (hash : Hash) → (m.objects.half.holds device hash).state.base ≡ None
   pub no_records : (device : ℕ) (hash : Hash) (key : RecordKey) → (m.objects.half.holds device hash).records key ≡ None
   pub no_rows : (device : ℕ) (place : Place) → rows_of (m.containers.half.holds device place) ≡ no_rows
+  pub kept : (device : ℕ) (place : Place) → is_emptied (m.containers.half.holds device place) ≡ false
   pub no_writes : m.objects.known ≡ []
   pub no_messages : m.sent ≡ []
 
@@ -67,11 +69,11 @@ pub record ShowsExactly (c : Cluster) (m : Machine) (device : ℕ) (place : Plac
       → (row : Row) × (find_named (rows_of (m.containers.half.holds device place)).list object ≡ Some row) × (row.deleted ≡ false) × IsRowOf object base row
 
 -- After any run in which all keep to their parts, whatever failed, was lost, came again or was restarted: of a container that isn't hidden, and of which no
--- record is pending, each replica shows exactly the live objects
+-- record is pending, each replica of which no rows were taken away shows exactly the live objects
 abbrev pub SettledContainersShowExactly : Type 0
 SettledContainersShowExactly = (c : Cluster) (m : Machine) (lines : List RunLine) (after : Machine) → IsNew c m → RunsSoundly c [] m lines after
     → DoAgree after → (place : Place) → c.is_hidden place ≡ false → IsSettled c after place → (device : ℕ) → Contains (c.replicas place) device
-    → (object : List ℕ) → ShowsExactly c after device place object
+    → is_emptied (after.containers.half.holds device place) ≡ false → (object : List ℕ) → ShowsExactly c after device place object
 
 -- ---- what is listed
 
@@ -81,25 +83,27 @@ pub record AreLiveRows (c : Cluster) (m : Machine) (place : Place) (rows : List 
   pub sound : (n : Numbered) → Contains rows n → (base : Base) × IsLive c m place n.row.name base × IsRowOf n.row.name base n.row
   pub whole : (object : List ℕ) (base : Base) → IsLive c m place object base → (n : Numbered) × Contains rows n × (n.row.name ≡ object)
 
--- the rows of a replica of such a container that aren't deleted are such rows
+-- the rows of such a replica of such a container that aren't deleted are such rows
 abbrev pub LiveRowsAreThere : Type 0
 LiveRowsAreThere = (c : Cluster) (m : Machine) (lines : List RunLine) (after : Machine) → IsNew c m → RunsSoundly c [] m lines after
     → DoAgree after → (place : Place) → c.is_hidden place ≡ false → IsSettled c after place → (device : ℕ) → Contains (c.replicas place) device
+    → is_emptied (after.containers.half.holds device place) ≡ false
     → AreLiveRows c after place (filter (λ n. not n.row.deleted) (rows_of (after.containers.half.holds device place)).list)
 
--- so each replica of such a container lists, whatever it is asked, what is asked of the rows of the live objects
+-- so its rows are listed, whatever is asked, as the rows of the live objects are
 abbrev pub SettledContainersListExactly : Type 0
 SettledContainersListExactly = (c : Cluster) (m : Machine) (lines : List RunLine) (after : Machine) → IsNew c m → RunsSoundly c [] m lines after
     → DoAgree after → (place : Place) → c.is_hidden place ≡ false → IsSettled c after place → (device : ℕ) → Contains (c.replicas place) device
-    → (rows : List Numbered) → AreLiveRows c after place rows → (query : Query)
+    → is_emptied (after.containers.half.holds device place) ≡ false → (rows : List Numbered) → AreLiveRows c after place rows → (query : Query)
     → listing query (rows_of (after.containers.half.holds device place)).list ≡ listing query rows
 
--- and each listing that comes then is that
+-- and each listing that comes then is that, of a replica that isn't split into shards: it shows only rows that aren't left to these
 abbrev pub ListingsAreExact : Type 0
 ListingsAreExact = (c : Cluster) (m : Machine) (lines : List RunLine) (mid : Machine) (line : Line) (after : Machine) → IsNew c m
     → RunsSoundly c [] m lines mid → Steps c.nodes mid (Came line) after → DoAgree mid → (place : Place) (query : Query) (listed : List Entry)
     (entries : List ContEntry) → line.event ≡ AtContainer (cont_events.Listed place query (Ok listed)) entries → c.is_hidden place ≡ false
-    → IsSettled c mid place → Contains (c.replicas place) line.device → (rows : List Numbered) → AreLiveRows c mid place rows → listed ≡ listing query rows
+    → IsSettled c mid place → Contains (c.replicas place) line.device → IsUnsplit (mid.containers.half.holds line.device place)
+    → (rows : List Numbered) → AreLiveRows c mid place rows → listed ≡ listing query rows
 
 -- ---- whose runs these are
 

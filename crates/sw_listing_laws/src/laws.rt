@@ -3,13 +3,13 @@
 ghost use Rattle.sw_listing_laws.specs.Laws.{HonestRunsAreSound, ListingsAreExact, LiveRowsAreThere, SettledContainersListExactly};
 ghost use Rattle.sw_listing_laws.specs.Laws.{SettledContainersShowExactly};
 
-/// Of a container that isn't hidden, and of which no record is pending, each replica shows exactly the live objects.
+/// Of a container that isn't hidden, and of which no record is pending, each replica of which no rows were taken away shows exactly the live objects.
 pub fn settled_containers_show_exactly()
     ensures { SettledContainersShowExactly }
 {}
 
-/// So its rows that aren't deleted are those of the live objects; whatever it is asked, each of these lists exactly what is asked of them; and each listing
-/// that comes in a run is that.
+/// So its rows that aren't deleted are those of the live objects; whatever is asked of its rows, it is exactly what is asked of these; and each listing that
+/// comes in a run of a container that isn't split into shards at its device is that.
 pub fn listings_are_exact()
     ensures there { LiveRowsAreThere }
     ensures lists { SettledContainersListExactly }

@@ -3,7 +3,7 @@ use Rattle.std.proofs.Common.{◌≡◌, ℕ, Bool, true, List, [], ◌∷◌, �
 use Rattle.std.specs.Option.{option_map}
 use Rattle.std.specs.declared.alloc.Global.{Global}
 use Rattle.std.specs.declared.vec.Vec.{Vec}
-use Rattle.sw_container_steps.specs.Reads.{info_of, listing_of, parcel_of, times_of}
+use Rattle.sw_container_steps.specs.Reads.{info_of, listing_of, parcel_of, range_parcel_of, sharding_of, times_of}
 use Rattle.sw_container_steps.specs.Rules.{cont_rules}
 use Rattle.sw_container_steps.specs.declared.cont_answer.ContAnswer.{ContAnswer}
 use Rattle.sw_container_steps.specs.declared.cont_entry.ContEntry.{ContEntry}
@@ -33,8 +33,8 @@ use Rattle.sw_state.specs.declared.state.State.{State}
 use Rattle.sw_step.specs.Steps.{added_by}
 use Rattle.sw_machine.proofs.Going.{changes-go-on, reads-go-on, same-goes}
 use Rattle.sw_machine.specs.Doors.{BaseReadsGoOn, ContainerChangesGoOn, DeviceListingsGoOn, FilesReadsGoOn, GoesOn, GoesOnBy, HashesReadsGoOn, InfosGoOn}
-use Rattle.sw_machine.specs.Doors.{ListingsGoOn, LooksGoOn, ObjectChangesGoOn, ObjectReadsGoOn, ParcelsGoOn, ReadsGoOn, RecordsReadsGoOn, RestartsGoOn}
-use Rattle.sw_machine.specs.Doors.{StandsFor, TimesGoOn, WriteReadsGoOn, cont_line, obj_line}
+use Rattle.sw_machine.specs.Doors.{ListingsGoOn, LooksGoOn, ObjectChangesGoOn, ObjectReadsGoOn, ParcelsGoOn, RangeRowsGoOn, ReadsGoOn, RecordsReadsGoOn}
+use Rattle.sw_machine.specs.Doors.{RestartsGoOn, ShardingsGoOn, StandsFor, TimesGoOn, WriteReadsGoOn, cont_line, obj_line}
 use Rattle.sw_machine.specs.Machine.{Came, ContComes, ContReads, ContSide, KnownRow, KnownWrite, Machine, ObjReadsPart, ObjSide, PartReads, Runs}
 use Rattle.sw_machine.specs.Machine.{Steps, made_rows, made_writes}
 use Rattle.sw_machine.specs.Messages.{MayChange, Message, WasSent}
@@ -373,6 +373,15 @@ listings device place query =
 pub parcels : ParcelsGoOn
 parcels device place to =
     looks device place (parcel_of to) (λ got. cont_events.Parceled place to got) (λ got entries may. may) (λ nodes m got added after reads. reads)
+
+pub shardings : ShardingsGoOn
+shardings device place =
+    looks device place sharding_of (λ got. cont_events.Sharded place got) (λ got entries may. may) (λ nodes m got added after reads. reads)
+
+pub range-rows : RangeRowsGoOn
+range-rows device place range above =
+    looks device place (range_parcel_of range above) (λ got. cont_events.Cleft place range above got) (λ got entries may. may)
+    (λ nodes m got added after reads. reads)
 
 -- ---- whole devices
 

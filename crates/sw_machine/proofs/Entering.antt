@@ -222,6 +222,10 @@ module _ (nodes : Nodes) (device : ℕ) where
         read-along kept cont_rules (cont_lock nodes) m d (cont_lock nodes d place) _ _ _ _ got entries after step
     cont-along m d (cont_events.Parceled place to got) entries after step =
         read-along kept cont_rules (cont_lock nodes) m d (cont_lock nodes d place) _ _ _ _ got entries after step
+    cont-along m d (cont_events.Sharded place got) entries after step =
+        read-along kept cont_rules (cont_lock nodes) m d (cont_lock nodes d place) _ _ _ _ got entries after step
+    cont-along m d (cont_events.Cleft place range above got) entries after step =
+        read-along kept cont_rules (cont_lock nodes) m d (cont_lock nodes d place) _ _ _ _ got entries after step
 
     part-along : (m : ObjSide) (d : ℕ) (read : PartRead) (added : List ObjEntry) (after : ObjSide) → ObjReadsPart nodes m d read added after
         → (l : ℕ) → Along (m.half.seen l) (after.half.seen l) (if is_at_lock nodes l d (ReadPart read) then added else []) kept

@@ -1,11 +1,11 @@
 -- Runs of the machine.
-use Rattle.std.proofs.Common.{◌≡◌, ℕ, Bool, true, if◌then◌else◌, List, [], ◌∷◌, ◌++◌, map, refl, sym, ◌∙◌, ap, subst, append_assoc, Option, Result}
+use Rattle.std.proofs.Common.{◌≡◌, ℕ, Bool, true, false, if◌then◌else◌, List, [], ◌∷◌, ◌++◌, map, refl, sym, ◌∙◌, ap, subst, append_assoc, Option, Result}
 use Rattle.std.proofs.lemmas.List.{append-nil, append_cancel_left}
 use Rattle.std.specs.List.{fold}
 use Rattle.sw_container_steps.proofs.Ruling.{are-rules as cont-rules}
 use Rattle.sw_container_steps.specs.Entries.{rows_of}
 use Rattle.sw_container_steps.specs.Rules.{cont_look, cont_rules}
-use Rattle.sw_container_steps.specs.Reads.{info_of, listing_of, parcel_of, times_of}
+use Rattle.sw_container_steps.specs.Reads.{info_of, listing_of, parcel_of, range_parcel_of, sharding_of, times_of}
 use Rattle.sw_container_steps.specs.declared.cont_answer.ContAnswer.{ContAnswer}
 use Rattle.sw_container_steps.specs.declared.cont_change.ContChange.{ContChange}
 use Rattle.sw_container_steps.specs.declared.cont_entry.ContEntry.{ContEntry}
@@ -38,13 +38,13 @@ use Rattle.sw_step.specs.Rules.{CanStand}
 use Rattle.sw_step.specs.Steps.{Look}
 use Rattle.sw_machine.proofs.Greatest.{fold-keeps}
 use Rattle.sw_machine.proofs.Objects.{joins-from, made-states}
-use Rattle.sw_machine.proofs.Rows.{made-merges}
+use Rattle.sw_machine.proofs.Rows.{emptied-still, unemptied-merges}
 use Rattle.sw_machine.proofs.Sides.{Account, AllOf, Goes, as-it-was, made-goes, on, read-goes, restart-goes, still}
 use Rattle.sw_machine.specs.Laws.{HashesAreTold, HashesMayStand, HashesStand, IsGreatest, LocksAreApart, MessagesWereSent, PlacesAreTold, PlacesMayStand}
 use Rattle.sw_machine.specs.Laws.{RowsAreMerged, RunKeepsTheGreatest, RunSends, RunsJoin, row_named}
 use Rattle.sw_machine.specs.Machine.{Came, Comes, ContComes, ContMakes, ContReads, ContSide, KnownRow, KnownWrite, Machine, ObjLists, ObjMakes}
 use Rattle.sw_machine.specs.Machine.{ObjReadsPart, ObjSide}
-use Rattle.sw_machine.specs.Machine.{RunLine, Runs, Steps, Went, made_rows, made_writes, rows_among, rows_in, was_made, went_in, writes_among}
+use Rattle.sw_machine.specs.Machine.{RunLine, Runs, Steps, Went, is_emptied, made_rows, made_writes, rows_among, rows_in, was_made, went_in, writes_among}
 use Rattle.sw_machine.specs.Messages.{Message, WasSent}
 use Rattle.sw_machine.specs.Sides.{SideReads}
 
@@ -76,6 +76,7 @@ module _ (nodes : Nodes) where
     part = λ n. n.write;
     view = λ v. v.state;
     absorbed = joined;
+    gone = λ v. false;
   }
 
   abbrev containers : Account Place (Option Tables) ContEntry ContChange ContAnswer KnownRow Row RowList
@@ -89,6 +90,7 @@ module _ (nodes : Nodes) where
     part = λ n. n.row;
     view = rows_of;
     absorbed = merged;
+    gone = is_emptied;
   }
 
   abbrev ObjGoes : ObjSide → ObjSide → Type 0
@@ -111,11 +113,12 @@ module _ (nodes : Nodes) where
   obj-made m device name change answer added after makes =
       made-goes objects m device name.hash (Writes name change) answer added (made_writes name) after makes
       (writes-all name makes.step.made)
-      (λ tells.
+      (λ tells kept.
       ap (λ (v : ObjValue). v.state)
       (makes.step.leaves refl (makes.step.follows.told ∙ tells)
       ∙ ap (λ (v : ObjValue). fold obj_applied v makes.step.made) (makes.is_held name.hash refl))
       ∙ made-states name (m.half.holds device name.hash) makes.step.made)
+      (λ tells gone. gone)
 
   obj-read : {B : Type 0} (m : ObjSide) (device l : ℕ) (at : Hash → Bool) (touched : List ObjEntry → Bool) (look : B → Look)
       (reading : (Hash → ObjValue) → ℕ → B → Type 0) (got : B) (added : List ObjEntry) (after : ObjSide)
@@ -162,11 +165,18 @@ module _ (nodes : Nodes) where
   cont-made m device place change answer added after makes =
       made-goes containers m device place change answer added (made_rows place change answer) after makes
       (rows-all place (if was_made answer makes.step.made then rows_in change else []))
-      (λ tells.
-      made-merges (m.half.seen (cont_lock nodes device place)) makes.held place change answer (after.half.seen (cont_lock nodes device place))
-      (after.half.holds device place) makes.step tells
-      ∙ ap (λ (t : Option Tables). fold merged (rows_of t) (map (λ (n : KnownRow). n.row) (made_rows place change answer makes.step.made)))
-      (makes.is_held place refl))
+      (λ tells kept.
+      unemptied-merges (m.half.seen l) makes.held place change answer (after.half.seen l) (after.half.holds device place) makes.step tells kept
+      ∙ ap (λ (t : Option Tables). fold merged (rows_of t) (map (λ (n : KnownRow). n.row) (made_rows place change answer makes.step.made))) held)
+      (λ tells gone.
+      emptied-still (m.half.seen l) makes.held place change answer (after.half.seen l) (after.half.holds device place) makes.step tells
+      (ap is_emptied held ∙ gone))
+    where
+      l : ℕ
+      l = cont_lock nodes device place
+
+      held : makes.held place ≡ m.half.holds device place
+      held = makes.is_held place refl
 
   cont-read : {A : Type 0} (m : ContSide) (device : ℕ) (place : Place) (reading : Option Tables → ℕ → Result A ContAnswer) (got : Result A ContAnswer)
       (added : List ContEntry) (after : ContSide) → ContReads nodes m device place reading got added after → ContGoes m after
@@ -182,6 +192,9 @@ module _ (nodes : Nodes) where
   cont-comes m device (cont_events.Informed place got) added after step = cont-read m device place info_of got added after step
   cont-comes m device (cont_events.Listed place query got) added after step = cont-read m device place (listing_of query) got added after step
   cont-comes m device (cont_events.Parceled place to got) added after step = cont-read m device place (parcel_of to) got added after step
+  cont-comes m device (cont_events.Sharded place got) added after step = cont-read m device place sharding_of got added after step
+  cont-comes m device (cont_events.Cleft place range above got) added after step =
+      cont-read m device place (range_parcel_of range above) got added after step
 
   cont-still : (m after : ContSide) → after ≡ m → ContGoes m after
   cont-still m after same =
@@ -240,8 +253,8 @@ hashes-stand nodes m lines after run =
       known = all.known;
       hash = λ device hash told. record {
         told = all.told device hash told;
-        joins = all.absorbs device hash told;
-        stands = all.absorbs device hash told ∙ joins-from (m.objects.half.holds device hash).state (writes_among all.more device hash);
+        joins = all.absorbs device hash told refl;
+        stands = all.absorbs device hash told refl ∙ joins-from (m.objects.half.holds device hash).state (writes_among all.more device hash);
       };
     }
 
@@ -251,16 +264,20 @@ rows-are-merged nodes m lines after run =
     record {
       more = all.more;
       known = all.known;
-      place = λ device place told. record { told = all.told device place told; merges = all.absorbs device place told };
+      place = λ device place told. record {
+        told = all.told device place told;
+        merges = all.absorbs device place told;
+        emptied = all.stays device place told;
+      };
     }
 
 pub keeps-the-greatest : RunKeepsTheGreatest
-keeps-the-greatest nodes m lines after run more known device place told name =
+keeps-the-greatest nodes m lines after run more known device place told kept name =
     let all = (goes nodes m lines after run).1 in
     let same : all.more ≡ more = append_cancel_left m.containers.known all.more more (sym all.known ∙ known) in
     let folded : rows_of (after.containers.half.holds device place)
     ≡ fold merged (rows_of (m.containers.half.holds device place)) (rows_among more device place) =
-    all.absorbs device place told
+    all.absorbs device place told kept
     ∙ ap (λ (x : List (ℕ × KnownRow)). fold merged (rows_of (m.containers.half.holds device place)) (rows_among x device place)) same in
     subst
     (λ (l : RowList). IsGreatest name (row_named name (m.containers.half.holds device place)) (rows_among more device place) (find_named l.list name))

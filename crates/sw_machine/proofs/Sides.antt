@@ -1,6 +1,6 @@
 -- Why one side goes on, whatever its locks keep.
 use Rattle.std.proofs.Common.{◌≡◌, ◌≢◌, ℕ, Bool, true, false, ◌&&◌, nat_eq, List, [], ◌∷◌, ◌++◌, map, refl, sym, ◌∙◌, ap, subst, inl, inr, ◌⊎◌}
-use Rattle.std.proofs.Common.{append_assoc, if◌then◌else◌}
+use Rattle.std.proofs.Common.{append_assoc, if◌then◌else◌, true≢false}
 use Rattle.std.proofs.lemmas.Bool.{cases_Bool, eq-eqb, eqb-false, eqb-true}
 use Rattle.std.proofs.lemmas.List.{append-nil}
 use Rattle.std.proofs.lemmas.List.Sums.{fold-append}
@@ -17,7 +17,7 @@ both true q is = (refl, is)
 both false q is = cc
 
 -- All that is to be said of one kind of lock: its rules, where its keys are, and what of a value and of what became known is told. `Apart` says that each
--- lock is one of one device
+-- lock is one of one device, `gone` tells of a value whether what it absorbed was taken away
 pub record Account (K V E C A N X W : Type 0) : Type 1 where
   pub rules : RulesOf K V E C A
   pub are : AreRules rules
@@ -28,6 +28,7 @@ pub record Account (K V E C A N X W : Type 0) : Type 1 where
   pub part : N → X
   pub view : V → W
   pub absorbed : W → X → W
+  pub gone : V → Bool
 
 module _ {K V E C A N X W : Type 0} (k : Account K V E C A N X W) where
   abbrev at : ℕ → K → List (ℕ × N) → List X
@@ -40,13 +41,14 @@ module _ {K V E C A N X W : Type 0} (k : Account K V E C A N X W) where
   Can m d key = CanStandAt k.rules k.lock m d key
 
   -- From one moment to a later one some more became known; a lock that told its contents tells them; what a key stands for has absorbed what became known
-  -- of it; and where it was what the entries tell, with doubts that were made, it still is
+  -- of it, where that wasn't taken away, and what was taken away stays so; and where it was what the entries tell, with doubts that were made, it still is
   pub record Goes (m after : Side K V E N) : Type 0 where
     pub more : List (ℕ × N)
     pub known : after.known ≡ m.known ++ more
     pub told : (d : ℕ) (key : K) → Tells m d key → Tells after d key
-    pub absorbs : (d : ℕ) (key : K) → Tells m d key
+    pub absorbs : (d : ℕ) (key : K) → Tells m d key → k.gone (after.half.holds d key) ≡ false
         → k.view (after.half.holds d key) ≡ fold k.absorbed (k.view (m.half.holds d key)) (at d key more)
+    pub stays : (d : ℕ) (key : K) → Tells m d key → k.gone (m.half.holds d key) ≡ true → k.gone (after.half.holds d key) ≡ true
     pub can : k.Apart → (d : ℕ) (key : K) → Tells m d key → Can m d key → Can after d key
 
   -- ---- what became known of a key
@@ -89,7 +91,8 @@ module _ {K V E C A N X W : Type 0} (k : Account K V E C A N X W) where
     more = [];
     known = known ∙ sym (append-nil m.known);
     told = told;
-    absorbs = λ d key tells. ap k.view (holds d key tells);
+    absorbs = λ d key tells kept. ap k.view (holds d key tells);
+    stays = λ d key tells gone. ap k.gone (holds d key tells) ∙ gone;
     can = can;
   }
 
@@ -104,13 +107,22 @@ module _ {K V E C A N X W : Type 0} (k : Account K V E C A N X W) where
     more = first.more ++ next.more;
     known = next.known ∙ (ap (λ (ns : List (ℕ × N)). ns ++ next.more) first.known ∙ append_assoc m.known first.more next.more);
     told = λ d key told. next.told d key (first.told d key told);
-    absorbs = λ d key told.
-        next.absorbs d key (first.told d key told)
-        ∙ (ap (λ (w : W). fold k.absorbed w (at d key next.more)) (first.absorbs d key told)
+    absorbs = λ d key told kept.
+        next.absorbs d key (first.told d key told) kept
+        ∙ (ap (λ (w : W). fold k.absorbed w (at d key next.more)) (first.absorbs d key told (kept-before d key told kept))
         ∙ (sym (fold-append k.absorbed (k.view (m.half.holds d key)) (at d key first.more) (at d key next.more))
         ∙ ap (λ (xs : List X). fold k.absorbed (k.view (m.half.holds d key)) xs) (sym (at-append d key first.more next.more))));
+    stays = λ d key told gone. next.stays d key (first.told d key told) (first.stays d key told gone);
     can = λ apart d key told can. next.can apart d key (first.told d key told) (first.can apart d key told can);
   }
+    where
+      -- what isn't taken away at the end wasn't in between
+      kept-before : (d : ℕ) (key : K) → Tells m d key → k.gone (after.half.holds d key) ≡ false → k.gone (mid.half.holds d key) ≡ false
+      kept-before d key told kept = by (cases_Bool (k.gone (mid.half.holds d key)))
+        where
+          by : (k.gone (mid.half.holds d key) ≡ true) ⊎ (k.gone (mid.half.holds d key) ≡ false) → k.gone (mid.half.holds d key) ≡ false
+          by (inl gone) = absurd (true≢false (sym (next.stays d key (first.told d key told) gone) ∙ kept))
+          by (inr isnt) = isnt
 
   -- ---- a step that may change something
 
@@ -161,36 +173,41 @@ module _ {K V E C A N X W : Type 0} (k : Account K V E C A N X W) where
             (subst (λ (v : V). CanStand k.rules (m.half.seen l) other v) (sym held)
             (subst (λ (x : ℕ). CanStand k.rules (m.half.seen x) other (m.half.holds d other)) same_lock can))))
 
-    -- what was made of it has to be absorbed, where its lock tells its contents
+    -- what was made of it has to be absorbed, where its lock tells its contents and it isn't taken away
     pub made-goes : AllOf key (news makes.step.made)
-        → (Tells m device key
+        → (Tells m device key → k.gone (after.half.holds device key) ≡ false
         → k.view (after.half.holds device key) ≡ fold k.absorbed (k.view (m.half.holds device key)) (map k.part (news makes.step.made)))
+        → (Tells m device key → k.gone (m.half.holds device key) ≡ true → k.gone (after.half.holds device key) ≡ true)
         → Goes m after
-    made-goes all absorbs = record {
+    made-goes all absorbs stays = record {
       more = map (λ n. (device, n)) (news makes.step.made);
       known = makes.known;
       told = λ d other told. (makes.moves.grows (k.lock d other)).told ∙ told;
-      absorbs = λ d other told. takes d other told (cases_Bool (nat_eq device d && k.rules.is_key key other));
+      absorbs = λ d other told kept. takes d other told kept (cases_Bool (nat_eq device d && k.rules.is_key key other));
+      stays = λ d other told gone. stays_at d other told gone (cases_Bool (nat_eq device d && k.rules.is_key key other));
       can = λ apart d other told can. keeps apart d other told can (cases_Bool (nat_eq device d && k.rules.is_key key other));
     }
       where
-        Takes : ℕ → K → Type 0
-        Takes d other = Tells m d other → k.view (after.half.holds d other)
-            ≡ fold k.absorbed (k.view (m.half.holds d other)) (at d other (map (λ n. (device, n)) (news makes.step.made)))
-
-        takes : (d : ℕ) (other : K) → Tells m d other
+        takes : (d : ℕ) (other : K) → Tells m d other → k.gone (after.half.holds d other) ≡ false
             → ((nat_eq device d && k.rules.is_key key other) ≡ true) ⊎ ((nat_eq device d && k.rules.is_key key other) ≡ false)
             → k.view (after.half.holds d other) ≡ fold k.absorbed (k.view (m.half.holds d other)) (at d other (map (λ n. (device, n)) (news makes.step.made)))
-        takes d other told (inl here) = at-same
-            (λ e q. Tells m e q → k.view (after.half.holds e q)
+        takes d other told kept (inl here) = at-same
+            (λ e q. Tells m e q → k.gone (after.half.holds e q) ≡ false → k.view (after.half.holds e q)
             ≡ fold k.absorbed (k.view (m.half.holds e q)) (at e q (map (λ n. (device, n)) (news makes.step.made))))
             d other here
-            (λ tells. absorbs tells
+            (λ tells remains. absorbs tells remains
             ∙ ap (λ (xs : List X). fold k.absorbed (k.view (m.half.holds device key)) xs) (sym (at-own device key (news makes.step.made) all)))
-            told
-        takes d other told (inr away) =
+            told kept
+        takes d other told kept (inr away) =
             ap k.view (holds-still d other away)
             ∙ ap (λ (xs : List X). fold k.absorbed (k.view (m.half.holds d other)) xs) (sym (at-other device key d other (news makes.step.made) all away))
+
+        stays_at : (d : ℕ) (other : K) → Tells m d other → k.gone (m.half.holds d other) ≡ true
+            → ((nat_eq device d && k.rules.is_key key other) ≡ true) ⊎ ((nat_eq device d && k.rules.is_key key other) ≡ false)
+            → k.gone (after.half.holds d other) ≡ true
+        stays_at d other told gone (inl here) = at-same
+            (λ e q. Tells m e q → k.gone (m.half.holds e q) ≡ true → k.gone (after.half.holds e q) ≡ true) d other here stays told gone
+        stays_at d other told gone (inr away) = ap k.gone (holds-still d other away) ∙ gone
 
         keeps : k.Apart → (d : ℕ) (other : K) → Tells m d other → Can m d other
             → ((nat_eq device d && k.rules.is_key key other) ≡ true) ⊎ ((nat_eq device d && k.rules.is_key key other) ≡ false)

@@ -1,7 +1,7 @@
 -- How a door that is alone stands for the machine, with a trail or without: each of its steps goes on with a run. (This project's own.)
 use Rattle.std.specs.Prelude.{◌≡◌, ⊤, ℕ, Bool, true, List, [], ◌∷◌, ◌++◌, Option, Result, Ok, Err, ◌⊎◌}
 use Rattle.std.specs.Option.{option_map}
-use Rattle.sw_container_steps.specs.Reads.{info_of, listing_of, parcel_of, times_of}
+use Rattle.sw_container_steps.specs.Reads.{info_of, listing_of, parcel_of, range_parcel_of, sharding_of, times_of}
 use Rattle.sw_container_steps.specs.declared.cont_answer.ContAnswer.{ContAnswer}
 use Rattle.sw_container_steps.specs.declared.cont_change.ContChange.{ContChange}
 use Rattle.sw_container_steps.specs.declared.cont_entry.ContEntry.{ContEntry}
@@ -193,6 +193,14 @@ ListingsGoOn = (device : ℕ) (place : Place) (query : Query) → LooksGoOn devi
 -- of the rows that a device isn't known to have
 abbrev pub ParcelsGoOn : Type 0
 ParcelsGoOn = (device : ℕ) (place : Place) (to : ℕ) → LooksGoOn device place (parcel_of to) (λ got. cont_events.Parceled place to got)
+
+-- of how far it is split into shards, and of the rows of a range above a number
+abbrev pub ShardingsGoOn : Type 0
+ShardingsGoOn = (device : ℕ) (place : Place) → LooksGoOn device place sharding_of (λ got. cont_events.Sharded place got)
+
+abbrev pub RangeRowsGoOn : Type 0
+RangeRowsGoOn = (device : ℕ) (place : Place) (range above : ℕ)
+    → LooksGoOn device place (range_parcel_of range above) (λ got. cont_events.Cleft place range above got)
 
 -- ---- of a whole device: a listing of all its files, and a restart, add no entries
 

@@ -49,6 +49,8 @@ place_of (cont_events.Timed place got) = place
 place_of (cont_events.Informed place got) = place
 place_of (cont_events.Listed place query got) = place
 place_of (cont_events.Parceled place to got) = place
+place_of (cont_events.Sharded place got) = place
+place_of (cont_events.Cleft place range above got) = place
 
 -- those that an event at a device added to the journal of this container lock
 abbrev pub entered_at : Nodes → ℕ → ℕ → Event → List ContEntry

@@ -1,6 +1,6 @@
 -- What is promised of runs: of each device and key by itself, with calls that fail, there or elsewhere, full journals, restarts, and messages that are lost
 -- or come again. (This project's own.)
-use Rattle.std.specs.Prelude.{◌≡◌, ℕ, true, List, [], ◌∷◌, ◌++◌, fold, Contains, Option, Some, ◌⊎◌}
+use Rattle.std.specs.Prelude.{◌≡◌, ℕ, true, false, List, [], ◌∷◌, ◌++◌, fold, Contains, Option, Some, ◌⊎◌}
 use Rattle.sw_container_steps.specs.Entries.{rows_of}
 use Rattle.sw_container_steps.specs.Rules.{cont_rules}
 use Rattle.sw_hashpath.specs.declared.place.Place.{Place}
@@ -13,7 +13,7 @@ use Rattle.sw_rows.specs.Rows.{find_named, is_at_least, merged}
 use Rattle.sw_rows.specs.declared.row.Row.{Row}
 use Rattle.sw_state.specs.States.{joined, state_of, writes_of}
 use Rattle.sw_step.specs.Rules.{doubts_about, stands}
-use Rattle.sw_machine.specs.Machine.{Came, KnownRow, KnownWrite, Machine, RunLine, Runs, rows_among, went_in, writes_among}
+use Rattle.sw_machine.specs.Machine.{Came, KnownRow, KnownWrite, Machine, RunLine, Runs, is_emptied, rows_among, went_in, writes_among}
 use Rattle.sw_machine.specs.Messages.{WasSent}
 use Rattle.sw_machine.specs.Sides.{CanStandAt, TellsAt}
 
@@ -39,11 +39,13 @@ HashesStand = (nodes : Nodes) (m : Machine) (lines : List RunLine) (after : Mach
 
 -- ---- containers
 
--- the rows of a container are those that it had, with those that reached it merged one by one, in their order, and no others
+-- The rows of a container that weren't taken away are those that it had, with those that reached it merged one by one, in their order, and no others. What was
+-- taken away stays so
 pub record PlaceStands (nodes : Nodes) (m after : Machine) (more : List (ℕ × KnownRow)) (device : ℕ) (place : Place) : Type 0 where
   pub told : TellsAt (cont_lock nodes) after.containers device place
-  pub merges : rows_of (after.containers.half.holds device place)
-      ≡ fold merged (rows_of (m.containers.half.holds device place)) (rows_among more device place)
+  pub merges : is_emptied (after.containers.half.holds device place) ≡ false
+      → rows_of (after.containers.half.holds device place) ≡ fold merged (rows_of (m.containers.half.holds device place)) (rows_among more device place)
+  pub emptied : is_emptied (m.containers.half.holds device place) ≡ true → is_emptied (after.containers.half.holds device place) ≡ true
 
 pub record PlacesGoOn (nodes : Nodes) (m after : Machine) : Type 0 where
   pub more : List (ℕ × KnownRow)
@@ -68,11 +70,12 @@ pub record IsGreatest (name : List ℕ) (before : Option Row) (rows : List Row) 
   pub reached : (row : Row) → Contains rows row → row.name ≡ name → StandsAtLeast after row
   pub one : (after ≡ before) ⊎ ((row : Row) × Contains rows row × (row.name ≡ name) × (after ≡ Some row))
 
--- so each name has the greatest of the row that it had and those that reached the container in the run
+-- so where they weren't taken away each name has the greatest of the row that it had and those that reached the container in the run
 abbrev pub RunKeepsTheGreatest : Type 0
 RunKeepsTheGreatest = (nodes : Nodes) (m : Machine) (lines : List RunLine) (after : Machine) (run : Runs nodes m lines after) (more : List (ℕ × KnownRow))
     → after.containers.known ≡ m.containers.known ++ more → (device : ℕ) (place : Place) → TellsAt (cont_lock nodes) m.containers device place
-    → (name : List ℕ) → IsGreatest name (row_named name (m.containers.half.holds device place)) (rows_among more device place)
+    → is_emptied (after.containers.half.holds device place) ≡ false → (name : List ℕ)
+    → IsGreatest name (row_named name (m.containers.half.holds device place)) (rows_among more device place)
     (row_named name (after.containers.half.holds device place))
 
 -- ---- what the journals tell

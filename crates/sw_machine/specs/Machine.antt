@@ -1,16 +1,18 @@
 -- The machine: all nodes, with objects and containers, step by step; what became known at each device, and the messages that were ever sent. (This
 -- project's own; the answers are those of OpenStack Swift's object and container servers, as `sw_object_steps` and `sw_container_steps` have them.)
-use Rattle.std.specs.Prelude.{◌≡◌, ◌≢◌, ℕ, ◌≤◌, Bool, true, false, List, [], ◌∷◌, ◌++◌, map, Contains, Option, Some, Result, Err, if◌then◌else◌}
+use Rattle.std.specs.Prelude.{◌≡◌, ◌≢◌, ⊤, ℕ, ◌≤◌, Bool, true, false, List, [], ◌∷◌, ◌++◌, map, Contains, Option, None, Some, Result, Err}
+use Rattle.std.specs.Prelude.{if◌then◌else◌}
 use Rattle.std.specs.List.{All}
 use Rattle.std.specs.Str.{bytes_eq}
 use Rattle.std.specs.declared.alloc.Global.{Global}
 use Rattle.std.specs.declared.vec.Vec.{Vec}
 use Rattle.sw_container_steps.specs.Entries.{is_same_place, rows_of}
-use Rattle.sw_container_steps.specs.Reads.{info_of, listing_of, parcel_of, times_of}
+use Rattle.sw_container_steps.specs.Reads.{info_of, listing_of, parcel_of, range_parcel_of, sharding_of, times_of}
 use Rattle.sw_container_steps.specs.Rules.{cont_ending, cont_look, cont_rules}
 use Rattle.sw_container_steps.specs.declared.cont_answer.ContAnswer.{ContAnswer}
 use Rattle.sw_container_steps.specs.declared.cont_change.ContChange.{ContChange}
-use Rattle.sw_container_steps.specs.declared.cont_change.ContChange.TheVariants.{Create, Remove, MergeRow, MergeRows, SetSync}
+use Rattle.sw_container_steps.specs.declared.cont_change.ContChange.TheVariants.{Create, Remove, MergeRow, MergeRows, SetRanges, Ack, CloseRange}
+use Rattle.sw_container_steps.specs.declared.cont_change.ContChange.TheVariants.{EmptyOut, SetSync}
 use Rattle.sw_container_steps.specs.declared.cont_entry.ContEntry.{ContEntry}
 use Rattle.sw_hashpath.specs.HashParts.{partition_of}
 use Rattle.sw_hashpath.specs.Places.{IsPlaceOf}
@@ -44,11 +46,12 @@ use Rattle.sw_peer.specs.declared.part_read.PartRead.{PartRead}
 use Rattle.sw_peer.specs.declared.part_read.PartRead.TheVariants.{Base, Files, Hashes, Records, Write as ReadWrite}
 use Rattle.sw_pending.specs.declared.filed.Filed.{Filed}
 use Rattle.sw_rows.specs.declared.row.Row.{Row}
+use Rattle.sw_shard_range.specs.declared.range.Range.{Range}
 use Rattle.sw_state.specs.States.{writes_of}
 use Rattle.sw_state.specs.declared.state.State.{State}
 use Rattle.sw_state.specs.declared.write.Write.{Write}
 use Rattle.sw_step.specs.Rules.{has_made}
-use Rattle.sw_machine.specs.Messages.{Message, Row_of, Rows_of, Update_of, WasSent, Write_of}
+use Rattle.sw_machine.specs.Messages.{Creation_of, Message, Ranges_of, Row_of, Rows_of, Update_of, WasSent, Write_of}
 use Rattle.sw_machine.specs.Sides.{Side, SideMakes, SideReads, SideRestarts, TellsAt, known_at, side_of}
 
 -- ---- what becomes known
@@ -77,13 +80,29 @@ made_writes name (entries.Files by filed ∷ made) = made_writes name made
 made_writes name (entries.Marked by filed device ∷ made) = made_writes name made
 made_writes name (entries.Dropped by filed ∷ made) = made_writes name made
 
--- the rows that a step merges. A sync point is none
+-- the rows that a step merges. Ranges and points are none
 abbrev pub rows_in : ContChange → List Row
 rows_in (Create time) = []
 rows_in (Remove time) = []
 rows_in (MergeRow row) = row ∷ []
 rows_in (MergeRows rows) = rows
+rows_in (SetRanges ranges) = []
+rows_in (Ack range device rowid) = []
+rows_in (CloseRange range devices) = []
+rows_in EmptyOut = []
 rows_in (SetSync device rowid) = []
+
+-- whether a step takes the rows of a container away
+abbrev pub empties : ContChange → Bool
+empties (Create time) = false
+empties (Remove time) = false
+empties (MergeRow row) = false
+empties (MergeRows rows) = false
+empties (SetRanges ranges) = false
+empties (Ack range device rowid) = false
+empties (CloseRange range devices) = false
+empties EmptyOut = true
+empties (SetSync device rowid) = false
 
 -- whether a step was made: its answer says so, or something was made of it
 abbrev pub was_made : ContAnswer → List ContEntry → Bool
@@ -140,21 +159,33 @@ went_in (Went from message ∷ lines) = message ∷ went_in lines
 
 -- ---- what a device may send as things are
 
+-- whether the rows of a container were taken away
+abbrev pub is_emptied : Option Tables → Bool
+is_emptied None = false
+is_emptied (Some t) = t.emptied
+
+-- it has this list of shard ranges for the container
+abbrev pub HasList : Option Tables → List Range → Type 0
+HasList None ranges = ⊥
+HasList (Some t) ranges = t.ranges ≡ Some ranges
+
 -- it has the row under this place
 abbrev pub HasRow : Machine → ℕ → Place → Row → Type 0
 HasRow m device place row = Contains (map (λ n. n.row) (rows_of (m.containers.half.holds device place)).list) row
 
 module _ (nodes : Nodes) where
-  -- A write that it stands for, rows of a container that it has, and the row of what stands under the name of a record, to that name's container. Of a lock
-  -- that doesn't tell its contents nobody knows what it has
+  -- A write that it stands for, rows of a container that it has, the row of what stands under the name of a record, to that name's container, the creation of
+  -- a container, and the shard ranges that a container has. Of a lock that doesn't tell its contents nobody knows what it has
   abbrev pub Carries : Machine → ℕ → Message → Type 0
   Carries m from (Write_of to name write) =
       TellsAt nodes.lock m.objects from name.hash → Contains (writes_of (m.objects.half.holds from name.hash).state) write
   Carries m from (Row_of to place row) = TellsAt (cont_lock nodes) m.containers from place → HasRow m from place row
-  Carries m from (Rows_of to place rows) = TellsAt (cont_lock nodes) m.containers from place → All (λ row. HasRow m from place row) rows
+  Carries m from (Rows_of to place at rows) = TellsAt (cont_lock nodes) m.containers from place → All (λ row. HasRow m from place row) rows
   Carries m from (Update_of to filed place row) =
       IsPlaceOf nodes.secrets filed.name place
       × (TellsAt nodes.lock m.objects from filed.name.hash → IsBaseFor filed (m.objects.half.holds from filed.name.hash).state (Some row))
+  Carries m from (Creation_of to place time) = ⊤
+  Carries m from (Ranges_of to place ranges) = TellsAt (cont_lock nodes) m.containers from place → HasList (m.containers.half.holds from place) ranges
 
   -- ---- what comes to a device at its objects
 
@@ -226,6 +257,8 @@ module _ (nodes : Nodes) where
   ContComes m device (cont_events.Informed place got) added after = ContReads m device place info_of got added after
   ContComes m device (cont_events.Listed place query got) added after = ContReads m device place (listing_of query) got added after
   ContComes m device (cont_events.Parceled place to got) added after = ContReads m device place (parcel_of to) got added after
+  ContComes m device (cont_events.Sharded place got) added after = ContReads m device place sharding_of got added after
+  ContComes m device (cont_events.Cleft place range above got) added after = ContReads m device place (range_parcel_of range above) got added after
 
   -- ---- what comes to a device
 

@@ -1,8 +1,8 @@
 //! Laws of runs. Each function does nothing: its clause is the law.
 
 ghost use Rattle.sw_machine.specs.Doors.{BaseReadsGoOn, ContainerChangesGoOn, DeviceListingsGoOn, FilesReadsGoOn, GoingOnJoins, HashesReadsGoOn, InfosGoOn};
-ghost use Rattle.sw_machine.specs.Doors.{ListingsGoOn, ObjectChangesGoOn, ObjectReadsGoOn, ParcelsGoOn, RecordsReadsGoOn, RestartsGoOn, RunsOnJoin};
-ghost use Rattle.sw_machine.specs.Doors.{SameGoesOn, SendingGoesOn, TimesGoOn, WriteReadsGoOn};
+ghost use Rattle.sw_machine.specs.Doors.{ListingsGoOn, ObjectChangesGoOn, ObjectReadsGoOn, ParcelsGoOn, RangeRowsGoOn, RecordsReadsGoOn, RestartsGoOn};
+ghost use Rattle.sw_machine.specs.Doors.{RunsOnJoin, SameGoesOn, SendingGoesOn, ShardingsGoOn, TimesGoOn, WriteReadsGoOn};
 ghost use Rattle.sw_machine.specs.Entering.{HashesCalm, JournalsGrow, LinesTellHashes, LinesTellPlaces, PlacesCalm};
 ghost use Rattle.sw_machine.specs.Laws.{HashesAreTold, HashesMayStand, HashesStand, MessagesWereSent, PlacesAreTold, PlacesMayStand, RowsAreMerged};
 ghost use Rattle.sw_machine.specs.Laws.{RunKeepsTheGreatest, RunSends, RunsJoin};
@@ -12,12 +12,12 @@ pub fn hashes_stand()
     ensures { HashesStand }
 {}
 
-/// And the rows of each container are those that it had, with those merged that reached it in the run, and no others.
+/// And the rows of each container that weren't taken away are those that it had, with those merged that reached it in the run, and no others.
 pub fn rows_are_merged()
     ensures { RowsAreMerged }
 {}
 
-/// So each name has the greatest of the row that it had and those that reached the container in the run.
+/// So where they weren't taken away each name has the greatest of the row that it had and those that reached the container in the run.
 pub fn run_keeps_the_greatest()
     ensures { RunKeepsTheGreatest }
 {}
@@ -98,13 +98,16 @@ pub fn records_go_on()
     ensures base { BaseReadsGoOn }
 {}
 
-/// By each at a container: one that may change it, a read of its times or of what is told of it, a listing, and a read of rows above a sync point.
+/// By each at a container: one that may change it, a read of its times or of what is told of it, a listing, a read of rows above a sync point, and those that
+/// tell how far it is split and which rows a range has.
 pub fn containers_go_on()
     ensures changes { ContainerChangesGoOn }
     ensures times { TimesGoOn }
     ensures infos { InfosGoOn }
     ensures listings { ListingsGoOn }
     ensures parcels { ParcelsGoOn }
+    ensures shardings { ShardingsGoOn }
+    ensures range_rows { RangeRowsGoOn }
 {}
 
 /// By each listing of all files of a device, and by each restart of it.

@@ -6,9 +6,9 @@
 //! without.
 //!
 //! What is promised, in [`laws`], is said of each device and key by itself, whatever calls fail, there or elsewhere: a device stands under each hash for
-//! what it stood for and the writes that reached it, and the rows of a container are those that it had with those merged that reached it; where a device
-//! held what its journals tell, with those of their doubts that were made, it goes on doing so; what came in a message had been sent; and each step and
-//! each call of such a door goes on with a run.
+//! what it stood for and the writes that reached it, and the rows of a container that weren't taken away are those that it had with those merged that
+//! reached it; where a device held what its journals tell, with those of their doubts that were made, it goes on doing so; what came in a message had been
+//! sent; and each step and each call of such a door goes on with a run.
 //!
 //! The next layers up are lists of steps (`sw_steps`), the nodes of a ring (`sw_nodes`), and the program over them (`sw_cluster`).
 #![tactic(auto)]

@@ -1,4 +1,4 @@
-use Rattle.sw_machine.proofs.Doors.{container-changes, infos, listings, parcels, times}
+use Rattle.sw_machine.proofs.Doors.{container-changes, infos, listings, parcels, range-rows, shardings, times}
 use Rattle.sw_machine.proofs.laws.containers_go_on.Goals as goal
 
 pub returns-clause-changes : goal.returns-clause-changes
@@ -15,3 +15,9 @@ returns-clause-listings c = listings
 
 pub returns-clause-parcels : goal.returns-clause-parcels
 returns-clause-parcels c = parcels
+
+pub returns-clause-shardings : goal.returns-clause-shardings
+returns-clause-shardings c = shardings
+
+pub returns-clause-range_rows : goal.returns-clause-range_rows
+returns-clause-range_rows c = range-rows
