@@ -49,6 +49,12 @@ cont_hindrance (conts.Done front) = None
 cont_hindrance conts.Absent = Some Missing
 cont_hindrance (conts.Stale time) = Some Conflict
 cont_hindrance (conts.NotEmpty count) = Some Conflict
+cont_hindrance conts.HasRanges = Some Conflict
+cont_hindrance conts.NoRanges = Some Missing
+cont_hindrance (conts.Redirect shard) = Some Conflict
+cont_hindrance (conts.StillOpen cursor) = Some Conflict
+cont_hindrance (conts.Later number) = Some Conflict
+cont_hindrance (conts.NotAcked lagging) = Some Conflict
 cont_hindrance conts.JournalFull = Some JournalFull
 cont_hindrance conts.Failed = Some Failed
 cont_hindrance conts.NoMemory = None
@@ -60,7 +66,7 @@ is_acknowledged answer = has_made (cont_ending answer)
 -- ---- counts
 
 abbrev pub nothing_yet : Outcome
-nothing_yet = record { done = false; lost = 0; kept = None; asked = 0; sent = 0; left = 0 }
+nothing_yet = record { done = false; lost = 0; kept = None; later = None; asked = 0; sent = 0; left = 0 }
 
 abbrev pub asking : Outcome → Outcome
 asking o = record o { asked = raised o.asked }
@@ -70,6 +76,14 @@ sending o = record o { sent = raised o.sent }
 
 abbrev pub losing : Outcome → Outcome
 losing o = record o { lost = raised o.lost; left = raised o.left }
+
+-- a message wasn't answered, in a pass that doesn't count what is left by its messages
+abbrev pub unanswered : Outcome → Outcome
+unanswered o = record o { lost = raised o.lost }
+
+-- a row came too late, under this number
+abbrev pub putting_off : Outcome → ℕ → Outcome
+putting_off o rowid = record o { later = Some rowid }
 
 abbrev pub first_kept : Option Hindrance → Hindrance → Option Hindrance
 first_kept None hindrance = Some hindrance
@@ -89,7 +103,16 @@ finished o = record o { done = (o.left == 0) }
 abbrev pub finished_where : Bool → Outcome → Outcome
 finished_where holds o = record o { done = (o.left == 0) && holds }
 
+-- as the pass itself tells it
+abbrev pub ended : Bool → ℕ → Outcome → Outcome
+ended done left o = record o { done = done; left = left }
+
 -- an answer that gave nothing hinders the pass. Want of memory counts for nothing, and ends it: it doesn't go on
 abbrev pub Hinders : Option Hindrance → Outcome → Outcome → Bool → Type 0
 Hinders (Some hindrance) o p on = (p ≡ hindered o hindrance) × (on ≡ true)
 Hinders None o p on = (p ≡ o) × (on ≡ false)
+
+-- an answer hindered the pass, and is kept where it is the first. Nothing that is counted is left by it. Want of memory ends the pass
+abbrev pub Keeps : Option Hindrance → Outcome → Outcome → Bool → Type 0
+Keeps (Some hindrance) o p on = (p ≡ keeping o hindrance) × (on ≡ true)
+Keeps None o p on = (p ≡ o) × (on ≡ false)

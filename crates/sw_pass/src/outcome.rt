@@ -1,5 +1,5 @@
 ghost use Rattle.std.specs.Prelude.{◌≡◌};
-ghost use Rattle.sw_pass.specs.Outcomes.{asking, finished, finished_where, hindered, keeping, losing, nothing_yet, sending};
+ghost use Rattle.sw_pass.specs.Outcomes.{asking, ended, finished, finished_where, hindered, keeping, losing, nothing_yet, putting_off, sending, unanswered};
 
 use crate::hindrance::Hindrance;
 
@@ -12,6 +12,8 @@ pub struct Outcome {
     pub lost: u64,
     /// The first answer that hindered it.
     pub kept: Option<Hindrance>,
+    /// The number (ROWID) of a row that came too late for it, and is for another pass.
+    pub later: Option<u64>,
     /// How many messages asked for hashes or files.
     pub asked: u64,
     /// How many other messages were sent.
@@ -29,6 +31,7 @@ impl Outcome {
             done: false,
             lost: 0,
             kept: None,
+            later: None,
             asked: 0,
             sent: 0,
             left: 0,
@@ -53,8 +56,22 @@ impl Outcome {
     pub fn lose(&mut self)
         ensures { self.new ≡ losing self.old }
     {
-        self.lost = self.lost.saturating_add(1);
+        self.miss();
         self.left = self.left.saturating_add(1);
+    }
+
+    /// A message wasn't answered. What is left by that isn't counted by messages.
+    pub fn miss(&mut self)
+        ensures { self.new ≡ unanswered self.old }
+    {
+        self.lost = self.lost.saturating_add(1);
+    }
+
+    /// A row came too late for it, under this number.
+    pub fn put_off(&mut self, rowid: u64)
+        ensures { self.new ≡ putting_off self.old rowid }
+    {
+        self.later = Some(rowid);
     }
 
     /// An answer hindered it, and left nothing that is counted. The first one is kept.
@@ -92,5 +109,12 @@ impl Outcome {
             done: self.left == 0 && holds,
             ..self
         }
+    }
+
+    /// The outcome of a pass that tells by itself whether it is done and how much is left.
+    pub fn end(self, done: bool, left: u64) -> Outcome
+        ensures { result ≡ ended done left self }
+    {
+        Outcome { done, left, ..self }
     }
 }

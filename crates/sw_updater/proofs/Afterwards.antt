@@ -4,12 +4,11 @@ use Rattle.std.specs.Result.{is_ok}
 use Rattle.sw_hashpath.specs.declared.place.Place.{Place}
 use Rattle.sw_object_steps.specs.declared.dir_fault.DirFault.{DirFault}
 use Rattle.sw_outside.specs.declared.errors.NoMemory.{NoMemory}
-use Rattle.sw_pass.specs.Outcomes.{fault_hindrance}
+use Rattle.sw_pass.specs.Outcomes.{Keeps, fault_hindrance}
 use Rattle.sw_pass.specs.declared.hindrance.Hindrance.{Hindrance}
 use Rattle.sw_pass.specs.declared.outcome.Outcome.{Outcome}
 use Rattle.sw_peer.specs.Sights.{Sight}
 use Rattle.sw_pending.specs.declared.filed.Filed.{Filed}
-use Rattle.sw_updater.specs.Counting.{Keeps}
 use Rattle.sw_updater.specs.Updating.{Course, IsAfterDrop, course}
 
 pub ended : {A : Type 0} (r : Result A NoMemory) → IsErr r → is_ok r ≡ false

@@ -2,11 +2,11 @@
 use Rattle.std.proofs.Common.{◌≡◌, ◌≤◌, Bool, true, false, ap, subst, sym, refl, arith, ◌∙◌, ◌⊎◌, inl, inr, Option, Some, None}
 use Rattle.sw_outside.specs.Faults.{HasRisen}
 use Rattle.sw_pass.proofs.Counts.{Counts, HasCause, counts-hinders, counts-keeping, counts-same, counts-sending, counts-trans, keeping-causes}
-use Rattle.sw_pass.specs.Outcomes.{Hinders, sending}
+use Rattle.sw_pass.specs.Outcomes.{Hinders, Keeps, sending, unanswered}
 use Rattle.sw_pass.specs.declared.hindrance.Hindrance.{Hindrance}
 use Rattle.sw_pass.specs.declared.outcome.Outcome.{Outcome}
 use Rattle.sw_peer.specs.Sights.{Sight}
-use Rattle.sw_updater.specs.Counting.{Keeps, leaving, unanswered}
+use Rattle.sw_updater.specs.Counting.{leaving}
 use Rattle.sw_updater.specs.Updating.{Course, course}
 
 pub apart : true ≡ false → ⊥

@@ -1,7 +1,6 @@
 pub mod Causes
 pub mod Counting
 pub mod Laws
-pub mod Places
 pub mod Reading
 pub mod Tasks
 pub mod Updating

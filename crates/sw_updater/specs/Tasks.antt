@@ -10,10 +10,6 @@ use Rattle.sw_pending.specs.declared.filed.Filed.{Filed}
 use Rattle.sw_ring.specs.declared.ring.Ring.{Ring}
 use Rattle.sw_updater.specs.declared.task.Task.{Task}
 
--- these devices are those of the ring
-abbrev pub AreKnown : Ring → List ℕ → Type 0
-AreKnown ring all = All (λ device. device < length ring.devices) all
-
 -- its device and those of the container are nodes, and the hashes of its names are those that the nodes know them by
 pub record IsFor (nodes : Nodes) (task : Task) : Type 0 where
   pub device : task.device < nodes.devices

@@ -10,7 +10,8 @@ use Rattle.sw_object_steps.specs.declared.answer.Answer.TheVariants as answers
 use Rattle.sw_object_steps.specs.declared.change.Change.TheVariants.{DropRecord, MarkRecord}
 use Rattle.sw_object_steps.specs.declared.dir_fault.DirFault.{DirFault}
 use Rattle.sw_outside.specs.declared.errors.NoMemory.{NoMemory}
-use Rattle.sw_pass.specs.Outcomes.{Hinders, answer_hindrance, cont_hindrance, fault_hindrance, finished, is_acknowledged, nothing_yet, sending}
+use Rattle.sw_pass.specs.Outcomes.{Hinders, Keeps, answer_hindrance, cont_hindrance, fault_hindrance, finished, is_acknowledged, nothing_yet, sending}
+use Rattle.sw_pass.specs.Outcomes.{unanswered}
 use Rattle.sw_pass.specs.Turns.{InTurn}
 use Rattle.sw_pass.specs.declared.outcome.Outcome.{Outcome}
 use Rattle.sw_peer.specs.ContSights.{IsContMade}
@@ -21,8 +22,8 @@ use Rattle.sw_pending.specs.Rules.{is_done}
 use Rattle.sw_pending.specs.declared.filed.Filed.{Filed}
 use Rattle.sw_ring.specs.declared.ring.Ring.{Ring}
 use Rattle.sw_rows.specs.declared.row.Row.{Row}
-use Rattle.sw_updater.specs.Counting.{Keeps, leaving, unanswered}
-use Rattle.sw_updater.specs.Places.{AreReplicas}
+use Rattle.sw_updater.specs.Counting.{leaving}
+use Rattle.sw_pass.specs.Rings.{AreReplicas}
 use Rattle.sw_updater.specs.Reading.{AreAllRead, IsOrderOf}
 
 -- what is known of the nodes, and whether anything was missed for the record so far

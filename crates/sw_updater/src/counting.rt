@@ -1,7 +1,7 @@
 ghost use Rattle.std.specs.Prelude.{◌≡◌, true};
 ghost use Rattle.std.specs.Result.{is_ok};
-ghost use Rattle.sw_pass.specs.Outcomes.{Hinders};
-ghost use Rattle.sw_updater.specs.Counting.{Keeps, leaving, unanswered};
+ghost use Rattle.sw_pass.specs.Outcomes.{Hinders, Keeps};
+ghost use Rattle.sw_updater.specs.Counting.{leaving};
 
 use sw_outside::NoMemory;
 use sw_pass::{Hindrance, Outcome};
@@ -36,13 +36,6 @@ pub(crate) fn miss(
         }
         None => Err(NoMemory),
     }
-}
-
-/// Counts a message that wasn't answered.
-pub(crate) fn count_unanswered(outcome: &mut Outcome)
-    ensures { outcome.new ≡ unanswered outcome.old }
-{
-    outcome.lost = outcome.lost.saturating_add(1);
 }
 
 /// Counts a record that was gone over: it is left where something was missed for it.

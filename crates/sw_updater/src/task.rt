@@ -1,14 +1,14 @@
 ghost use Rattle.std.specs.Prelude.{◌≡◌, None, Some, Ok, IfOk, true};
 ghost use Rattle.sw_pending.specs.Outcomes.{IsRecord};
 ghost use Rattle.sw_hashpath.specs.Places.{IsPlace, IsPlaceOf};
-ghost use Rattle.sw_updater.specs.Places.{AreReplicas};
-ghost use Rattle.sw_updater.specs.Tasks.{AreKnown};
+ghost use Rattle.sw_pass.specs.Rings.{AreKnown, AreReplicas};
 
 use std::alloc::Global;
-use sw_hashpath::{NameError, Place, partition};
+use sw_hashpath::{NameError, Place};
 use sw_outside::NoMemory;
+use sw_pass::replicas_of;
 use sw_pending::{DeviceList, Filed};
-use sw_ring::{Ring, Which};
+use sw_ring::Ring;
 
 /// A record that is gone over, and the container that it tells.
 #[derive(Debug, Drop)]
@@ -60,13 +60,4 @@ fn place_of(alloc: Global, ring: &Ring, filed: &Filed) -> Result<Place, NoMemory
         Err(NameError::NoMemory) => Err(NoMemory),
         Err(NameError::Bad(_)) => unreachable!(),
     }
-}
-
-/// The devices that keep a container.
-fn replicas_of(alloc: Global, ring: &Ring, place: &Place) -> Result<DeviceList, NoMemory>
-    ensures replicas { IfOk result (λ all. AreReplicas ring.now place.now all) }
-    ensures known { IfOk result (λ all. AreKnown ring.now all) }
-{
-    let row = ring.row(Which::Container, partition(&place.hash, ring.power));
-    Ok(DeviceList::from(Vec::from_slice(alloc, row)?))
 }

@@ -8,7 +8,7 @@ ghost use Rattle.sw_rows.specs.declared.row.Row.{Row as ToldRow};
 ghost use Rattle.sw_updater.specs.Tasks.{IsFor};
 ghost use Rattle.sw_updater.specs.Updating.{IsHeard, IsMarkCounted, IsMarked, IsTold, course, to_tell};
 
-use crate::counting::{count_unanswered, miss};
+use crate::counting::miss;
 use crate::task::Task;
 use std::alloc::Global;
 use sw_container_steps::{ContAnswer, ContChange};
@@ -91,7 +91,7 @@ fn hear<D: PendingDoor + ContainerDoor>(
         }
         Err(Lost) => {
             *missed = true;
-            count_unanswered(outcome);
+            outcome.miss();
             Ok(())
         }
     }

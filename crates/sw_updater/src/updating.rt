@@ -8,7 +8,7 @@ ghost use Rattle.sw_peer.specs.Sights.{Sight};
 ghost use Rattle.sw_pending.specs.Outcomes.{IsRecord};
 ghost use Rattle.sw_pending.specs.declared.filed.Filed.{Filed as FiledRecord};
 ghost use Rattle.sw_updater.specs.Causes.{HasCauses};
-ghost use Rattle.sw_updater.specs.Places.{IsRingOf};
+ghost use Rattle.sw_pass.specs.Rings.{IsRingOf};
 ghost use Rattle.sw_updater.specs.Reading.{AreAllRead, ArePending};
 ghost use Rattle.sw_updater.specs.Updating.{IsGoneOver, IsUpdate, IsUpdated};
 

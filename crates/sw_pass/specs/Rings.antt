@@ -1,6 +1,6 @@
--- Which devices keep the container that a record tells. (OpenStack Swift's rings.)
-use Rattle.std.specs.Prelude.{◌≡◌, ℕ, true, List, [], length, slice_index_or, Some}
-use Rattle.std.specs.List.{slice_get}
+-- Which devices keep a container, by the ring of the nodes. (OpenStack Swift's rings.)
+use Rattle.std.specs.Prelude.{◌≡◌, ◌<◌, ℕ, true, List, [], length, slice_index_or, Some}
+use Rattle.std.specs.List.{All, slice_get}
 use Rattle.sw_hashpath.specs.HashParts.{partition_of}
 use Rattle.sw_hashpath.specs.Places.{IsPlace}
 use Rattle.sw_hashpath.specs.declared.name.Name.{Name}
@@ -24,3 +24,7 @@ AreReplicas ring place all = slice_get ring.container (partition_of place.hash r
 -- these, or none where the ring has no such row
 abbrev pub replicas_in : Ring → Place → List ℕ
 replicas_in ring place = slice_index_or ring.container (partition_of place.hash ring.power) []
+
+-- these devices are those of the ring
+abbrev pub AreKnown : Ring → List ℕ → Type 0
+AreKnown ring all = All (λ device. device < length ring.devices) all
