@@ -5,4 +5,5 @@ mod Names
 mod OneAnswer
 mod OneAsking
 mod OneReply
+mod Plain
 mod RowTypes

@@ -29,7 +29,7 @@ use Rattle.sw_container_server.proofs.Looks.{came}
 use Rattle.sw_container_server.proofs.OneAsking.{asks_for_one}
 use Rattle.sw_container_server.proofs.OneReply.{has_one_reply}
 use Rattle.sw_container_server.specs.Laws.{HasOneAnswer, RefusedChangesNothing}
-use Rattle.sw_container_server.specs.Replies.{IsListingReply, info_reply, made_status, reply_to}
+use Rattle.sw_container_server.specs.Replies.{IsListingReply, change_reply, info_reply}
 use Rattle.sw_container_server.specs.Serving.{IsChanged, IsFollowed, IsGivenUp, IsInformed, IsLeft, IsListed, IsServed}
 use Rattle.sw_container_server.specs.declared.asked.ContAsked.{ContAsked}
 use Rattle.sw_container_server.specs.declared.asked.ContAsked.TheVariants as asks
@@ -48,6 +48,12 @@ wanted (answers.Done front) is = cc
 wanted answers.Absent is = cc
 wanted (answers.Stale time) is = cc
 wanted (answers.NotEmpty count) is = cc
+wanted answers.HasRanges is = cc
+wanted answers.NoRanges is = cc
+wanted (answers.Redirect shard) is = cc
+wanted (answers.StillOpen cursor) is = cc
+wanted (answers.Later number) is = cc
+wanted (answers.NotAcked lagging) is = cc
 wanted answers.JournalFull is = cc
 wanted answers.Failed is = cc
 wanted answers.NoMemory is = refl
@@ -231,7 +237,7 @@ module _ {D : Type 0} (sight : D → Sight) where
       let same : p.0 ≡ q.0 =
       one-heard device (λ answer. Changed place change answer) answers.NoMemory (one-change device place change) lines p.0 q.0 (sight new)
       (answered device place change lines (sight old) p.0 (sight new) is p.1) (answered device place change lines (sight old) q.0 (sight new) is q.1) in
-      p.2 ∙ (ap (reply_to (made_status change)) same ∙ sym q.2)
+      p.2 ∙ (ap (change_reply change) same ∙ sym q.2)
   one-served old new (asks.Info device place) lines a b is p q =
       let same : p.0 ≡ q.0 =
       one-heard device (λ got. Informed place got) (Err answers.NoMemory) (one-info device place) lines p.0 q.0 (sight new)

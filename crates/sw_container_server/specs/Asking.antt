@@ -3,6 +3,7 @@
 --
 -- `Verdicts.antt` has the tests of each verb, and what it asks for where all are passed.
 use Rattle.std.specs.Prelude.{◌≡◌, ⊤, ℕ, true, List, ◌∷◌, Option, None, Some, Contains}
+use Rattle.sw_container_steps.specs.Steps.{is_plain}
 use Rattle.sw_hashpath.specs.declared.place.Place.{Place}
 use Rattle.sw_message.specs.declared.request.Request.{Request}
 use Rattle.sw_object_server.specs.Places.{IsDevice}
@@ -73,9 +74,9 @@ IsAskedWith ring r (Some verb) asked = IsAskedBy ring (target_of r.path) r verb 
 abbrev pub IsAsked : Ring → Request → ContAsked → Type 0
 IsAsked ring r asked = IsAskedWith ring r (verb_of (is_row r.path) r.method) asked
 
--- what is asked for has such a place
+-- what is asked for has such a place, and is no step on shard ranges
 abbrev pub IsPlaced : Ring → ContAsked → Type 0
 IsPlaced ring (asks.Refused status) = ⊤
-IsPlaced ring (asks.Change device place change) = IsPlace ring device place
+IsPlaced ring (asks.Change device place change) = IsPlace ring device place × (is_plain change ≡ true)
 IsPlaced ring (asks.Info device place) = IsPlace ring device place
 IsPlaced ring (asks.List device place query) = IsPlace ring device place

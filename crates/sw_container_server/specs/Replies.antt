@@ -7,6 +7,8 @@ use Rattle.sw_container_steps.specs.declared.cont_answer.ContAnswer.TheVariants 
 use Rattle.sw_container_steps.specs.declared.cont_change.ContChange.{ContChange}
 use Rattle.sw_container_steps.specs.declared.cont_change.ContChange.TheVariants as changes
 use Rattle.sw_container_steps.specs.declared.info.Info.{Info}
+use Rattle.sw_container_steps.specs.declared.info.SplitState.{SplitState}
+use Rattle.sw_container_steps.specs.declared.info.SplitState.TheVariants as states
 use Rattle.sw_listing.specs.Entries.{lines}
 use Rattle.sw_listing.specs.declared.entry.Entry.{Entry}
 use Rattle.sw_listing_json.specs.Json.{IsJson}
@@ -21,15 +23,19 @@ use Rattle.sw_timestamp.specs.TimeText.{normal_text}
 -- ---- steps
 
 -- the status that tells that a change was made, or had nothing to change: a row that was put is created, a deletion has nothing to tell. (A
--- creation is told by its answer, and no request asks for several rows or sets a sync point)
+-- creation is told by its answer, and no request asks for several rows, for ranges or for a point)
 abbrev pub made_status : ContChange → ℕ
 made_status (changes.Create time) = 201
 made_status (changes.Remove time) = 204
 made_status (changes.MergeRow row) = if row.deleted then 204 else 201
 made_status (changes.MergeRows rows) = 201
+made_status (changes.SetRanges ranges) = 201
+made_status (changes.Ack range device rowid) = 201
+made_status (changes.CloseRange range devices) = 201
+made_status changes.EmptyOut = 201
 made_status (changes.SetSync device rowid) = 201
 
--- the reply to what a step was answered; the first argument is the status where it was made
+-- the reply to what a step was answered; the first argument is the status where it was made. (No request asks for a step on ranges)
 abbrev pub reply_to : ℕ → ContAnswer → Response
 reply_to made (answers.New front) = bare 201
 reply_to made (answers.There front) = bare 202
@@ -37,11 +43,17 @@ reply_to made (answers.Done front) = bare made
 reply_to made answers.Absent = bare 404
 reply_to made (answers.Stale time) = at_time 409 time
 reply_to made (answers.NotEmpty count) = bare 409
+reply_to made answers.HasRanges = bare 409
+reply_to made answers.NoRanges = bare 404
+reply_to made (answers.Redirect shard) = bare 301
+reply_to made (answers.StillOpen cursor) = bare 503
+reply_to made (answers.Later number) = bare 503
+reply_to made (answers.NotAcked lagging) = bare 503
 reply_to made answers.JournalFull = bare 503
 reply_to made answers.Failed = bare 507
 reply_to made answers.NoMemory = bare 500
 
--- whether this reply shows the time of what stands: no other one can find no memory
+-- whether this reply shows the time of what stands, or a shard: no other one can find no memory
 abbrev pub shows_time : ContAnswer → Bool
 shows_time (answers.New front) = false
 shows_time (answers.There front) = false
@@ -49,6 +61,12 @@ shows_time (answers.Done front) = false
 shows_time answers.Absent = false
 shows_time (answers.Stale time) = true
 shows_time (answers.NotEmpty count) = false
+shows_time answers.HasRanges = false
+shows_time answers.NoRanges = false
+shows_time (answers.Redirect shard) = true
+shows_time (answers.StillOpen cursor) = false
+shows_time (answers.Later number) = false
+shows_time (answers.NotAcked lagging) = false
 shows_time answers.JournalFull = false
 shows_time answers.Failed = false
 shows_time answers.NoMemory = false
@@ -63,7 +81,23 @@ moved_path shard name = codes "/" ++ (shard.account ++ (codes "/" ++ (shard.cont
 abbrev pub moved_reply : Place → List ℕ → Response
 moved_reply shard name = record { status = 301; fields = field (codes "Location") (escape (moved_path shard name)) ∷ []; body = Whole [] }
 
+-- a row whose name is left to a shard is sent on there. No request asks for several rows, and nothing else is sent on
+abbrev pub redirect_reply : ContChange → Place → Response
+redirect_reply (changes.MergeRow row) shard = moved_reply shard row.name
+redirect_reply change shard = bare 301
+
+-- the reply to a change that was answered so
+abbrev pub change_reply : ContChange → ContAnswer → Response
+change_reply change (answers.Redirect shard) = redirect_reply change shard
+change_reply change answer = reply_to (made_status change) answer
+
 -- ---- what is told of a container
+
+-- how far a container is split
+abbrev pub split_text : SplitState → List ℕ
+split_text states.Unsharded = codes "unsharded"
+split_text states.Sharding = codes "sharding"
+split_text states.Sharded = codes "sharded"
 
 -- the fields that tell of a container
 abbrev pub told_fields : Info → List Field
@@ -71,7 +105,7 @@ told_fields info =
     field (codes "X-Container-Object-Count") (decimal info.count)
     ∷ field (codes "X-Container-Bytes-Used") (decimal info.bytes)
     ∷ field (codes "X-Timestamp") (normal_text info.put_time)
-    ∷ field (codes "X-Backend-Sharding-State") (codes "unsharded")
+    ∷ field (codes "X-Backend-Sharding-State") (split_text info.split)
     ∷ []
 
 -- the 32 digits of a hash of rows, the high byte first

@@ -20,7 +20,7 @@ use Rattle.sw_peer.specs.declared.cont_event.ContEvent.TheVariants.{Informed, Li
 use Rattle.sw_peer.specs.declared.link.Link.TheVariants.{Local}
 use Rattle.sw_ring.specs.declared.ring.Ring.{Ring}
 use Rattle.sw_container_server.specs.Asking.{IsAsked}
-use Rattle.sw_container_server.specs.Replies.{IsListingReply, info_reply, made_status, reply_to, shows_time}
+use Rattle.sw_container_server.specs.Replies.{IsListingReply, change_reply, info_reply, shows_time}
 use Rattle.sw_container_server.specs.declared.asked.ContAsked.{ContAsked}
 use Rattle.sw_container_server.specs.declared.asked.ContAsked.TheVariants as asks
 
@@ -43,7 +43,7 @@ IsListed device place query = IsStepped (IsLooked Local device place (listing_of
 -- the change came, and its answer is replied
 abbrev pub IsChangeServed : Sight → Sight → ℕ → Place → ContChange → Response → Type 0
 IsChangeServed old new device place change response =
-    (answer : ContAnswer) × IsChanged device place change old answer new × (response ≡ reply_to (made_status change) answer)
+    (answer : ContAnswer) × IsChanged device place change old answer new × (response ≡ change_reply change answer)
 
 -- what is told of the container was read, and is replied
 abbrev pub IsInfoServed : Sight → Sight → ℕ → Place → Response → Type 0

@@ -33,7 +33,7 @@ mod verdict;
 pub use asked::ContAsked;
 pub use moving::moved_reply;
 pub use reading::read_container_request;
-pub use replies::{made_status, reply_to};
+pub use replies::{change_reply, made_status, reply_to};
 pub use serving::answer;
 pub use target::is_for_containers;
 pub use telling::{info_reply, listing_reply};

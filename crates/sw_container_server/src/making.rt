@@ -1,7 +1,8 @@
 ghost use Rattle.std.specs.Prelude.{◌≡◌, ◌<◌, true, IfOk, OnErr};
+ghost use Rattle.sw_container_steps.specs.Steps.{is_plain};
 ghost use Rattle.sw_container_server.specs.Serving.{IsChangeLeft, IsChangeServed};
 
-use crate::replies::{made_status, reply_to};
+use crate::replies::change_reply;
 use std::alloc::Global;
 use sw_container_steps::ContChange;
 use sw_hashpath::Place;
@@ -19,11 +20,12 @@ pub(crate) fn make<D: ContainerDoor>(
 ) -> Result<Response, NoMemory>
     requires device { device < (D.sight door.old).nodes.devices }
     requires fits { (D.sight door.old).nodes.fits_place place.now ≡ true }
+    requires plain { is_plain change.now ≡ true }
     ensures ok { IfOk result (IsChangeServed (D.sight door.old) (D.sight door.new) device place.now change.now) }
     ensures err { OnErr result (IsChangeLeft (D.sight door.old) (D.sight door.new) device place.now change.now) }
 {
     match door.change_container(alloc, Link::Local, device, place, change) {
-        Ok(answer) => reply_to(alloc, made_status(change), answer),
+        Ok(answer) => change_reply(alloc, change, &answer),
         Err(Lost) => unreachable!(),
     }
 }

@@ -1,12 +1,12 @@
 ghost use Rattle.std.specs.Prelude.{◌≡◌, true, decimal, IfOk, OnErr};
 ghost use Rattle.sw_container_server.specs.Replies.{IsListingReply, IsListingText, hash_text as hash_text_of, head_reply as head_reply_of};
 ghost use Rattle.sw_container_server.specs.Replies.{info_reply as info_reply_of, shown_listing, takes_memory, told_fields as told_fields_of};
-ghost use Rattle.sw_container_server.specs.Replies.{type_text as type_text_of};
+ghost use Rattle.sw_container_server.specs.Replies.{split_text as split_text_of, type_text as type_text_of};
 
 use crate::replies::reply_to;
 use itoa::Buffer;
 use std::alloc::Global;
-use sw_container_steps::{ContAnswer, Info};
+use sw_container_steps::{ContAnswer, Info, SplitState};
 use sw_hashpath::hex_text;
 use sw_listing::{Entries, to_text};
 use sw_listing_json::to_json;
@@ -24,7 +24,7 @@ pub fn info_reply(alloc: Global, told: Result<Info, ContAnswer>) -> Result<Respo
 {
     match told {
         Ok(info) => head_reply(alloc, &info),
-        Err(answer) => reply_to(alloc, READ, answer),
+        Err(answer) => reply_to(alloc, READ, &answer),
     }
 }
 
@@ -65,7 +65,7 @@ pub fn listing_reply(
             let text = listing_text(alloc, json, entries)?;
             show(alloc, json, info, text)
         }
-        Err(answer) => reply_to(alloc, READ, *answer),
+        Err(answer) => reply_to(alloc, READ, answer),
     }
 }
 
@@ -119,8 +119,19 @@ fn told_fields(alloc: Global, info: &Info) -> Result<Vec<Field>, NoMemory>
     let count = number_field(alloc, b"X-Container-Object-Count", info.count)?;
     let bytes = number_field(alloc, b"X-Container-Bytes-Used", info.bytes)?;
     let time = field(alloc, b"X-Timestamp", &time_text(info.put_time))?;
-    let sharding = field(alloc, b"X-Backend-Sharding-State", b"unsharded")?;
+    let sharding = field(alloc, b"X-Backend-Sharding-State", split_text(info.split))?;
     Ok(vec![in alloc; count, bytes, time, sharding]?)
+}
+
+/// How far a container is split, as a field tells it.
+fn split_text(split: SplitState) -> &'static [u8]
+    ensures { result.now ≡ split_text_of split }
+{
+    match split {
+        SplitState::Unsharded => b"unsharded",
+        SplitState::Sharding => b"sharding",
+        SplitState::Sharded => b"sharded",
+    }
 }
 
 fn number_field(alloc: Global, name: &[u8], number: u64) -> Result<Field, NoMemory>

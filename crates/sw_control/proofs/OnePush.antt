@@ -16,7 +16,7 @@ use Rattle.sw_control.specs.declared.update.Update.{Update}
 pub one_device : (ring : Ring) (name other : List ℕ) (i j : ℕ) → name ≡ other → IsDevice ring name (Some i) → IsDevice ring other (Some j) → i ≡ j
 one_device ring name other i j same p q = one_place name ring.devices i j ring.distinct_names p (rw (← same) at q)
 
-one_number : (text other : List ℕ) (m n : ℕ) → text ≡ other → IsNumber text m → IsNumber other n → m ≡ n
+pub one_number : (text other : List ℕ) (m n : ℕ) → text ≡ other → IsNumber text m → IsNumber other n → m ≡ n
 one_number text other m n same p q = rw same at p.value ∙ sym q.value
 
 one_message : (fields : List Field) (name : List ℕ) (a b : Option ℕ) → IsMessage fields name a → IsMessage fields name b → a ≡ b
@@ -34,7 +34,7 @@ same_acts a b lose lose_reply repeat =
     let with_repeat : Option ℕ → Acts = λ x. record b { repeat = x } in
     ap with_lose lose ∙ (ap with_reply lose_reply ∙ ap with_repeat repeat)
 
-one_acts : (fields : List Field) (a b : Acts) → AreActs fields a → AreActs fields b → a ≡ b
+pub one_acts : (fields : List Field) (a b : Acts) → AreActs fields a → AreActs fields b → a ≡ b
 one_acts fields a b p q =
     let lose = one_message fields (codes "x-swc-lose") a.lose b.lose p.lose q.lose in
     let lose_reply = one_message fields (codes "x-swc-lose-reply") a.lose_reply b.lose_reply p.lose_reply q.lose_reply in
@@ -73,7 +73,7 @@ same_places a b account container hash =
     let with_hash : List ℕ → Place = λ x. record b { hash = x } in
     ap with_account account ∙ (ap with_container container ∙ ap with_hash hash)
 
-one_container : (ring : Ring) (account container account' container' : List ℕ) (a b : Place) → account ≡ account' → container ≡ container'
+pub one_container : (ring : Ring) (account container account' container' : List ℕ) (a b : Place) → account ≡ account' → container ≡ container'
     → IsContainer ring account container (Some a) → IsContainer ring account' container' (Some b) → a ≡ b
 one_container ring account container account' container' a b same_account same_container p q =
     let accounts : a.account ≡ b.account = p.0 ∙ (same_account ∙ sym q.0) in

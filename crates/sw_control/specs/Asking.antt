@@ -1,5 +1,5 @@
 -- The control requests, which are of no node: they look at the whole cluster, or act on it. (This project's own.)
-use Rattle.std.specs.Prelude.{◌≡◌, ◌≢◌, ⊤, ℕ, ◌^◌, ◌<◌, Bool, List, [], ◌∷◌, length, drop, map, codes, nat_eq, ◌&&◌, Some}
+use Rattle.std.specs.Prelude.{◌≡◌, ◌≢◌, ⊤, ℕ, ◌^◌, ◌<◌, ◌≤◌, Bool, List, [], ◌∷◌, length, drop, map, codes, nat_eq, ◌&&◌, Some}
 use Rattle.std.specs.List.{slice_split, starts_with}
 use Rattle.std.specs.Str.{bytes_eq}
 use Rattle.percent_encoding.specs.Percent.{percent_decode}
@@ -10,8 +10,10 @@ use Rattle.sw_object_server.specs.Places.{IsDevice}
 use Rattle.sw_object_server.specs.Targets.{behind_segment, first_segment, is_slash}
 use Rattle.sw_ring.specs.declared.ring.Ring.{Ring}
 use Rattle.sw_control.specs.Passes.{IsReplication, IsRowPush, IsUpdate}
+use Rattle.sw_control.specs.ShardRequests.{IsCleaving, IsShardCreation, IsShardsRead}
 use Rattle.sw_control.specs.declared.asking.Control.{Control}
 use Rattle.sw_control.specs.declared.asking.Control.TheVariants.{Trail, Files, Pending, Restart, Replicate, PushRows, Update, Refused}
+use Rattle.sw_control.specs.declared.asking.Control.TheVariants.{CreateShards, Cleave, Shards}
 
 -- whether the path's first segment is that of control requests
 abbrev pub is_control : List ℕ → Bool
@@ -36,6 +38,13 @@ AsksFor ring words fields (Replicate asked) = (from : List ℕ) × (to : List �
 AsksFor ring words fields (PushRows asked) = (from : List ℕ) × (to : List ℕ) × (account : List ℕ) × (container : List ℕ)
     × IsRowPush ring from to account container fields asked × (words ≡ codes "POST" ∷ codes "rows" ∷ from ∷ to ∷ account ∷ container ∷ [])
 AsksFor ring words fields (Update asked) = (name : List ℕ) × IsUpdate ring name fields asked × (words ≡ codes "POST" ∷ codes "update" ∷ name ∷ [])
+AsksFor ring words fields (CreateShards asked) = (name : List ℕ) × (account : List ℕ) × (container : List ℕ) × (per_shard : List ℕ)
+    × IsShardCreation ring name account container per_shard fields asked
+    × (words ≡ codes "POST" ∷ codes "ranges" ∷ name ∷ account ∷ container ∷ per_shard ∷ [])
+AsksFor ring words fields (Cleave asked) = (name : List ℕ) × (account : List ℕ) × (container : List ℕ)
+    × IsCleaving ring name account container fields asked × (words ≡ codes "POST" ∷ codes "cleave" ∷ name ∷ account ∷ container ∷ [])
+AsksFor ring words fields (Shards asked) = (name : List ℕ) × (account : List ℕ) × (container : List ℕ)
+    × IsShardsRead ring name account container asked × (words ≡ codes "GET" ∷ codes "shards" ∷ name ∷ account ∷ container ∷ [])
 AsksFor ring words fields Refused = ⊥
 
 -- what these words and fields ask for. They are refused exactly where they ask for nothing that is known
@@ -48,7 +57,7 @@ abbrev pub IsControl : Ring → Request → Control → Type 0
 IsControl ring r asked = IsAsked ring (words_of r) r.fields asked
 
 -- The devices that are asked for are among the ring's, and so is the partition; the container has a good name, and its hash is that of its path. A push is
--- from one device to another
+-- from one device to another, and a shard has a name or more
 abbrev pub IsPlaced : Ring → Control → Type 0
 IsPlaced ring Trail = ⊤
 IsPlaced ring (Files device) = device < length ring.devices
@@ -59,4 +68,7 @@ IsPlaced ring (Replicate asked) = (asked.from < length ring.devices) × (asked.t
 IsPlaced ring (PushRows asked) = (asked.from < length ring.devices) × (asked.to < length ring.devices) × (asked.from ≢ asked.to)
     × IsHashed ring asked.place
 IsPlaced ring (Update asked) = asked.device < length ring.devices
+IsPlaced ring (CreateShards asked) = (asked.device < length ring.devices) × IsHashed ring asked.place × (1 ≤ asked.per_shard)
+IsPlaced ring (Cleave asked) = (asked.device < length ring.devices) × IsHashed ring asked.place
+IsPlaced ring (Shards asked) = (asked.device < length ring.devices) × IsHashed ring asked.place
 IsPlaced ring Refused = ⊤

@@ -4,5 +4,7 @@ pub mod Laws
 pub mod OutcomeText
 pub mod Passes
 pub mod PendingText
+pub mod ShardRequests
+pub mod ShardsText
 pub mod Texts
 pub mod TrailText

@@ -13,8 +13,14 @@ abbrev pub kept_text : Option Hindrance → List ℕ
 kept_text None = codes "-"
 kept_text (Some hindrance) = decimal (status_of hindrance)
 
--- the text line of an outcome. No pass tells what it puts off for later yet, so there stands a hyphen
+-- the number of the row that came too late for the pass, or a hyphen
+abbrev pub later_text : Option ℕ → List ℕ
+later_text None = codes "-"
+later_text (Some rowid) = decimal rowid
+
+-- the text line of an outcome
 abbrev pub outcome_text : Outcome → List ℕ
 outcome_text o =
     codes "done=" ++ (done_text o.done ++ (codes " lost=" ++ (decimal o.lost ++ (codes " kept=" ++ (kept_text o.kept
-    ++ (codes " later=- asked=" ++ (decimal o.asked ++ (codes " sent=" ++ (decimal o.sent ++ (codes " left=" ++ (decimal o.left ++ codes "\n")))))))))))
+    ++ (codes " later=" ++ (later_text o.later ++ (codes " asked=" ++ (decimal o.asked
+    ++ (codes " sent=" ++ (decimal o.sent ++ (codes " left=" ++ (decimal o.left ++ codes "\n")))))))))))))

@@ -17,7 +17,7 @@ use Rattle.sw_control.specs.declared.update.Update.{Update}
 
 -- ---- which messages fail
 
--- a text is the number of a message, which are counted from 1: 1 to 9 digits that aren't all 0
+-- a text is a number, of a message, which are counted from 1, or of names: 1 to 9 digits that aren't all 0
 pub record IsNumber (text : List ℕ) (number : ℕ) : Type 0 where
   pub least : 1 ≤ length text
   pub most : length text ≤ 9

@@ -2,7 +2,7 @@
 use Rattle.std.specs.Prelude.{ℕ, ◌+◌, List, [], ◌∷◌, ◌++◌, codes, decimal, map, slice_index_or, if◌then◌else◌, Option, None, Some}
 use Rattle.std.specs.List.{flat_map}
 use Rattle.sw_container_steps.specs.declared.cont_entry.ContEntry.{ContEntry}
-use Rattle.sw_container_steps.specs.declared.cont_entry.ContEntry.TheVariants.{Created, Merged, Removed, Synced}
+use Rattle.sw_container_steps.specs.declared.cont_entry.ContEntry.TheVariants.{Acked, Closed, Created, Emptied, Merged, Ranged, Removed, Synced}
 use Rattle.sw_hashpath.specs.declared.name.Name.{Name}
 use Rattle.sw_hashpath.specs.declared.place.Place.{Place}
 use Rattle.sw_metafile.specs.Escapes.{escape}
@@ -74,6 +74,10 @@ abbrev pub entry_word : ContEntry → List ℕ
 entry_word (Created place time) = codes "create"
 entry_word (Removed place time) = codes "remove"
 entry_word (Merged place row) = codes "row"
+entry_word (Ranged place ranges) = codes "ranges"
+entry_word (Acked place range device rowid) = codes "ack"
+entry_word (Closed place range) = codes "close"
+entry_word (Emptied place) = codes "empty"
 entry_word (Synced place device rowid) = codes "sync"
 
 -- the path of a container
@@ -85,13 +89,21 @@ abbrev pub entry_path : ContEntry → List ℕ
 entry_path (Created place time) = place_path place
 entry_path (Removed place time) = place_path place
 entry_path (Merged place row) = place_path place ++ (codes "/" ++ row.name)
+entry_path (Ranged place ranges) = place_path place
+entry_path (Acked place range device rowid) = place_path place
+entry_path (Closed place range) = place_path place
+entry_path (Emptied place) = place_path place
 entry_path (Synced place device rowid) = place_path place
 
--- the time that it gives the container, or that of the row; a sync point has none
+-- the time that it gives the container, or that of the row; ranges and points have none
 abbrev pub entry_time : ContEntry → Option ℕ
 entry_time (Created place time) = Some time
 entry_time (Removed place time) = Some time
 entry_time (Merged place row) = Some row.created_at
+entry_time (Ranged place ranges) = None
+entry_time (Acked place range device rowid) = None
+entry_time (Closed place range) = None
+entry_time (Emptied place) = None
 entry_time (Synced place device rowid) = None
 
 -- a time in its normal form, or a hyphen

@@ -1,10 +1,14 @@
-ghost use Rattle.std.specs.Prelude.{◌≡◌, ◌∷◌, [], codes, drop, map, nat_eq, true, IfOk, OnErr};
+ghost use Rattle.std.specs.Prelude.{◌≡◌, ◌∷◌, List, [], codes, drop, map, nat_eq, true, IfOk, OnErr};
 ghost use Rattle.std.specs.List.{slice_split, starts_with};
+ghost use Rattle.sw_message.specs.declared.fields.Field.{Field};
 ghost use Rattle.sw_object_server.specs.Targets.{is_slash};
 ghost use Rattle.sw_control.specs.Asking.{IsAsked, IsControl, IsPlaced, is_control as is_control_path, segments_of};
 
+use crate::cleaving::{Cleaving, cleaving_of};
 use crate::replication::{Replication, replication_of};
 use crate::row_push::{RowPush, row_push_of};
+use crate::shard_creation::{ShardCreation, shard_creation_of};
+use crate::shards_read::{ShardsRead, shards_read_of};
 use crate::update::{Update, update_of};
 use std::alloc::{AllocError, Global};
 use sw_message::{FieldList, Request};
@@ -29,6 +33,12 @@ pub enum Control {
     PushRows(RowPush),
     /// An update of the containers, by the records of a device.
     Update(Update),
+    /// A creation of the shards of a container.
+    CreateShards(ShardCreation),
+    /// A cleaving of a container: the rows of one range go to their shard.
+    Cleave(Cleaving),
+    /// The shard ranges that a container has at a device.
+    Shards(ShardsRead),
     /// Nothing that is known: a 400.
     Refused,
 }
@@ -78,28 +88,27 @@ fn asked(
                 &request.fields,
             ))
         }
-        [word, from, to, part] if method == "POST" && word.as_slice() == b"replicate".as_slice() =>
-            {
-                Ok(of_push(
-                    ring,
-                    from.as_slice(),
-                    to.as_slice(),
-                    part.as_slice(),
-                    &request.fields,
-                ))
-            }
-        [word, from, to, account, container]
-            if method == "POST" && word.as_slice() == b"rows".as_slice() => {
-            of_rows(
-                alloc,
-                ring,
-                from.as_slice(),
-                to.as_slice(),
-                account.as_slice(),
-                container.as_slice(),
-                &request.fields,
-            )
-        }
+        [word, first, second, third] => of_three(
+            alloc,
+            ring,
+            method,
+            word.as_slice(),
+            first.as_slice(),
+            second.as_slice(),
+            third.as_slice(),
+            &request.fields,
+        ),
+        [word, first, second, third, fourth] => of_four(
+            alloc,
+            ring,
+            method,
+            word.as_slice(),
+            first.as_slice(),
+            second.as_slice(),
+            third.as_slice(),
+            fourth.as_slice(),
+            &request.fields,
+        ),
         _ => Ok(Control::Refused),
     }
 }
@@ -123,6 +132,55 @@ fn of_device(ring: &Ring, method: &str, word: &[u8], device: &[u8], fields: &Fie
         Control::Restart(device)
     } else {
         Control::Refused
+    }
+}
+
+/// What a word, three more and the fields ask for.
+fn of_three(
+    alloc: Global,
+    ring: &Ring,
+    method: &str,
+    word: &[u8],
+    first: &[u8],
+    second: &[u8],
+    third: &[u8],
+    fields: &FieldList,
+) -> Result<Control, NoMemory>
+    ensures asked { IfOk result (IsAsked ring.now (method.now ∷ word.now ∷ first.now ∷ second.now ∷ third.now ∷ []) fields.now) }
+    ensures placed { IfOk result (IsPlaced ring.now) }
+{
+    if method == "POST" && word == b"replicate".as_slice() {
+        Ok(of_push(ring, first, second, third, fields))
+    } else if method == "POST" && word == b"cleave".as_slice() {
+        of_cleaving(alloc, ring, first, second, third, fields)
+    } else if method == "GET" && word == b"shards".as_slice() {
+        of_shards(alloc, ring, first, second, third)
+    } else {
+        Ok(Control::Refused)
+    }
+}
+
+/// What a word, four more and the fields ask for.
+fn of_four(
+    alloc: Global,
+    ring: &Ring,
+    method: &str,
+    word: &[u8],
+    first: &[u8],
+    second: &[u8],
+    third: &[u8],
+    fourth: &[u8],
+    fields: &FieldList,
+) -> Result<Control, NoMemory>
+    ensures asked { IfOk result (IsAsked ring.now (method.now ∷ word.now ∷ first.now ∷ second.now ∷ third.now ∷ fourth.now ∷ []) fields.now) }
+    ensures placed { IfOk result (IsPlaced ring.now) }
+{
+    if method == "POST" && word == b"rows".as_slice() {
+        of_rows(alloc, ring, first, second, third, fourth, fields)
+    } else if method == "POST" && word == b"ranges".as_slice() {
+        of_ranges(alloc, ring, first, second, third, fourth, fields)
+    } else {
+        Ok(Control::Refused)
     }
 }
 
@@ -163,6 +221,62 @@ fn of_rows(
 {
     match row_push_of(alloc, ring, from, to, account, container, fields)? {
         Some(push) => Ok(Control::PushRows(push)),
+        None => Ok(Control::Refused),
+    }
+}
+
+/// What the name of a device, those of a container, a number and the fields ask for behind the words of a creation of shards.
+fn of_ranges(
+    alloc: Global,
+    ring: &Ring,
+    device: &[u8],
+    account: &[u8],
+    container: &[u8],
+    per_shard: &[u8],
+    fields: &FieldList,
+) -> Result<Control, NoMemory>
+    ensures asked { IfOk result (IsAsked ring.now
+        (codes "POST" ∷ codes "ranges" ∷ device.now ∷ account.now ∷ container.now ∷ per_shard.now ∷ []) fields.now) }
+    ensures placed { IfOk result (IsPlaced ring.now) }
+{
+    match shard_creation_of(alloc, ring, device, account, container, per_shard, fields)? {
+        Some(creation) => Ok(Control::CreateShards(creation)),
+        None => Ok(Control::Refused),
+    }
+}
+
+/// What the name of a device, those of a container and the fields ask for behind the words of a cleaving.
+fn of_cleaving(
+    alloc: Global,
+    ring: &Ring,
+    device: &[u8],
+    account: &[u8],
+    container: &[u8],
+    fields: &FieldList,
+) -> Result<Control, NoMemory>
+    ensures asked { IfOk result (IsAsked ring.now (codes "POST" ∷ codes "cleave" ∷ device.now ∷ account.now ∷ container.now ∷ []) fields.now) }
+    ensures placed { IfOk result (IsPlaced ring.now) }
+{
+    match cleaving_of(alloc, ring, device, account, container, fields)? {
+        Some(cleaving) => Ok(Control::Cleave(cleaving)),
+        None => Ok(Control::Refused),
+    }
+}
+
+/// What the name of a device and those of a container ask for behind the words of a read of ranges, whatever the fields.
+fn of_shards(
+    alloc: Global,
+    ring: &Ring,
+    device: &[u8],
+    account: &[u8],
+    container: &[u8],
+) -> Result<Control, NoMemory>
+    ensures asked { IfOk result (λ asked. (fields : List Field)
+        → IsAsked ring.now (codes "GET" ∷ codes "shards" ∷ device.now ∷ account.now ∷ container.now ∷ []) fields asked) }
+    ensures placed { IfOk result (IsPlaced ring.now) }
+{
+    match shards_read_of(alloc, ring, device, account, container)? {
+        Some(read) => Ok(Control::Shards(read)),
         None => Ok(Control::Refused),
     }
 }

@@ -1,5 +1,5 @@
 ghost use Rattle.std.specs.Prelude.{◌≡◌, ◌++◌, codes, decimal, IfOk, OnOk};
-ghost use Rattle.sw_control.specs.OutcomeText.{done_text as done_text_of, kept_text, outcome_text as outcome_text_of};
+ghost use Rattle.sw_control.specs.OutcomeText.{done_text as done_text_of, kept_text, later_text, outcome_text as outcome_text_of};
 
 use itoa::Buffer;
 use std::alloc::Global;
@@ -14,7 +14,8 @@ pub fn outcome_text(alloc: Global, outcome: &Outcome) -> Result<Bytes, NoMemory>
     text.extend_from_slice(done_text(outcome.done))?;
     add_number(&mut text, b" lost=", outcome.lost)?;
     add_kept(&mut text, outcome.kept)?;
-    add_number(&mut text, b" later=- asked=", outcome.asked)?;
+    add_later(&mut text, outcome.later)?;
+    add_number(&mut text, b" asked=", outcome.asked)?;
     add_number(&mut text, b" sent=", outcome.sent)?;
     add_number(&mut text, b" left=", outcome.left)?;
     text.extend_from_slice(b"\n")?;
@@ -40,8 +41,21 @@ fn add_kept(text: &mut Vec<u8>, kept: Option<Hindrance>) -> Result<(), NoMemory>
     }
 }
 
+/// Adds the number of the row that came too late for the pass, or a hyphen.
+fn add_later(text: &mut Vec<u8>, later: Option<u64>) -> Result<(), NoMemory>
+    ensures { OnOk result (text.new.items ≡ text.old.items ++ (codes " later=" ++ later_text later)) }
+{
+    match later {
+        Some(rowid) => add_number(text, b" later=", rowid),
+        None => {
+            text.extend_from_slice(b" later=-")?;
+            Ok(())
+        }
+    }
+}
+
 /// Adds a word and a number behind it.
-fn add_number(text: &mut Vec<u8>, word: &[u8], number: u64) -> Result<(), NoMemory>
+pub(crate) fn add_number(text: &mut Vec<u8>, word: &[u8], number: u64) -> Result<(), NoMemory>
     ensures { OnOk result (text.new.items ≡ text.old.items ++ (word.now ++ decimal number)) }
 {
     text.extend_from_slice(word)?;

@@ -7,7 +7,7 @@ use sw_lossy::Acts;
 use sw_message::FieldList;
 use sw_ring::Ring;
 
-/// The number of a message has at most so many digits.
+/// A number has at most so many digits.
 const MAX_DIGITS: usize = 9;
 
 /// A field that is to name a message has a value that names none.
@@ -50,8 +50,8 @@ fn message_of(fields: &FieldList, name: &[u8]) -> Result<Option<u64>, BadNumber>
     }
 }
 
-/// The number of a message that a text is. Its digits are read as those of a second, which has one more of them at most.
-fn number_of(text: &[u8]) -> Option<u64>
+/// The number of a message, or of names, that a text is. Its digits are read as those of a second, which has one more of them at most.
+pub(crate) fn number_of(text: &[u8]) -> Option<u64>
     ensures read { IfSome result (IsNumber text.now) }
     ensures refused { IfNone result ((number : ℕ) → ¬ IsNumber text.now number) }
 {

@@ -1,11 +1,12 @@
 ghost use Rattle.std.specs.Prelude.{◌≡◌, None, Some, IfNone, IfOk, IfSome, OnErr};
-ghost use Rattle.sw_control.specs.Passes.{IsContainer, IsRowPush};
+ghost use Rattle.sw_control.specs.Passes.{IsRowPush};
 ghost use Rattle.sw_control.specs.declared.row_push.RowPush.{RowPush};
 ghost use Rattle.sw_hashpath.specs.BadNames.{bad_name};
 
+use crate::containers::place_of;
 use crate::pushing::{acts_of, two_devices};
 use std::alloc::Global;
-use sw_hashpath::{NameError, Place};
+use sw_hashpath::Place;
 use sw_lossy::Acts;
 use sw_message::FieldList;
 use sw_outside::NoMemory;
@@ -53,23 +54,5 @@ pub(crate) fn row_push_of(
             acts,
         })),
         None => Ok(None),
-    }
-}
-
-/// The place of the container of these names under the ring's secrets. It answers `None` where something is wrong with the names, and wants memory
-/// only over good ones.
-fn place_of(
-    alloc: Global,
-    ring: &Ring,
-    account: &[u8],
-    container: &[u8],
-) -> Result<Option<Place>, NoMemory>
-    ensures place { IfOk result (IsContainer ring.now account.now container.now) }
-    ensures err { OnErr result (bad_name account.now (Some container.now) None ≡ None) }
-{
-    match Place::new(alloc, &ring.secrets, account, container) {
-        Ok(place) => Ok(Some(place)),
-        Err(NameError::Bad(_)) => Ok(None),
-        Err(NameError::NoMemory) => Err(NoMemory),
     }
 }

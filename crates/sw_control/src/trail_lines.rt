@@ -254,11 +254,15 @@ fn entry_word(entry: &ContEntry) -> &'static [u8]
         ContEntry::Created(_, _) => b"create",
         ContEntry::Removed(_, _) => b"remove",
         ContEntry::Merged(_, _) => b"row",
+        ContEntry::Ranged(_, _) => b"ranges",
+        ContEntry::Acked(_, _, _, _) => b"ack",
+        ContEntry::Closed(_, _) => b"close",
+        ContEntry::Emptied(_) => b"empty",
         ContEntry::Synced(_, _, _) => b"sync",
     }
 }
 
-/// The time that an entry gives its container, or that of its row. A sync point has none.
+/// The time that an entry gives its container, or that of its row. Ranges and points have none.
 fn entry_time(entry: &ContEntry) -> Option<Timestamp>
     ensures { result ≡ Rattle.sw_control.specs.TrailText.entry_time entry.now }
 {
@@ -266,6 +270,10 @@ fn entry_time(entry: &ContEntry) -> Option<Timestamp>
         ContEntry::Created(_, time) => Some(*time),
         ContEntry::Removed(_, time) => Some(*time),
         ContEntry::Merged(_, row) => Some(row.created_at),
+        ContEntry::Ranged(_, _) => None,
+        ContEntry::Acked(_, _, _, _) => None,
+        ContEntry::Closed(_, _) => None,
+        ContEntry::Emptied(_) => None,
         ContEntry::Synced(_, _, _) => None,
     }
 }
@@ -277,6 +285,10 @@ fn entry_path(alloc: Global, entry: &ContEntry) -> Result<Vec<u8>, NoMemory>
     match entry {
         ContEntry::Created(place, _)
         | ContEntry::Removed(place, _)
+        | ContEntry::Ranged(place, _)
+        | ContEntry::Acked(place, _, _, _)
+        | ContEntry::Closed(place, _)
+        | ContEntry::Emptied(place)
         | ContEntry::Synced(place, _, _) => place_path(alloc, place),
         ContEntry::Merged(place, row) => {
             let mut path = place_path(alloc, place)?;
@@ -288,7 +300,7 @@ fn entry_path(alloc: Global, entry: &ContEntry) -> Result<Vec<u8>, NoMemory>
 }
 
 /// The path of a container, as it stands.
-fn place_path(alloc: Global, place: &Place) -> Result<Vec<u8>, NoMemory>
+pub(crate) fn place_path(alloc: Global, place: &Place) -> Result<Vec<u8>, NoMemory>
     ensures { IfOk result (λ path. path.items ≡ Rattle.sw_control.specs.TrailText.place_path place.now) }
 {
     let mut path = Vec::new(alloc);

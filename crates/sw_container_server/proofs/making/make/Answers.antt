@@ -1,20 +1,14 @@
-use Rattle.std.proofs.Common.{ℕ, ap, ◌∙◌}
 use Rattle.std.proofs.lemmas.Result.{IfOk-weaker, on_err_weaker}
-use Rattle.sw_container_server.specs.Replies.{reply_to}
 use Rattle.sw_container_server.proofs.making.make.Goals as goal
 
 -- the reply is that to the answer
 pub returns-clause-ok : goal.returns-clause-ok
-returns-clause-ok g c = IfOk-weaker c.reply_to.result _ _
-    (λ response is. (
-      c.in-Ok.answer,
-      record { called = c.in-Ok.ensures.made; asks = c.in-Ok.ensures.asks },
-      is ∙ ap (λ (made : ℕ). reply_to made c.in-Ok.answer) c.made_status.ensures,
-    ))
-    c.reply_to.ensures.ok
+returns-clause-ok g c = IfOk-weaker c.change_reply.result _ _
+    (λ response is. (c.in-Ok.answer, record { called = c.in-Ok.ensures.made; asks = c.in-Ok.ensures.asks }, is))
+    c.change_reply.ensures.ok
 
 -- no memory for the reply: its answer says that nothing changed
 pub returns-clause-err : goal.returns-clause-err
-returns-clause-err g c = on_err_weaker c.reply_to.result
+returns-clause-err g c = on_err_weaker c.change_reply.result
     (λ shows. (c.in-Ok.answer, record { called = c.in-Ok.ensures.made; asks = c.in-Ok.ensures.asks }, shows))
-    c.reply_to.ensures.err
+    c.change_reply.ensures.err

@@ -1,7 +1,9 @@
-use Rattle.std.proofs.Common.{refl, sym, ◌∙◌}
+use Rattle.std.proofs.Common.{refl, sym, ◌∙◌, subst}
 use Rattle.sw_container_server.specs.declared.verdict.Verdict.TheVariants as verdicts
 use Rattle.sw_container_server.proofs.Decided.{for-its-verdict, for-other-device, for-other-partition, for-unknown, placed}
 use Rattle.sw_container_server.proofs.Names.{object-text}
+use Rattle.sw_container_server.proofs.Plain.{plain-change}
+use Rattle.sw_container_server.specs.Verdicts.{IsVerdict}
 use Rattle.sw_container_server.proofs.reading.read_place.Goals as goal
 
 -- no such device
@@ -47,11 +49,14 @@ returns-in-Change-clause-asked c =
     (verdicts.Change c.in-Change.change) (rw c.in-Change.is at c.in_ok-status.ensures)
 
 pub returns-in-Change-clause-placed : goal.returns-in-Change-clause-placed
-returns-in-Change-clause-placed c =
-    placed c.args.ring.now c.args.target c.args.request.now c.args.verb c.requires.good c.in-Some.device
-    (rw c.as_slice.ensures at ((c.in-Some.ensures.known c.in-Some.device).0 refl)) c.args.place c.requires.place c.partition-part.result
-    c.partition-part.ensures.value
-    (rw (← c.as_slice-2.ensures) (sym c.has_number.ensures ∙ c.if-not-has_number.false)) (c.keeps.ensures.yes c.if-not-keeps.false)
+returns-in-Change-clause-placed c = (
+  placed c.args.ring.now c.args.target c.args.request.now c.args.verb c.requires.good c.in-Some.device
+      (rw c.as_slice.ensures at ((c.in-Some.ensures.known c.in-Some.device).0 refl)) c.args.place c.requires.place c.partition-part.result
+      c.partition-part.ensures.value
+      (rw (← c.as_slice-2.ensures) (sym c.has_number.ensures ∙ c.if-not-has_number.false)) (c.keeps.ensures.yes c.if-not-keeps.false),
+  plain-change c.args.ring.now c.args.target.object c.args.request.now c.args.verb c.in-Change.change
+      (subst (IsVerdict c.args.ring.now c.args.target.object c.args.request.now c.args.verb) c.in-Change.is c.in_ok-status.ensures),
+)
 
 pub returns-in-Info-clause-asked : goal.returns-in-Info-clause-asked
 returns-in-Info-clause-asked c =

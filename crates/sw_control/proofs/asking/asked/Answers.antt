@@ -1,4 +1,4 @@
-use Rattle.std.proofs.Common.{◌≡◌, ◌≤◌, ◌<◌, ℕ, List, [], ◌∷◌, codes, length, get_or, Result, IfOk, arith, rules}
+use Rattle.std.proofs.Common.{◌≡◌, ◌≤◌, ◌<◌, ℕ, List, [], ◌∷◌, length, get_or, Result, IfOk, arith, rules}
 use Rattle.sw_message.specs.declared.fields.Field.{Field}
 use Rattle.sw_outside.specs.declared.errors.NoMemory.{NoMemory}
 use Rattle.sw_ring.specs.declared.ring.Ring.{Ring}
@@ -58,17 +58,13 @@ returns-in-len2-clause-asked c =
 
 pub returns-in-len4-clause-asked : goal.returns-in-len4-clause-asked
 returns-in-len4-clause-asked c =
-    let words = four_words c.args.words.now c.word-item-then-words-lt5.result c.from-item.result c.to-item.result c.part-item.result c.in-len4.len_at_least
-    c.in-len4.len_below c.word-item-then-words-lt5.is c.from-item.is c.to-item.is c.part-item.is in
-    let method : c.as_str-method.result.now ≡ codes "POST" = search rules in
-    let word : c.word-item-then-words-lt5.result ≡ codes "replicate" = search rules in
-    along _ _ _ _ _ (cc) c.of_push.ensures.asked
+    let words = four_words c.args.words.now c.word-item-then-words-lt5.result c.first-item.result c.second-item.result c.third-item.result
+    c.in-len4.len_at_least c.in-len4.len_below c.word-item-then-words-lt5.is c.first-item.is c.second-item.is c.third-item.is in
+    along_ok _ _ _ _ _ (cc) c.of_three.ensures.asked
 
 pub returns-in-len5-clause-asked : goal.returns-in-len5-clause-asked
 returns-in-len5-clause-asked c =
-    let words = five_words c.args.words.now c.word-item-then-words-lt6.result c.from-item-then-words-lt6.result c.to-item-then-words-lt6.result
-    c.account-item.result c.container-item.result c.in-len5.len_at_least c.in-len5.len_below
-    c.word-item-then-words-lt6.is c.from-item-then-words-lt6.is c.to-item-then-words-lt6.is c.account-item.is c.container-item.is in
-    let method : c.as_str-method.result.now ≡ codes "POST" = search rules in
-    let word : c.word-item-then-words-lt6.result ≡ codes "rows" = search rules in
-    along_ok _ _ _ _ _ (cc) c.of_rows.ensures.asked
+    let words = five_words c.args.words.now c.word-item-then-words-lt6.result c.first-item-then-words-lt6.result c.second-item-then-words-lt6.result
+    c.third-item-then-words-lt6.result c.fourth-item.result c.in-len5.len_at_least c.in-len5.len_below
+    c.word-item-then-words-lt6.is c.first-item-then-words-lt6.is c.second-item-then-words-lt6.is c.third-item-then-words-lt6.is c.fourth-item.is in
+    along_ok _ _ _ _ _ (cc) c.of_four.ensures.asked

@@ -4,7 +4,7 @@ use Rattle.sw_hashpath.specs.declared.bad_name.BadName.{BadName}
 use Rattle.sw_hashpath.specs.declared.name_error.NameError.{NameError}
 use Rattle.sw_hashpath.specs.declared.name_error.NameError.TheVariants.{Bad, NoMemory}
 use Rattle.sw_hashpath.specs.declared.place.Place.{Place}
-use Rattle.sw_control.proofs.row_push.place_of.Goals as goal
+use Rattle.sw_control.proofs.containers.place_of.Goals as goal
 
 -- a cause is one
 some_fault : (fault : Option BadName) (bad : BadName) → fault ≡ Some bad → IsSome fault
