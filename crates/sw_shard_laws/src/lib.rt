@@ -5,7 +5,7 @@
 //! row that a replica of a container holds it holds from then on: it has it, or has closed the name's range, and each replica of the range's shard has it.
 //! [`laws`] say so, and what else stays: whom a name is left to, the ranges, and what a hidden container has.
 //!
-//! Nothing here knows nodes, locks, journals or files. The next layer, which shows that steps at containers are such changes, isn't there.
+//! Nothing here knows nodes, locks, journals or files. The next layer, `sw_split_steps`, shows that steps at containers are such changes.
 #![tactic(auto)]
 
 pub mod laws;
