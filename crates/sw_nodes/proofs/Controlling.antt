@@ -22,7 +22,7 @@ use Rattle.sw_ring.specs.declared.ring.Ring.{Ring}
 use Rattle.sw_session.specs.declared.server.ServerFault.{ServerFault}
 use Rattle.sw_steps.proofs.RowRunning.{rows-over-nodes, row_pushes_run}
 use Rattle.sw_steps.proofs.Running.{over-nodes, pushing_runs}
-use Rattle.sw_updater.specs.Places.{replicas_in}
+use Rattle.sw_pass.specs.Rings.{replicas_in}
 use Rattle.sw_volume.specs.Tree.{Folders}
 use Rattle.sw_volume.specs.Volume.{raised_by}
 use Rattle.sw_nodes.proofs.Calming.{push-calm, rows-calm}

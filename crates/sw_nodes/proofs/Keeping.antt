@@ -3,15 +3,17 @@
 use Rattle.std.proofs.Common.{◌≡◌, ℕ, true, List, [], ◌∷◌, ◌++◌, sym, ◌∙◌, ap, subst, inl, inr, Bool, Result, Ok, refl}
 use Rattle.std.specs.declared.alloc.Global.{Global}
 use Rattle.std.specs.declared.vec.Vec.{Vec}
-use Rattle.sw_container_steps.specs.Reads.{info_of, listing_of}
+use Rattle.sw_container_steps.specs.Reads.{info_of, listing_of, sharding_of}
 use Rattle.sw_container_steps.specs.declared.cont_answer.ContAnswer.{ContAnswer}
 use Rattle.sw_container_steps.specs.declared.cont_change.ContChange.{ContChange}
 use Rattle.sw_container_steps.specs.declared.info.Info.{Info}
+use Rattle.sw_container_steps.specs.declared.sharding.Sharding.{Sharding}
 use Rattle.sw_hashpath.specs.declared.name.Name.{Name}
 use Rattle.sw_hashpath.specs.declared.place.Place.{Place}
 use Rattle.sw_listing.specs.declared.entry.Entry.{Entry}
 use Rattle.sw_listing.specs.declared.query.Query.{Query}
 use Rattle.sw_machine.proofs.Doors.{container-changes, device-listings, files-reads, hashes-reads, infos, listings, object-changes, object-reads, restarts}
+use Rattle.sw_machine.proofs.Doors.{shardings}
 use Rattle.sw_machine.proofs.Going.{leaving-join, leaving-same}
 use Rattle.sw_machine.specs.Doors.{GoesOn, GoesOnBy, LeaveRecords, RunsOnLeaving, leaves_records}
 use Rattle.sw_machine.specs.Machine.{Machine, RunLine}
@@ -154,3 +156,12 @@ list-keeps device place query =
       calm = calm-trails s t _ _ refl made.trail;
       runs = λ alone m stands. by-leaving s t m _ _ (λ added. refl) ((listings device place query).one Local s x t m stands alone made);
     })
+
+pub sharding-keeps : (device : ℕ) (place : Place) (s : Sight) (got : Result Sharding ContAnswer) (t : Sight)
+    → Calls (IsLooked Local device place sharding_of (λ got. cont_events.Sharded place got)) s Local (Ok got) t → Keeps s t
+sharding-keeps device place = call-keeps (IsLooked Local device place sharding_of (λ got. cont_events.Sharded place got)) (λ s x t made. record {
+  nodes = made.moves.nodes;
+  alone = made.moves.alone;
+  calm = calm-trails s t _ _ refl made.trail;
+  runs = λ alone m stands. by-leaving s t m _ _ (λ added. refl) ((shardings device place).one Local s x t m stands alone made);
+})

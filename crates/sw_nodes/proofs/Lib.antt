@@ -10,5 +10,7 @@ pub mod Replicating
 pub mod Restarting
 pub mod RunningLemmas
 pub mod Serving
+pub mod SplitCalming
+pub mod Splitting
 pub mod UpdateCalming
 pub mod Updating

@@ -12,7 +12,7 @@ use Rattle.sw_ring.specs.declared.ring.Ring.{Ring}
 use Rattle.sw_volume.specs.Tree.{Folders}
 use Rattle.sw_container_server.specs.Targets.{is_for_containers}
 use Rattle.sw_listing_laws.proofs.Honesty.{honest-leaving}
-use Rattle.sw_updater.specs.Places.{replicas_in}
+use Rattle.sw_pass.specs.Rings.{replicas_in}
 use Rattle.sw_nodes.proofs.Comparing.{answered-keeps, given_up-keeps}
 use Rattle.sw_nodes.proofs.Controlling.{on_true}
 use Rattle.sw_nodes.proofs.Keeping.{Keeps, runs-itself}

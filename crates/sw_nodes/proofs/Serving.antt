@@ -17,7 +17,7 @@ use Rattle.sw_ring.specs.Rows.{AreGood, is_good}
 use Rattle.sw_ring.specs.declared.ring.Ring.{Ring}
 use Rattle.sw_volume.specs.Tree.{Folders}
 use Rattle.sw_listing_laws.proofs.Honesty.{honest-leaving}
-use Rattle.sw_updater.specs.Places.{replicas_in}
+use Rattle.sw_pass.specs.Rings.{replicas_in}
 use Rattle.sw_nodes.proofs.Readying.{ready-of}
 use Rattle.sw_nodes.proofs.Restarting.{none-called, same-restarts}
 use Rattle.sw_nodes.proofs.RunningLemmas.{answered_keeps, left_keeps}

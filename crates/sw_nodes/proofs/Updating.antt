@@ -21,7 +21,7 @@ use Rattle.sw_pending.specs.declared.filed.Filed.{Filed}
 use Rattle.sw_ring.specs.declared.ring.Ring.{Ring}
 use Rattle.sw_steps.proofs.GoingBy.{GoesOnBy}
 use Rattle.sw_steps.proofs.UpdateRunning.{reads-go, update-over-nodes, updates_run}
-use Rattle.sw_updater.specs.Places.{IsRingOf, replicas_in}
+use Rattle.sw_pass.specs.Rings.{IsRingOf, replicas_in}
 use Rattle.sw_updater.specs.Reading.{ArePending}
 use Rattle.sw_volume.specs.Tree.{Folders}
 use Rattle.sw_nodes.proofs.Calming.{IsCalm}
@@ -87,7 +87,7 @@ module _ {V K : Type 0} (tells : V → Bool) (files : V → Folders) (faults : V
   module _ {S : Type 0} (store_faults store_calls : S → ℕ) (out : S → ℕ → ℕ → Bool) (ring ring_now : Ring) (w after : AllNodes V K)
       (stores stores_now : MutBor S) (request : Request) where
     -- nodes that are the same are ready
-    ready-again : ring_now ≡ ring → stores_now ≡ stores → IsReady out ring w stores.now
+    pub ready-again : ring_now ≡ ring → stores_now ≡ stores → IsReady out ring w stores.now
         → (see tells files faults keeps after).nodes ≡ (see tells files faults keeps w).nodes → IsReady out ring_now after stores_now.now
     ready-again ring_is stores_are ready nodes =
         subst (λ (r : Ring). IsReady out r after stores_now.now) (sym ring_is)
@@ -95,7 +95,7 @@ module _ {V K : Type 0} (tells : V → Bool) (files : V → Folders) (faults : V
         (goes_on tells files faults keeps out ring w after stores.now ready nodes))
 
     -- a request was answered so, and no device restarted for it
-    answered : (moment : ℕ) (response : Response) → MayAnswer tells files faults keeps ring w request moment response after
+    pub answered : (moment : ℕ) (response : Response) → MayAnswer tells files faults keeps ring w request moment response after
         → IsCalm (see tells files faults keeps w) (see tells files faults keeps after) → ring_now ≡ ring → stores_now ≡ stores → IsReady out ring w stores.now
         → NodesAnswer tells files faults keeps store_faults store_calls out ring ring_now w after stores stores_now request moment response
     answered moment response may calm ring_is stores_are ready = record {

@@ -2,7 +2,7 @@
 --
 -- A reply is a relation, since want of memory may be answered in place of any reply. Then no step came, or the one that the request asks
 -- for, which changed nothing.
-use Rattle.std.specs.Prelude.{◌≡◌, ℕ, Bool, true, false, List, [], MatchBool, ◌⊎◌, Result, Ok, Err, IfOk}
+use Rattle.std.specs.Prelude.{◌≡◌, ℕ, Bool, true, false, List, [], MatchBool, ◌⊎◌, Option, None, Some, Result, Ok, Err, IfOk}
 use Rattle.std.specs.declared.alloc.Global.{Global}
 use Rattle.std.specs.declared.vec.Vec.{Vec}
 use Rattle.sw_message.specs.declared.request.Request.{Request}
@@ -12,17 +12,25 @@ use Rattle.sw_object_server.specs.Replies.{bare}
 use Rattle.sw_container_server.specs.Serving as containers
 use Rattle.sw_object_server.specs.Serving as objects
 use Rattle.sw_container_server.specs.Targets.{is_for_containers}
+use Rattle.sw_container_steps.specs.Reads.{sharding_of}
+use Rattle.sw_container_steps.specs.declared.cont_answer.ContAnswer.{ContAnswer}
+use Rattle.sw_container_steps.specs.declared.cont_answer.ContAnswer.TheVariants as answers
+use Rattle.sw_container_steps.specs.declared.sharding.Sharding.{Sharding}
 use Rattle.sw_replica_server.specs.Serving as replicas
 use Rattle.sw_replica_server.specs.Targets.{is_replication_of}
 use Rattle.sw_control.specs.Asking.{IsControl, is_control}
 use Rattle.sw_control.specs.OutcomeText.{outcome_text}
 use Rattle.sw_control.specs.PendingText.{pending_text}
+use Rattle.sw_control.specs.ShardsText.{shards_text}
 use Rattle.sw_control.specs.Texts.{files_text, text_reply}
 use Rattle.sw_control.specs.TrailText.{trail_text}
 use Rattle.sw_control.specs.declared.asking.Control.{Control}
 use Rattle.sw_control.specs.declared.asking.Control.TheVariants as controls
+use Rattle.sw_control.specs.declared.cleaving.Cleaving.{Cleaving}
 use Rattle.sw_control.specs.declared.replication.Replication.{Replication}
 use Rattle.sw_control.specs.declared.row_push.RowPush.{RowPush}
+use Rattle.sw_control.specs.declared.shard_creation.ShardCreation.{ShardCreation}
+use Rattle.sw_control.specs.declared.shards_read.ShardsRead.{ShardsRead}
 use Rattle.sw_control.specs.declared.update.Update.{Update}
 use Rattle.sw_listing_laws.specs.Honest.{RunsHonestly}
 use Rattle.sw_core.specs.Listing.{AreCalm, ListsFiles, is_failed}
@@ -30,11 +38,15 @@ use Rattle.sw_core.specs.Worlds.{KeeperSeen, AllNodes, IsSameWorld, Lifts, SetsD
 use Rattle.sw_object_steps.specs.declared.dir_fault.DirFault.{DirFault}
 use Rattle.sw_outside.specs.declared.errors.NoMemory.{NoMemory}
 use Rattle.sw_pass.specs.declared.outcome.Outcome.{Outcome}
-use Rattle.sw_peer.specs.Sights.{IsListed}
+use Rattle.sw_peer.specs.ContSights.{IsLooked}
+use Rattle.sw_peer.specs.Sights.{Calls, IsListed}
+use Rattle.sw_peer.specs.declared.cont_event.ContEvent.TheVariants.{Sharded}
+use Rattle.sw_peer.specs.declared.link.Link.TheVariants.{Local}
 use Rattle.sw_pending.specs.declared.filed.Filed.{Filed}
 use Rattle.sw_replica_server.specs.Replies.{fault_reply, shows_fault}
-use Rattle.sw_steps.specs.Passing.{AreRowsPushedOver, IsPushedOver, IsUpdateOver}
-use Rattle.sw_updater.specs.Places.{replicas_in}
+use Rattle.sw_shard_range.specs.declared.range.Range.{Range}
+use Rattle.sw_steps.specs.Passing.{AreRowsPushedOver, AreShardsCreatedOver, IsCleftOver, IsPushedOver, IsUpdateOver}
+use Rattle.sw_pass.specs.Rings.{replicas_in}
 use Rattle.sw_updater.specs.Reading.{ArePending}
 use Rattle.sw_volume.specs.Tree.{Folders}
 use Rattle.sw_volume.specs.declared.errors.VolumeError.{VolumeError}
@@ -53,6 +65,19 @@ abbrev pub IsPendingReply : List (List ℕ) → Result (Result (Vec Filed Global
 IsPendingReply devices (Ok (Ok records)) response = (response ≡ text_reply (pending_text devices records.items)) ⊎ (response ≡ bare 500)
 IsPendingReply devices (Ok (Err fault)) response = (response ≡ fault_reply fault) ⊎ ((shows_fault fault ≡ true) × (response ≡ bare 500))
 IsPendingReply devices (Err wanting) response = response ≡ bare 500
+
+-- the shard ranges of a container: none where it isn't split
+abbrev pub ranges_in : Option (List Range) → List Range
+ranges_in None = []
+ranges_in (Some ranges) = ranges
+
+-- The reply to a read of how a container is split: only for the text of its ranges memory may be wanting yet. A container that isn't there has none, and
+-- any other answer says that its keeper failed
+abbrev pub IsShardsReply : Result Sharding ContAnswer → Response → Type 0
+IsShardsReply (Ok sharding) response = (response ≡ text_reply (shards_text (ranges_in sharding.ranges))) ⊎ (response ≡ bare 500)
+IsShardsReply (Err answers.Absent) response = (response ≡ text_reply []) ⊎ (response ≡ bare 500)
+IsShardsReply (Err answers.NoMemory) response = response ≡ bare 500
+IsShardsReply (Err answer) response = response ≡ bare 507
 
 -- the reply to a pass: only for the text of what came of it memory may be wanting yet
 abbrev pub IsPassReply : Result Outcome NoMemory → Response → Type 0
@@ -101,6 +126,26 @@ module _ {V K : Type 0} (tells : V → Bool) (files : V → Folders) (faults : V
     pub updated : IsUpdateOver ring asked.device asked.acts (sight_of tells files faults keeps w) outcome (sight_of tells files faults keeps after)
     pub reply : IsPassReply outcome response
 
+  -- The shards of a container were created, and what came of it replied. A creation that wanted memory was made as far as it came
+  pub record AreShardsCreated (ring : Ring) (asked : ShardCreation) (w : AllNodes V K) (response : Response) (after : AllNodes V K) : Type 0 where
+    pub outcome : Result Outcome NoMemory
+    pub created : AreShardsCreatedOver ring asked.device asked.place asked.per_shard asked.time asked.acts (sight_of tells files faults keeps w) outcome
+        (sight_of tells files faults keeps after)
+    pub reply : IsPassReply outcome response
+
+  -- The next range of a container was moved to its shard, and what came of it replied. A cleaving that wanted memory was made as far as it came
+  pub record IsCleft (ring : Ring) (asked : Cleaving) (w : AllNodes V K) (response : Response) (after : AllNodes V K) : Type 0 where
+    pub outcome : Result Outcome NoMemory
+    pub cleft : IsCleftOver ring asked.device asked.place asked.acts (sight_of tells files faults keeps w) outcome (sight_of tells files faults keeps after)
+    pub reply : IsPassReply outcome response
+
+  -- how a container is split was read at a device, and its shard ranges told
+  pub record AreShardsTold (asked : ShardsRead) (w : AllNodes V K) (response : Response) (after : AllNodes V K) : Type 0 where
+    pub got : Result Sharding ContAnswer
+    pub read : Calls (IsLooked Local asked.device asked.place sharding_of (λ got. Sharded asked.place got)) (sight_of tells files faults keeps w) Local
+        (Ok got) (sight_of tells files faults keeps after)
+    pub reply : IsShardsReply got response
+
   -- what a control request asks for was done
   abbrev pub IsControlDone : Ring → AllNodes V K → Control → Response → AllNodes V K → Type 0
   IsControlDone ring w controls.Trail response after = (after ≡ w) × (response ≡ text_reply (trail_text ring.devices w.lines))
@@ -110,6 +155,9 @@ module _ {V K : Type 0} (tells : V → Bool) (files : V → Folders) (faults : V
   IsControlDone ring w (controls.Replicate asked) response after = IsReplicated asked w response after
   IsControlDone ring w (controls.PushRows asked) response after = AreRowsPushed asked w response after
   IsControlDone ring w (controls.Update asked) response after = IsUpdated ring asked w response after
+  IsControlDone ring w (controls.CreateShards asked) response after = AreShardsCreated ring asked w response after
+  IsControlDone ring w (controls.Cleave asked) response after = IsCleft ring asked w response after
+  IsControlDone ring w (controls.Shards asked) response after = AreShardsTold asked w response after
   IsControlDone ring w controls.Refused response after = (after ≡ w) × (response ≡ bare 400)
 
   -- a control request was answered, or memory ran out before anything was done

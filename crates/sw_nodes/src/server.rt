@@ -1,6 +1,7 @@
 ghost use Rattle.sw_core.specs.Worlds.{keeper_seen};
-ghost use Rattle.std.specs.Prelude.{◌≡◌, ◌<◌, ◌≤◌, ◌^◌, ◌⊎◌, true, false, length, None, Ok, IfOk, IfErr, OnOk, OnErr};
+ghost use Rattle.std.specs.Prelude.{◌≡◌, [], ◌<◌, ◌≤◌, ◌^◌, ◌⊎◌, true, false, length, None, Ok, IfOk, IfErr, OnOk, OnErr};
 ghost use Rattle.sw_control.specs.PendingText.{pending_text as pending_text_of};
+ghost use Rattle.sw_control.specs.ShardsText.{shards_text as shards_text_of};
 ghost use Rattle.sw_control.specs.Texts.{files_text as files_text_of, text_reply as text_reply_of};
 ghost use Rattle.sw_object_server.specs.Replies.{bare as bare_of};
 ghost use Rattle.sw_volume.specs.Volume.{raised_by};
@@ -9,13 +10,15 @@ ghost use Rattle.sw_control.specs.Asking.{IsPlaced, is_control as is_control_pat
 ghost use Rattle.sw_container_server.specs.Targets.{is_for_containers as is_for_containers_of};
 ghost use Rattle.sw_replica_server.specs.Targets.{is_replication_of};
 ghost use Rattle.sw_control.specs.declared.asking.Control.TheVariants as controls;
-ghost use Rattle.sw_nodes.specs.Server.{AreRowsPushed, ArePendingTold, IsControlDone, IsFiled, IsPassReply, IsPendingReply, IsReplicated, IsUpdated};
+ghost use Rattle.sw_nodes.specs.Server.{AreRowsPushed, ArePendingTold, AreShardsCreated, AreShardsTold, IsCleft, IsControlDone, IsFiled, IsPassReply};
+ghost use Rattle.sw_nodes.specs.Server.{IsPendingReply, IsReplicated, IsShardsReply, IsUpdated, ranges_in};
 
 use std::alloc::Global;
 use sw_container_server::is_for_containers;
+use sw_container_steps::{ContAnswer, Sharding};
 use sw_control::{
-    Control, Replication, RowPush, Update, files_text, is_control, outcome_text, pending_text,
-    read_control, text_reply, trail_text,
+    Cleaving, Control, Replication, RowPush, ShardCreation, ShardsRead, Update, files_text,
+    is_control, outcome_text, pending_text, read_control, shards_text, text_reply, trail_text,
 };
 use sw_core::World;
 use sw_lossy::Lossy;
@@ -24,11 +27,13 @@ use sw_object_server::bare;
 use sw_object_steps::DirFault;
 use sw_outside::{Bytes, BytesList, NoMemory, StoreError};
 use sw_pass::Outcome;
+use sw_peer::{ContainerDoor, Link};
 use sw_pending::Filed;
 use sw_replica_server::{fault_reply, is_replication};
 use sw_ring::Ring;
 use sw_session::{Server, ServerFault};
-use sw_steps::{push_over, push_rows_over, update_over};
+use sw_shard_range::{Range, Ranges};
+use sw_steps::{cleave_over, create_over, push_over, push_rows_over, update_over};
 use sw_stores::Stores;
 use sw_stores::ranges::restart_range;
 use sw_updater::pending;
@@ -150,6 +155,9 @@ impl<S: Stores> Nodes<'_, S> {
             Ok(Control::Replicate(asked)) => Ok(self.replicate(alloc, asked)),
             Ok(Control::PushRows(asked)) => Ok(self.push_rows(alloc, &asked)),
             Ok(Control::Update(asked)) => Ok(self.update(alloc, asked)),
+            Ok(Control::CreateShards(asked)) => Ok(self.create_shards(alloc, &asked)),
+            Ok(Control::Cleave(asked)) => Ok(self.cleave(alloc, &asked)),
+            Ok(Control::Shards(asked)) => Ok(self.shards(alloc, &asked)),
             Ok(Control::Refused) => Ok(bare(alloc, 400)),
             Err(NoMemory) => Ok(bare(alloc, 500)),
         }
@@ -256,6 +264,65 @@ impl<S: Stores> Nodes<'_, S> {
         }
     }
 
+    /// Creates the shards of a container, and replies what came of it. A creation that wanted memory was made as far as it came.
+    fn create_shards(&mut self, alloc: Global, asked: &ShardCreation) -> Response
+        requires placed { IsPlaced self.old.ring.now (controls.CreateShards asked.now) }
+        requires ready { IsReady S.out self.old.ring.now self.old.network.door self.old.stores.now }
+        ensures created { AreShardsCreated S.V.tells S.V.holds S.V.faults (keeper_seen S.K.tells S.K.holds S.K.faults) self.old.ring.now asked.now
+            self.old.network.door result self.new.network.door }
+        ensures same { (self.new.ring ≡ self.old.ring) × (self.new.stores ≡ self.old.stores) }
+    {
+        match create_over(
+            alloc,
+            &mut self.network,
+            self.ring,
+            asked.device,
+            &asked.place,
+            asked.per_shard,
+            asked.time,
+            asked.acts,
+        ) {
+            Ok(outcome) => passed(alloc, &outcome),
+            Err(NoMemory) => bare(alloc, 500),
+        }
+    }
+
+    /// Moves the next range of a container to its shard, and replies what came of it. A cleaving that wanted memory was made as far as it came.
+    fn cleave(&mut self, alloc: Global, asked: &Cleaving) -> Response
+        requires placed { IsPlaced self.old.ring.now (controls.Cleave asked.now) }
+        requires ready { IsReady S.out self.old.ring.now self.old.network.door self.old.stores.now }
+        ensures cleft { IsCleft S.V.tells S.V.holds S.V.faults (keeper_seen S.K.tells S.K.holds S.K.faults) self.old.ring.now asked.now
+            self.old.network.door result self.new.network.door }
+        ensures same { (self.new.ring ≡ self.old.ring) × (self.new.stores ≡ self.old.stores) }
+    {
+        match cleave_over(
+            alloc,
+            &mut self.network,
+            self.ring,
+            asked.device,
+            &asked.place,
+            asked.acts,
+        ) {
+            Ok(outcome) => passed(alloc, &outcome),
+            Err(NoMemory) => bare(alloc, 500),
+        }
+    }
+
+    /// Reads how a container is split, and replies with its shard ranges.
+    fn shards(&mut self, alloc: Global, asked: &ShardsRead) -> Response
+        requires placed { IsPlaced self.old.ring.now (controls.Shards asked.now) }
+        requires ready { IsReady S.out self.old.ring.now self.old.network.door self.old.stores.now }
+        ensures told { AreShardsTold S.V.tells S.V.holds S.V.faults (keeper_seen S.K.tells S.K.holds S.K.faults) asked.now self.old.network.door result
+            self.new.network.door }
+        ensures same { (self.new.ring ≡ self.old.ring) × (self.new.stores ≡ self.old.stores) }
+    {
+        let read = self
+            .network
+            .door
+            .sharding(alloc, Link::Local, asked.device, &asked.place);
+        shards_reply(alloc, &read.unwrap())
+    }
+
     /// Restarts a device: its volumes and keepers go back to the stores, and are started anew. The reply is made first, so that a device that was
     /// restarted is told so.
     fn restart(&mut self, alloc: Global, device: u8) -> Result<Response, ServerFault>
@@ -321,6 +388,37 @@ fn shown(alloc: Global, devices: &BytesList, records: &[Filed]) -> Result<Respon
     ensures { IfOk result (λ response. response ≡ text_reply_of (pending_text_of devices.now records.now)) }
 {
     let text = pending_text(alloc, devices, records)?;
+    text_reply(alloc, text)
+}
+
+/// The reply that shows the shard ranges of a container, or why they couldn't be read. A container that isn't there has none.
+fn shards_reply(alloc: Global, got: &Result<Sharding, ContAnswer>) -> Response
+    ensures { IsShardsReply got.now result }
+{
+    let ranges = match got {
+        Ok(sharding) => ranges_of(&sharding.ranges),
+        Err(ContAnswer::Absent) => &[],
+        Err(ContAnswer::NoMemory) => return bare(alloc, 500),
+        Err(_) => return bare(alloc, 507),
+    };
+    or_wanting(alloc, shards_shown(alloc, ranges))
+}
+
+/// These ranges, or none.
+fn ranges_of(ranges: &Option<Ranges>) -> &[Range]
+    ensures { result.now ≡ ranges_in ranges.now }
+{
+    match ranges {
+        Some(ranges) => ranges.as_slice(),
+        None => &[],
+    }
+}
+
+/// The reply that shows shard ranges.
+fn shards_shown(alloc: Global, ranges: &[Range]) -> Result<Response, NoMemory>
+    ensures { IfOk result (λ response. response ≡ text_reply_of (shards_text_of ranges.now)) }
+{
+    let text = shards_text(alloc, ranges)?;
     text_reply(alloc, text)
 }
 

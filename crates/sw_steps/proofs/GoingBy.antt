@@ -1,6 +1,5 @@
 -- What goes on by the calls of a pass, whoever sends: the nodes stay, and at nodes that nobody else changes the run of the machine goes on.
 use Rattle.std.proofs.Common.{◌≡◌, true, List, [], ◌∷◌, ◌++◌, refl, sym, ◌∙◌, subst, Ok}
-use Rattle.std.specs.List.{AllByRecursion}
 use Rattle.sw_machine.proofs.Going.{leaving-join, leaving-same}
 use Rattle.sw_machine.specs.Doors.{RunsOnLeaving}
 use Rattle.sw_peer.proofs.Calls.{same-refl}
@@ -11,10 +10,6 @@ use Rattle.sw_peer.specs.declared.link.Link.TheVariants.{Local}
 pub came-local : {A : Type 0} (step : Sight → A → Sight → Type 0) (s : Sight) (x : A) (t : Sight) → Calls step s Local (Ok x) t
     → (mid : Sight) × step s x mid × IsSame mid t
 came-local {A} step s x t p = subst (λ (earlier : List A). Comes step s (earlier ++ x ∷ []) t) (p.1 refl) p.2
-
-pub all-so : {A : Type 0} (P Q : A → Type 0) (xs : List A) → ((x : A) → P x → Q x) → AllByRecursion P xs → AllByRecursion Q xs
-all-so P Q [] so all = tt
-all-so P Q (x ∷ xs) so all = (so x all.0, all-so P Q xs so all.1)
 
 -- what goes on whoever sends, by runs of this kind
 pub record GoesBy (on : Sight → Sight → Type 0) (a b : Sight) : Type 0 where

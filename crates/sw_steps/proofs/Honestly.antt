@@ -34,7 +34,7 @@ use Rattle.sw_ring.specs.declared.ring.Ring.{Ring}
 use Rattle.sw_rows.specs.declared.row.Row.{Row}
 use Rattle.sw_step.specs.Rules.{Damages, Ending, Fails, Makes, Overflows, Refuses, Wants, has_made, has_wanted}
 use Rattle.sw_steps.proofs.GoingBy.{GoesBy, GoesOnBy, goes-as, goes-then, still-goes}
-use Rattle.sw_updater.specs.Places.{AreReplicas, replicas_in}
+use Rattle.sw_pass.specs.Rings.{AreReplicas, replicas_in}
 
 -- ---- a device took a row
 

@@ -1,7 +1,10 @@
 pub mod Along
+pub mod CleaveRunning
+pub mod CreationRunning
 pub mod Exchanging
 pub mod Going
 pub mod GoingBy
+mod Holding
 mod Honestly
 mod Leaving
 mod Marking

@@ -22,7 +22,7 @@ use Rattle.sw_peer.specs.declared.link.Link.TheVariants.{Local}
 use Rattle.sw_pending.specs.declared.filed.Filed.{Filed}
 use Rattle.sw_ring.specs.declared.ring.Ring.{Ring}
 use Rattle.sw_rows.specs.declared.row.Row.{Row}
-use Rattle.sw_updater.specs.Places.{replicas_in}
+use Rattle.sw_pass.specs.Rings.{replicas_in}
 use Rattle.sw_updater.specs.Reading.{AreRead}
 use Rattle.sw_updater.specs.Updating.{Course, IsAfterBase, IsAfterDrop, IsGoneOver, IsReadAgain, IsRowTold, IsSettled, IsUpdate, IsUpdated, course, to_tell}
 use Rattle.sw_steps.proofs.GoingBy.{GoesOnBy, goes-join, goes-same}

@@ -1,5 +1,5 @@
 -- What is promised of steps and passes. (This project's own.)
-use Rattle.std.specs.Prelude.{◌≡◌, ◌≢◌, ℕ, true, List, Result}
+use Rattle.std.specs.Prelude.{◌≡◌, ◌≢◌, ℕ, true, false, List, Result}
 use Rattle.sw_listing_laws.specs.Honest.{RunsHonestly}
 use Rattle.sw_machine.specs.Doors.{RunsOnLeaving}
 use Rattle.sw_machine.specs.Laws.{LocksAreApart}
@@ -12,9 +12,10 @@ use Rattle.sw_peer.specs.Sights.{Sight}
 use Rattle.sw_steps.specs.Exchanging.{AreMet}
 use Rattle.sw_hashpath.specs.declared.place.Place.{Place}
 use Rattle.sw_ring.specs.declared.ring.Ring.{Ring}
-use Rattle.sw_steps.specs.Passing.{AreRowsPushedOver, IsPushedOver, IsUpdateOver}
+use Rattle.sw_shard_range.specs.Names.{is_hidden}
+use Rattle.sw_steps.specs.Passing.{AreRowsPushedOver, AreShardsCreatedOver, IsCleftOver, IsPushedOver, IsUpdateOver}
 use Rattle.sw_steps.specs.Stepping.{AreMade}
-use Rattle.sw_updater.specs.Places.{replicas_in}
+use Rattle.sw_pass.specs.Rings.{replicas_in}
 use Rattle.sw_steps.specs.declared.step.Step.{Step}
 
 -- A push is a run of the machine, whatever comes of it: what was lost, came twice, hindered it or wanted memory. Each transfer carries a
@@ -27,6 +28,18 @@ PushingRuns = (from to part : ℕ) (acts : Acts) (s : Sight) (result : Result Ou
 abbrev pub RowPushesRun : Type 0
 RowPushesRun = (from to : ℕ) (place : Place) (acts : Acts) (s : Sight) (result : Result Outcome NoMemory) (t : Sight)
     → AreRowsPushedOver from to place acts s result t → from ≢ to → t.alone ≡ true → RunsOnLeaving s t
+
+-- So is a pass that moves a range of a container to its shard, where the container isn't a shard itself. Each message carries rows that its sender has, as far
+-- as the sender's lock tells what it has: they were read there, and what the pass made there since then only raised points
+abbrev pub CleavesRun : Type 0
+CleavesRun = (ring : Ring) (device : ℕ) (place : Place) (acts : Acts) (s : Sight) (result : Result Outcome NoMemory) (t : Sight)
+    → IsCleftOver ring device place acts s result t → is_hidden place ≡ false → t.alone ≡ true → RunsOnLeaving s t
+
+-- So is a pass that creates the shards of a container. The list of ranges in each message is the one that its sender has, as far as the sender's lock tells
+-- what it has: it was read there, or set there before the first message
+abbrev pub CreationsRun : Type 0
+CreationsRun = (ring : Ring) (device : ℕ) (place : Place) (per_shard time : ℕ) (acts : Acts) (s : Sight) (result : Result Outcome NoMemory) (t : Sight)
+    → AreShardsCreatedOver ring device place per_shard time acts s result t → t.alone ≡ true → RunsOnLeaving s t
 
 -- So is an update, and an honest one. Each message carries to the container of a record's name what stands under that name at the device, as far as its lock
 -- tells that; a device is marked once it took such a row; and a record is dropped by all devices of its container

@@ -1,6 +1,6 @@
 //! Laws of steps and passes. Each function does nothing: its clause is the law.
 
-ghost use Rattle.sw_steps.specs.Laws.{PushingRuns, RowPushesRun, StepsMeet, UpdatesRun, WorldsAreApart};
+ghost use Rattle.sw_steps.specs.Laws.{CleavesRun, CreationsRun, PushingRuns, RowPushesRun, StepsMeet, UpdatesRun, WorldsAreApart};
 
 /// A push at nodes that nobody else changes is a run of the machine, whatever comes of it. It marks no record, and drops none.
 pub fn pushing_runs()
@@ -10,6 +10,18 @@ pub fn pushing_runs()
 /// A push of rows at nodes that nobody else changes is a run of the machine, whatever comes of it. It marks no record, and drops none.
 pub fn row_pushes_run()
     ensures { RowPushesRun }
+{}
+
+/// A pass that moves a range of a container to its shard, at nodes that nobody else changes, is a run of the machine, whatever comes of it, where the
+/// container isn't itself a shard. It marks no record, and drops none.
+pub fn cleaves_run()
+    ensures { CleavesRun }
+{}
+
+/// A pass that creates the shards of a container, at nodes that nobody else changes, is a run of the machine, whatever comes of it. It marks no record, and
+/// drops none.
+pub fn creations_run()
+    ensures { CreationsRun }
 {}
 
 /// An update at nodes that nobody else changes is an honest run of the machine, whatever comes of it: it marks a device in a record once that

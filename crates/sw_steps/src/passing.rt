@@ -1,8 +1,9 @@
-ghost use Rattle.std.specs.Prelude.{◌≡◌, ◌≢◌, ◌<◌, ◌^◌, true};
-ghost use Rattle.sw_steps.specs.Passing.{AreRowsPushedOver, IsPushedOver, IsUpdateOver};
-ghost use Rattle.sw_updater.specs.Places.{IsRingOf};
+ghost use Rattle.std.specs.Prelude.{◌≡◌, ◌≢◌, ◌<◌, ◌≤◌, ◌^◌, true};
+ghost use Rattle.sw_steps.specs.Passing.{AreRowsPushedOver, AreShardsCreatedOver, IsCleftOver, IsPushedOver, IsUpdateOver};
+ghost use Rattle.sw_pass.specs.Rings.{IsRingOf};
 
 use std::alloc::Global;
+use sw_cleave::{cleave_next, create_shards};
 use sw_cont_replicator::push_rows;
 use sw_hashpath::Place;
 use sw_lossy::{Acts, Lossy};
@@ -11,6 +12,7 @@ use sw_pass::Outcome;
 use sw_peer::{ContainerDoor, FaithfulDoor, PendingDoor, ReplicaDoor};
 use sw_replicator::push;
 use sw_ring::Ring;
+use sw_timestamp::Timestamp;
 use sw_updater::update;
 
 /// Pushes a partition through a door that loses and repeats messages; `acts` says which, by their numbers in this push, from 1. The door
@@ -66,4 +68,43 @@ pub fn update_over<D: PendingDoor + ContainerDoor + FaithfulDoor + Drop>(
 {
     door.begin(acts);
     update(alloc, door, ring, device)
+}
+
+/// Moves the first open range of a container to its shard, through such a door; where no range is open, it takes the container's rows away.
+pub fn cleave_over<D: ContainerDoor + FaithfulDoor + Drop>(
+    alloc: Global,
+    door: &mut Lossy<D>,
+    ring: &Ring,
+    device: u8,
+    place: &Place,
+    acts: Acts,
+) -> Result<Outcome, NoMemory>
+    requires device { device < (D.sight door.old.door).nodes.devices }
+    requires ring { IsRingOf ring.now (D.sight door.old.door).nodes }
+    requires fits { (D.sight door.old.door).nodes.fits_place place.now ≡ true }
+    ensures { IsCleftOver ring.now device place.now acts (D.sight door.old.door) result (D.sight door.new.door) }
+{
+    door.begin(acts);
+    cleave_next(alloc, door, ring, device, place)
+}
+
+/// Splits a container into shards of so many live names each, which are named by this time, through such a door.
+pub fn create_over<D: ContainerDoor + FaithfulDoor + Drop>(
+    alloc: Global,
+    door: &mut Lossy<D>,
+    ring: &Ring,
+    device: u8,
+    place: &Place,
+    per_shard: u64,
+    time: Timestamp,
+    acts: Acts,
+) -> Result<Outcome, NoMemory>
+    requires device { device < (D.sight door.old.door).nodes.devices }
+    requires ring { IsRingOf ring.now (D.sight door.old.door).nodes }
+    requires fits { (D.sight door.old.door).nodes.fits_place place.now ≡ true }
+    requires some { 1 ≤ per_shard }
+    ensures { AreShardsCreatedOver ring.now device place.now per_shard time acts (D.sight door.old.door) result (D.sight door.new.door) }
+{
+    door.begin(acts);
+    create_shards(alloc, door, ring, device, place, per_shard, time)
 }

@@ -3,6 +3,7 @@ use Rattle.std.proofs.Common.{ap, subst, inl, inr, refl}
 use Rattle.sw_control.specs.Asking.{IsControl, IsPlaced}
 use Rattle.sw_nodes.proofs.Controlling.{came_again, done_nothing, files_listed, push_ready, row_push_ready, rows_were_pushed, stayed_away, trail_told}
 use Rattle.sw_nodes.proofs.Controlling.{was_pushed}
+use Rattle.sw_nodes.proofs.Splitting.{cleave_ready, creation_ready, shards_ready, shards_told, was_cleft, were_created}
 use Rattle.sw_nodes.proofs.Updating.{pending_ready, pending_told, update_ready, was_updated}
 use Rattle.sw_control.specs.declared.asking.Control.TheVariants as controls
 use Rattle.sw_nodes.proofs.server.Nodes.control.Goals as goal
@@ -95,6 +96,64 @@ returns-in-Ok-Update-clause-ready g c =
     c.update.new.self.ring.now c.args.self.now.network.door c.update.new.self.network.door c.args.self.now.stores c.update.new.self.stores
     c.args.request.now
     c.update.result c.in-Ok-Update.asked (ap (λ r. r.now) c.update.ensures.same.0) c.update.ensures.same.1 c.requires.ready c.update.ensures.updated
+
+pub returns-in-Ok-CreateShards-clause-served : goal.returns-in-Ok-CreateShards-clause-served
+returns-in-Ok-CreateShards-clause-served g c =
+    were_created g.S.V.Volume.tells g.S.V.Volume.holds g.S.V.Volume.faults (keeper_seen g.S.K.Keeper.tells g.S.K.Keeper.holds g.S.K.Keeper.faults)
+    g.S.Stores.faults g.S.Stores.calls g.S.Stores.out c.args.self.now.ring.now
+    c.create_shards.new.self.ring.now c.args.self.now.network.door c.create_shards.new.self.network.door c.args.self.now.stores c.create_shards.new.self.stores
+    c.args.request.now
+    c.args._now c.create_shards.result c.in-Ok-CreateShards.asked c.requires.control
+    (subst (IsControl c.args.self.now.ring.now c.args.request.now) c.in-Ok-CreateShards.field-0-is c.in-Ok-CreateShards.ensures.exact)
+    (ap (λ r. r.now) c.create_shards.ensures.same.0) c.create_shards.ensures.same.1 c.requires.ready c.create_shards.ensures.created
+
+pub returns-in-Ok-CreateShards-clause-ready : goal.returns-in-Ok-CreateShards-clause-ready
+returns-in-Ok-CreateShards-clause-ready g c =
+    creation_ready g.S.V.Volume.tells g.S.V.Volume.holds g.S.V.Volume.faults (keeper_seen g.S.K.Keeper.tells g.S.K.Keeper.holds g.S.K.Keeper.faults)
+    g.S.Stores.faults g.S.Stores.calls g.S.Stores.out c.args.self.now.ring.now
+    c.create_shards.new.self.ring.now c.args.self.now.network.door c.create_shards.new.self.network.door c.args.self.now.stores c.create_shards.new.self.stores
+    c.args.request.now
+    c.create_shards.result c.in-Ok-CreateShards.asked
+    (ap (λ r. r.now) c.create_shards.ensures.same.0) c.create_shards.ensures.same.1 c.requires.ready c.create_shards.ensures.created
+
+pub returns-in-Ok-Cleave-clause-served : goal.returns-in-Ok-Cleave-clause-served
+returns-in-Ok-Cleave-clause-served g c =
+    was_cleft g.S.V.Volume.tells g.S.V.Volume.holds g.S.V.Volume.faults (keeper_seen g.S.K.Keeper.tells g.S.K.Keeper.holds g.S.K.Keeper.faults)
+    g.S.Stores.faults g.S.Stores.calls g.S.Stores.out c.args.self.now.ring.now
+    c.cleave.new.self.ring.now c.args.self.now.network.door c.cleave.new.self.network.door c.args.self.now.stores c.cleave.new.self.stores
+    c.args.request.now
+    c.args._now c.cleave.result c.in-Ok-Cleave.asked c.requires.control
+    (subst (IsControl c.args.self.now.ring.now c.args.request.now) c.in-Ok-Cleave.field-0-is c.in-Ok-Cleave.ensures.exact)
+    (ap (λ r. r.now) c.cleave.ensures.same.0) c.cleave.ensures.same.1 c.requires.ready c.cleave.ensures.cleft
+
+pub returns-in-Ok-Cleave-clause-ready : goal.returns-in-Ok-Cleave-clause-ready
+returns-in-Ok-Cleave-clause-ready g c =
+    cleave_ready g.S.V.Volume.tells g.S.V.Volume.holds g.S.V.Volume.faults (keeper_seen g.S.K.Keeper.tells g.S.K.Keeper.holds g.S.K.Keeper.faults)
+    g.S.Stores.faults g.S.Stores.calls g.S.Stores.out c.args.self.now.ring.now
+    c.cleave.new.self.ring.now c.args.self.now.network.door c.cleave.new.self.network.door c.args.self.now.stores c.cleave.new.self.stores
+    c.args.request.now
+    c.cleave.result c.in-Ok-Cleave.asked
+    (subst (IsControl c.args.self.now.ring.now c.args.request.now) c.in-Ok-Cleave.field-0-is c.in-Ok-Cleave.ensures.exact)
+    (ap (λ r. r.now) c.cleave.ensures.same.0) c.cleave.ensures.same.1 c.requires.ready c.cleave.ensures.cleft
+
+pub returns-in-Ok-Shards-clause-served : goal.returns-in-Ok-Shards-clause-served
+returns-in-Ok-Shards-clause-served g c =
+    shards_told g.S.V.Volume.tells g.S.V.Volume.holds g.S.V.Volume.faults (keeper_seen g.S.K.Keeper.tells g.S.K.Keeper.holds g.S.K.Keeper.faults)
+    g.S.Stores.faults g.S.Stores.calls g.S.Stores.out c.args.self.now.ring.now
+    c.shards.new.self.ring.now c.args.self.now.network.door c.shards.new.self.network.door c.args.self.now.stores c.shards.new.self.stores
+    c.args.request.now
+    c.args._now c.shards.result c.in-Ok-Shards.asked c.requires.control
+    (subst (IsControl c.args.self.now.ring.now c.args.request.now) c.in-Ok-Shards.field-0-is c.in-Ok-Shards.ensures.exact)
+    (ap (λ r. r.now) c.shards.ensures.same.0) c.shards.ensures.same.1 c.requires.ready c.shards.ensures.told
+
+pub returns-in-Ok-Shards-clause-ready : goal.returns-in-Ok-Shards-clause-ready
+returns-in-Ok-Shards-clause-ready g c =
+    shards_ready g.S.V.Volume.tells g.S.V.Volume.holds g.S.V.Volume.faults (keeper_seen g.S.K.Keeper.tells g.S.K.Keeper.holds g.S.K.Keeper.faults)
+    g.S.Stores.faults g.S.Stores.calls g.S.Stores.out c.args.self.now.ring.now
+    c.shards.new.self.ring.now c.args.self.now.network.door c.shards.new.self.network.door c.args.self.now.stores c.shards.new.self.stores
+    c.args.request.now
+    c.shards.result c.in-Ok-Shards.asked
+    (ap (λ r. r.now) c.shards.ensures.same.0) c.shards.ensures.same.1 c.requires.ready c.shards.ensures.told
 
 pub returns-in-Ok-Pending-clause-served : goal.returns-in-Ok-Pending-clause-served
 returns-in-Ok-Pending-clause-served g c =
