@@ -1,5 +1,8 @@
+mod Answered
+mod AnsweredRuns
 mod Composing
 mod Connecting
+mod Found
 mod Listing
 mod Mapped
 mod OpeningLemmas

@@ -8,7 +8,7 @@ use Rattle.sw_machine.specs.Machine.{Came, Machine, RunLine, Runs, Steps, Went, 
 use Rattle.sw_core.specs.Worlds.{nodes_of}
 use Rattle.sw_peer.specs.Sights.{Sight}
 use Rattle.sw_ring.specs.declared.ring.Ring.{Ring}
-use Rattle.sw_updater.specs.Places.{replicas_in}
+use Rattle.sw_pass.specs.Rings.{replicas_in}
 use Rattle.sw_cluster.specs.Listing.{AreExact, IsExact, ListsExactly, cluster_of}
 
 module _ (c : Cluster) where
@@ -38,8 +38,8 @@ module _ (c : Cluster) where
   module _ (began : Machine) (new : IsNew c began) where
     line-exact : (done : List RunLine) (m : Machine) (line : RunLine) (after : Machine) → RunsSoundly c [] began done m → Steps c.nodes m line after
         → IsExact c m line
-    line-exact done m (Came line) after so_far step = λ place query listed entries is seen agree settled kept rows live.
-        listings-exact c began done m line after new so_far step agree place query listed entries is seen settled kept rows live
+    line-exact done m (Came line) after so_far step = λ place query listed entries is seen agree settled kept whole rows live.
+        listings-exact c began done m line after new so_far step agree place query listed entries is seen settled kept whole rows live
     line-exact done m (Went from message) after so_far step = tt
 
     each-exact : (done : List RunLine) (m : Machine) (lines : List RunLine) (after : Machine) (run : Runs c.nodes m lines after)

@@ -42,13 +42,13 @@ module _ {V K : Type 0} (tells : V → Bool) (files : V → Folders) (faults : V
     pub nodes : (see after).nodes ≡ (see w).nodes
     pub runs : RunsOnLeaving (see w) (see after)
 
-  goes-same : (w after : AllNodes V K) → after ≡ w → Goes w after
+  pub goes-same : (w after : AllNodes V K) → after ≡ w → Goes w after
   goes-same w after same = subst (Goes w) (sym same) (record { nodes = refl; runs = runs-itself (see w) })
 
-  goes-join : (a b c : AllNodes V K) → Goes a b → Goes b c → Goes a c
+  pub goes-join : (a b c : AllNodes V K) → Goes a b → Goes b c → Goes a c
   goes-join a b c p q = record { nodes = q.nodes ∙ p.nodes; runs = leaving-join (see a) (see b) (see c) p.runs q.runs }
 
-  served-one : (w after : AllNodes V K) (moment : ℕ) (source : Input) (sink : Output) (status : ℕ)
+  pub served-one : (w after : AllNodes V K) (moment : ℕ) (source : Input) (sink : Output) (status : ℕ)
       → IsConnection see ring moment w source sink after status → Goes w after
   served-one w after moment source sink status c =
       let keeps = connection-goes see ring moment w source sink after status c in
@@ -59,11 +59,11 @@ module _ {V K : Type 0} (tells : V → Bool) (files : V → Folders) (faults : V
       let restarts = lifting-restarts tells files faults keeps w again.mid after device again.given again.up again.down in
       record { nodes = restarts.nodes; runs = restart-runs device (see w) (see after) refl restarts }
 
-  first-go : (n : ℕ) (w after : AllNodes V K) → RestartsFirst tells files faults keeps ring n w after → Goes w after
+  pub first-go : (n : ℕ) (w after : AllNodes V K) → RestartsFirst tells files faults keeps ring n w after → Goes w after
   first-go zero w after same = goes-same w after same
   first-go (suc n) w after again = goes-join w again.0 after (first-go n w again.0 again.1) (restarted-goes again.0 after n again.2)
 
-  all-go : (w after : AllNodes V K) (rounds : List Round) → ServesAll tells files faults keeps ring w rounds after → Goes w after
+  pub all-go : (w after : AllNodes V K) (rounds : List Round) → ServesAll tells files faults keeps ring w rounds after → Goes w after
   all-go w after [] same = goes-same w after same
   all-go w after (round ∷ rounds) serves =
       goes-join w serves.1 after

@@ -24,14 +24,13 @@ use Rattle.sw_stores.specs.Starting.{AreResting}
 use Rattle.sw_volume.specs.Tree.{Folders}
 use Rattle.sw_volume.specs.Volume.{raised_by}
 use Rattle.sw_nodes.specs.Restarts.{AreCalled, restarts_in}
-use Rattle.sw_nodes.proofs.Exchanging.{exchange_meets}
 use Rattle.sw_nodes.proofs.Keeping.{runs-itself}
 use Rattle.sw_nodes.proofs.Readying.{ready-of}
 use Rattle.sw_nodes.proofs.Restarting.{called-on, none-called, out-called, whole-called}
 use Rattle.sw_listing_laws.proofs.Honesty.{honest-join, honest-leaving}
 use Rattle.sw_listing_laws.specs.Honest.{AreHonest, RunsHonestly}
 use Rattle.sw_machine.specs.Doors.{GoesOn}
-use Rattle.sw_updater.specs.Places.{replicas_in}
+use Rattle.sw_pass.specs.Rings.{replicas_in}
 use Rattle.sw_machine.specs.Machine.{RunLine, Runs, came_in, machine_of}
 use Rattle.sw_core.specs.Worlds.{AllNodes, AreContainers, IsWorld, KeeperSeen, Lifts, SlotTellsOn, first_of, nodes_of, opened, shown, sight_of, without_lines}
 use Rattle.sw_cluster.proofs.Listing.{lists-exactly}
@@ -402,7 +401,6 @@ module _ {V K : Type 0} (tells : V → Bool) (files : V → Folders) (faults : V
               (subst (All (SlotTellsOn tells files faults)) (ap (λ (w : AllNodes V K). w.slots) taken) told_on)
               (subst (λ (w : AllNodes V K). AreContainers w.devices w.lock_bits w.lifted w.containers) taken there)
               (subst (λ (w : AllNodes V K). AreLocks keeps.tells w.containers) taken locks)));
-          meets = exchange_meets tells files faults keeps;
           moments = subst (TicksEach clock clock_now) (sym read_is) ticks;
           store_faults_are = faults_are ∙ (nodes-ended.faults_are ∙ ap (faults_at store_faults store_calls rests out start.network.door start.stores)
               (sym status_is));

@@ -14,7 +14,7 @@ use Rattle.sw_object_steps.specs.Journals.{Hash}
 use Rattle.sw_ring.specs.declared.ring.Ring.{Ring}
 use Rattle.sw_listing_laws.specs.Honest.{AreHonest}
 use Rattle.sw_machine.specs.Machine.{Machine, RunLine, Runs, came_in, machine_of, writes_at}
-use Rattle.sw_updater.specs.Places.{replicas_in}
+use Rattle.sw_pass.specs.Rings.{replicas_in}
 use Rattle.sw_state.specs.States.{state_of, writes_of}
 use Rattle.sw_core.specs.Worlds.{KeeperSeen, AllNodes, lock_of, nodes_of, opened, place_lock, sight_of, stripe_at}
 use Rattle.sw_hashdir.specs.Places.{holds}
@@ -28,7 +28,6 @@ use Rattle.sw_stores.specs.Places.{IsAsItWas}
 use Rattle.sw_stores.specs.Starting.{AreStarted, RestsAgain}
 use Rattle.sw_volume.specs.Tree.{Folders}
 use Rattle.sw_volume.specs.Volume.{raised_by}
-use Rattle.sw_nodes.specs.Exchanging.{ExchangeMeets}
 use Rattle.sw_nodes.specs.Restarts.{AreCalled}
 use Rattle.sw_nodes.specs.Server.{MayAnswer, MayHalt}
 use Rattle.sw_core.specs.declared.trail.Trail.{Trail}
@@ -92,8 +91,8 @@ module _ {V K : Type 0} (tells : V → Bool) (files : V → Folders) (faults : V
 
   -- The trail tells what happened: its steps are those that came in a run of the machine from what the nodes began with, so each is answered by
   -- what had reached its device before, and what came in a message had been sent. The run is honest: what was marked in a record had been heard, and what was
-  -- dropped looked at all devices of its container. So where it began with nothing each listing in it of a container of which no record is pending is exactly
-  -- its live objects. In the end the files stand for what reached, and the keepers have the machine's tables.
+  -- dropped looked at all devices of its container. So where it began with nothing each listing in it of a container of which no record is pending, and that
+  -- isn't split into shards at the device, is exactly its live objects. In the end the files stand for what reached, and the keepers have the machine's tables.
   pub record IsTrail (ring : Ring) (began after : AllNodes V K) (rests : ℕ → ℕ → Option (V × K)) (steps : List Line) : Type 0 where
     pub lines : List RunLine
     pub came : came_in lines ≡ steps
@@ -104,8 +103,7 @@ module _ {V K : Type 0} (tells : V → Bool) (files : V → Folders) (faults : V
     pub stored : (device : ℕ) (hash : Hash) → device < length ring.devices → IsStored ring began machine rests device hash
     pub kept : (device : ℕ) (place : Place) → device < length ring.devices → IsKept ring began machine rests device place
 
-  -- A session was run over these nodes of a ring, in which no request is a last one, and then their volumes and keepers were given back. Of its requests
-  -- two that pushed a partition, there and back, and were told that it is done, meet
+  -- A session was run over these nodes of a ring, in which no request is a last one, and then their volumes and keepers were given back
   pub record IsRunOver (ring : Ring) (began : AllNodes V K) (rests_now : ℕ → ℕ → Option (V × K)) (stores stores_now : Counts)
       (source : Input) (sink : Output) (clock clock_now : Option (List ℕ)) (trail : Trail) (status : ℕ) : Type 0 where
     pub after : AllNodes V K
@@ -113,7 +111,6 @@ module _ {V K : Type 0} (tells : V → Bool) (files : V → Folders) (faults : V
         sink trail.moments after status
     pub steps : trail.steps ≡ after.lines
     pub told : IsTrail ring began after rests_now trail.steps
-    pub meets : ExchangeMeets tells files faults keeps
     pub moments : TicksEach clock clock_now trail.moments
     pub store_faults_are : stores_now.faults ≡ (if status == statuses.store_fault then raised stores.faults else stores.faults)
     pub store_calls_are : AreCalled ring after.lifted trail.steps stores.calls stores_now.calls

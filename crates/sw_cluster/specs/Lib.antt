@@ -1,3 +1,4 @@
+pub mod Answered
 pub mod Composing
 pub mod Connections
 pub mod Ending

@@ -1,5 +1,6 @@
--- What is listed in a run that began with nothing: where no record waits, exactly the live objects. (This project's own.)
+-- What is listed in a run that began with nothing: where no record waits, and no shards have any of it, exactly the live objects. (This project's own.)
 use Rattle.std.specs.Prelude.{◌≡◌, ⊤, false, Bool, List, [], ◌∷◌, Contains, Ok, length}
+use Rattle.sw_container_steps.specs.Serving.{IsUnsplit}
 use Rattle.sw_container_steps.specs.declared.cont_entry.ContEntry.{ContEntry}
 use Rattle.sw_hashpath.specs.declared.name.Name.{Name}
 use Rattle.sw_hashpath.specs.declared.place.Place.{Place}
@@ -16,15 +17,16 @@ use Rattle.sw_peer.specs.declared.cont_event.ContEvent.TheVariants as cont_event
 use Rattle.sw_peer.specs.declared.line.Event.TheVariants.{AtContainer}
 use Rattle.sw_ring.specs.declared.ring.Ring.{Ring}
 use Rattle.sw_rows.specs.declared.numbered.Numbered.{Numbered}
-use Rattle.sw_updater.specs.Places.{replicas_in}
+use Rattle.sw_pass.specs.Rings.{replicas_in}
 
--- A listing is exact: of a container that isn't hidden, and of which no record is pending, each device of the container lists exactly what is asked of the
--- rows of its live objects. (Two puts of one name and time are one.)
+-- A listing is exact: of a container that isn't hidden, and of which no record is pending, each device of the container at which it isn't split into shards
+-- lists exactly what is asked of the rows of its live objects. (Two puts of one name and time are one.)
 abbrev pub IsExact : Cluster → Machine → RunLine → Type 0
 IsExact c m (Came line) =
     (place : Place) (query : Query) (listed : List Entry) (entries : List ContEntry)
     → line.event ≡ AtContainer (cont_events.Listed place query (Ok listed)) entries → c.is_hidden place ≡ false → DoAgree m → IsSettled c m place
-    → Contains (c.replicas place) line.device → (rows : List Numbered) → AreLiveRows c m place rows → listed ≡ listing query rows
+    → Contains (c.replicas place) line.device → IsUnsplit (m.containers.half.holds line.device place) → (rows : List Numbered)
+    → AreLiveRows c m place rows → listed ≡ listing query rows
 IsExact c m (Went from message) = ⊤
 
 -- each one that comes in a run is, over the machine as the lines before it left it

@@ -1,10 +1,23 @@
-//! Laws of commands that follow each other. Each function does nothing: its clause is the law.
+//! Laws of what commands leave: of what was answered, and of commands that follow each other. Each function does nothing,
+//! and its clause is the law.
 
+ghost use Rattle.sw_cluster.specs.Answered.{AnswersStand, SessionAnswersStand};
 ghost use Rattle.sw_cluster.specs.Composing.{ObjectsCompose, RunsLead, ServingLeads, TablesCompose};
 ghost use Rattle.sw_core.specs.Worlds.{keeper_seen};
 ghost use Rattle.sw_ring.specs.declared.ring.Ring.{Ring};
 
 use sw_stores::Stores;
+
+/// Whatever a client was told of a write, in a session or on a connection that was served, is borne out by what rests in the stores at the end, whatever
+/// came, failed or was restarted in between: where it was told that its write was made, the files that rest have it, or the tables; and where it was told a
+/// 409, they are as late as the time that it shows. This holds of each lock that told its contents as the command began.
+pub fn answers_stand<S: Stores>()
+    ensures sessions { (ring : Ring) → SessionAnswersStand S.V.tells S.V.holds S.V.faults (keeper_seen S.K.tells S.K.holds S.K.faults) ring S.first }
+    ensures serving { (ring : Ring) → AnswersStand S.V.tells S.V.holds S.V.faults (keeper_seen S.K.tells S.K.holds S.K.faults) ring S.first }
+{
+    sw_object_server::laws::asks_for_one();
+    sw_container_server::laws::asks_for_one();
+}
 
 /// A session, and connections that are served, lead from what rested in the stores to what rests then.
 pub fn commands_lead<S: Stores>()
