@@ -1,9 +1,9 @@
 use crate::locks::keeper;
-use crate::steps::{place, time};
+use crate::steps::{is_told, place, time};
 use std::alloc::Global;
 use std::test::Fail;
 use sw_container_locks::ContLocks;
-use sw_container_steps::{ContAnswer, ContChange, Parcel};
+use sw_container_steps::{ContChange, Parcel};
 use sw_hashpath::Place;
 use sw_keeper::{Keeper, MemKeeper};
 use sw_listing::Query;
@@ -31,7 +31,7 @@ fn created<K: Keeper + Drop>(
     }
     let change = ContChange::Create { time: time(1) };
     let (answer, line) = locks.change(alloc, lock, Link::Local, 0, place, &change);
-    (answer == ContAnswer::New(1)).then_some(line.entered().len())
+    is_told(&answer, "New", 1).then_some(line.entered().len())
 }
 
 /// The put time of the container at a lock, in units; none where it was never created.

@@ -1,7 +1,7 @@
 use crate::locks::keeper;
 use crate::making::row;
 use crate::many::rows_of;
-use crate::steps::{place, time};
+use crate::steps::{is_told, place, time};
 use std::alloc::Global;
 use std::test::Fail;
 use sw_container_db::ContDir;
@@ -39,6 +39,10 @@ const NEXTS: [Next; 10] = [
     Next::Names,
 ];
 
+fn is_absent(answer: &ContAnswer) -> bool {
+    matches!(answer, ContAnswer::Absent)
+}
+
 /// A lock that is in doubt of the creation of this container at time 1, which was made, or wasn't.
 fn in_doubt(alloc: Global, place: &Place, made: bool) -> Result<ContDir<MemKeeper>, NoMemory> {
     let mut containers = ContDir::start(alloc, keeper(alloc, &[(1, made)])?, 10);
@@ -54,17 +58,17 @@ fn comes_over_one<K: Keeper + Drop>(
     next: Next,
 ) -> Result<bool, NoMemory> {
     Ok(match next {
-        Next::Create => containers.create(alloc, place, time(1)) == ContAnswer::There(1),
-        Next::Remove => containers.remove(alloc, place, time(2)) == ContAnswer::Done(2),
+        Next::Create => is_told(&containers.create(alloc, place, time(1)), "There", 1),
+        Next::Remove => is_told(&containers.remove(alloc, place, time(2)), "Done", 2),
         Next::Row => {
             let row = row(alloc, "o", 1, 3, false)?;
-            containers.merge_row(alloc, place, row) == ContAnswer::Done(2)
+            is_told(&containers.merge_row(alloc, place, row), "Done", 2)
         }
         Next::Rows => {
             let rows = rows_of(alloc, 9)?;
-            containers.merge_rows(alloc, place, rows) == ContAnswer::Done(10)
+            is_told(&containers.merge_rows(alloc, place, rows), "Done", 10)
         }
-        Next::Sync => containers.set_sync(alloc, place, 1, 7) == ContAnswer::Done(2),
+        Next::Sync => is_told(&containers.set_sync(alloc, place, 1, 7), "Done", 2),
         Next::Times => containers
             .times(alloc, place)
             .is_ok_and(|times| times == Some((time(1), None))),
@@ -92,26 +96,34 @@ fn comes_over_none<K: Keeper + Drop>(
     next: Next,
 ) -> Result<bool, NoMemory> {
     Ok(match next {
-        Next::Create => containers.create(alloc, place, time(1)) == ContAnswer::New(1),
-        Next::Remove => containers.remove(alloc, place, time(2)) == ContAnswer::Absent,
+        Next::Create => is_told(&containers.create(alloc, place, time(1)), "New", 1),
+        Next::Remove => is_absent(&containers.remove(alloc, place, time(2))),
         Next::Row => {
             let row = row(alloc, "o", 1, 3, false)?;
-            containers.merge_row(alloc, place, row) == ContAnswer::Absent
+            is_absent(&containers.merge_row(alloc, place, row))
         }
         Next::Rows => {
             let rows = rows_of(alloc, 9)?;
-            containers.merge_rows(alloc, place, rows) == ContAnswer::Absent
+            is_absent(&containers.merge_rows(alloc, place, rows))
         }
-        Next::Sync => containers.set_sync(alloc, place, 1, 7) == ContAnswer::Absent,
+        Next::Sync => is_absent(&containers.set_sync(alloc, place, 1, 7)),
         Next::Times => containers
             .times(alloc, place)
             .is_ok_and(|times| times.is_none()),
-        Next::Info => containers.info(alloc, place).err() == Some(ContAnswer::Absent),
+        Next::Info => {
+            containers
+                .info(alloc, place)
+                .is_err_and(|answer| is_absent(&answer))
+        }
         Next::List => {
             let query = Query::read(alloc, b"").map_err(|_| NoMemory)?;
-            containers.list(alloc, place, &query).err() == Some(ContAnswer::Absent)
+            containers
+                .list(alloc, place, &query)
+                .is_err_and(|answer| is_absent(&answer))
         }
-        Next::Parcel => { containers.sync_rows(alloc, place, 1).err() == Some(ContAnswer::Absent) }
+        Next::Parcel => containers
+            .sync_rows(alloc, place, 1)
+            .is_err_and(|answer| is_absent(&answer)),
         Next::Names => containers
             .names(alloc)
             .is_ok_and(|places| places.is_empty()),

@@ -20,6 +20,8 @@ mod making;
 #[cfg(test)]
 mod many;
 #[cfg(test)]
+mod ranges;
+#[cfg(test)]
 mod rows;
 #[cfg(test)]
 mod shard_ranges;

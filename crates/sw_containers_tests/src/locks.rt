@@ -1,9 +1,8 @@
 use crate::making::row;
-use crate::steps::{place, time, told};
+use crate::steps::{is_told, place, time, told};
 use std::alloc::Global;
 use std::test::Fail;
 use sw_container_db::ContDir;
-use sw_container_steps::ContAnswer;
 use sw_hashpath::Place;
 use sw_keeper::{Keeper, MemKeeper};
 use sw_listing::Query;
@@ -113,12 +112,6 @@ pub(crate) fn keeper(alloc: Global, failing: &[(u64, bool)]) -> Result<MemKeeper
     Ok(MemKeeper::new(alloc, calls))
 }
 
-/// Whether this is the name of the answer, and the number in it.
-fn is_told(answer: &ContAnswer, name: &str, number: u64) -> bool {
-    let (answered, told) = told(answer);
-    answered == name && told == number
-}
-
 fn told_of<K: Keeper + Drop>(alloc: Global, containers: &mut ContDir<K>, place: &Place) -> Told {
     let info = containers.info(alloc, place).ok()?;
     Some((info.count, info.front))
@@ -154,25 +147,25 @@ fn a_full_journal_takes_no_entry(rt: HostRuntime) -> Result<(), Fail> {
     let query = Query::read(alloc, b"")?;
     assert!(rt; containers.list(alloc, &place, &query).is_err());
     assert_eq!(rt;
-        containers.create(alloc, &place, time(1)),
-        ContAnswer::New(1)
+        told(&containers.create(alloc, &place, time(1))),
+        ("New", 1)
     );
     let row = row(alloc, "o", 500_000, 3, false)?;
     assert_eq!(rt;
-        containers.merge_row(alloc, &place, row),
-        ContAnswer::JournalFull
+        told(&containers.merge_row(alloc, &place, row)),
+        ("JournalFull", 0)
     );
     assert_eq!(rt;
-        containers.create(alloc, &place, time(1)),
-        ContAnswer::There(1)
+        told(&containers.create(alloc, &place, time(1))),
+        ("There", 1)
     );
     assert_eq!(rt;
-        containers.remove(alloc, &place, time(1)),
-        ContAnswer::Stale(time(1))
+        told(&containers.remove(alloc, &place, time(1))),
+        ("Stale", 1)
     );
     assert_eq!(rt;
-        containers.remove(alloc, &place, time(2)),
-        ContAnswer::JournalFull
+        told(&containers.remove(alloc, &place, time(2))),
+        ("JournalFull", 0)
     );
     assert!(rt;
         containers

@@ -1,10 +1,10 @@
 use crate::locks::keeper;
 use crate::making::row;
-use crate::steps::{place, time};
+use crate::steps::{place, time, told};
 use std::alloc::Global;
 use std::test::Fail;
 use sw_container_db::ContDir;
-use sw_container_steps::{ContAnswer, RowList};
+use sw_container_steps::RowList;
 use sw_hashpath::Place;
 use sw_keeper::Keeper;
 use sw_listing::{Query, to_text};
@@ -62,8 +62,8 @@ fn many_rows_are_merged_at_once_kept_and_listed(rt: HostRuntime) -> Result<(), F
     let _ = containers.create(alloc, &place, time(1));
     let rows = rows_of(alloc, MANY)?;
     assert_eq!(rt;
-        containers.merge_rows(alloc, &place, rows),
-        ContAnswer::Done(MANY + 1)
+        told(&containers.merge_rows(alloc, &place, rows)),
+        ("Done", MANY + 1)
     );
     assert!(rt; has_so_many(alloc, &mut containers, &place, &query)?);
     let mut anew = ContDir::start(alloc, containers.into_keeper(), 1000);

@@ -6,7 +6,7 @@ use std::test::Fail;
 use sw_hashpath::{BadName, NameError, Place, Secrets};
 use sw_outside::{Bytes, NoMemory};
 use sw_rows::Rows;
-use sw_shard_range::state::ACTIVE;
+use sw_shard_range::state::{ACTIVE, CLEAVED, CREATED};
 use sw_shard_range::{NotTiled, Range, Ranges, find, is_hidden, laws, shard_name};
 
 /// How many of the live names `a` to `e`, beside the deleted ones `b0` and `f`, a shard has, and the bounds between the shards.
@@ -96,22 +96,39 @@ fn rows(rt: &impl Abort, alloc: Global) -> Result<Rows, Fail> {
     Ok(rows)
 }
 
-/// A range with these bounds, and a shard of this place.
-fn range(alloc: Global, place: &Place, (lower, upper): (&str, &str)) -> Result<Range, NameError> {
+/// The range of this index with these bounds, and a shard of this place.
+fn range(
+    alloc: Global,
+    place: &Place,
+    index: u32,
+    (lower, upper): (&str, &str),
+) -> Result<Range, NameError> {
     Ok(Range {
         lower: Bytes::copy(alloc, lower.as_bytes())?,
         upper: Bytes::copy(alloc, upper.as_bytes())?,
-        shard: shard_name(alloc, &secrets(alloc)?, place, time(10_000_000), 0)?,
+        shard: shard_name(alloc, &secrets(alloc)?, place, time(10_000_000), index)?,
         state: ACTIVE,
     })
 }
 
 fn ranges(alloc: Global, place: &Place, bounds: &[(&str, &str)]) -> Result<Vec<Range>, Fail> {
     let mut list = Vec::new(alloc);
-    for bounds in bounds {
-        list.push(range(alloc, place, *bounds)?)?;
+    for (index, bounds) in bounds.iter().enumerate() {
+        let Ok(index) = u32::try_from(index) else {
+            return Err(Fail::new("too many ranges"));
+        };
+        list.push(range(alloc, place, index, *bounds)?)?;
     }
     Ok(list)
+}
+
+/// The three ranges of the bounds `b` and `d`, each ACTIVE.
+pub fn three_ranges(alloc: Global, place: &Place) -> Result<Ranges, Fail> {
+    let list = ranges(alloc, place, &RANGES)?;
+    if list.len() != RANGES.len() {
+        return Err(Fail::new("a range is missing"));
+    }
+    Ok(Ranges::new(list)?)
 }
 
 fn are(bounds: &[Bytes], wanted: &[&str]) -> bool {
@@ -138,9 +155,7 @@ fn rows_are_cut_behind_so_many_live_names(rt: HostRuntime) -> Result<(), Fail> {
 #[test]
 fn each_name_is_in_one_range(rt: HostRuntime) -> Result<(), Fail> {
     let alloc = rt.alloc();
-    let list = ranges(alloc, &place(alloc, b"a")?, &RANGES)?;
-    assert!(rt; list.len() == 3);
-    let ranges = Ranges::new(list)?.copy(alloc)?;
+    let ranges = three_ranges(alloc, &place(alloc, b"a")?)?.copy(alloc)?;
     assert_eq!(rt; ranges.len(), 3);
     for (name, index) in PLACES {
         assert_eq!(rt; ranges.range_of(name.as_bytes()), index, "at {name}");
@@ -148,6 +163,22 @@ fn each_name_is_in_one_range(rt: HostRuntime) -> Result<(), Fail> {
     laws::name_is_in_a_range();
     laws::name_is_in_one_range();
     laws::states_are_swifts();
+    Ok(())
+}
+
+fn are_in(ranges: &Ranges, states: [u8; 3]) -> bool {
+    ranges.as_slice().iter().map(|range| range.state).eq(states)
+}
+
+#[test]
+fn all_ranges_or_one_come_to_a_state(rt: HostRuntime) -> Result<(), Fail> {
+    let alloc = rt.alloc();
+    let mut ranges = three_ranges(alloc, &place(alloc, b"a")?)?.all_in_state(CREATED);
+    assert!(rt; are_in(&ranges, [20, 20, 20]));
+    for (index, states) in [(1, [20, 30, 20]), (3, [20, 30, 20]), (0, [30, 30, 20])] {
+        ranges = ranges.with_state(CLEAVED, index);
+        assert!(rt; are_in(&ranges, states), "at {index}");
+    }
     Ok(())
 }
 

@@ -2,8 +2,8 @@ use crate::making::row;
 use std::alloc::Global;
 use std::test::Fail;
 use sw_container_steps::{
-    ContAnswer, ContChange, Decision, RowList, batch_of, decide, has_numbers, info_of, laws,
-    made_answer, times_of,
+    ContAnswer, ContChange, Decision, RowList, batch_of, decide, has_numbers, info_of, is_present,
+    laws, made_answer, times_of,
 };
 use sw_hashpath::Place;
 use sw_keeper::Tables;
@@ -100,11 +100,19 @@ fn make(
         return Ok((ContAnswer::JournalFull, tables));
     }
     let after = front.saturating_add(entries.as_slice().len() as u64);
-    let answer = made_answer(&tables, change, after);
+    let answer = made_answer(is_present(&tables), change, after);
     Ok((answer, batch_of(alloc, tables, entries.as_slice())?.tables))
 }
 
-/// The name of an answer, and the number in it, or 0.
+/// The digit that the container of a place ends with, or 10.
+fn last_digit(place: &Place) -> u64 {
+    match place.container.as_slice() {
+        [.., digit @ b'0'..=b'9'] => u64::from(*digit - b'0'),
+        _ => 10,
+    }
+}
+
+/// The name of an answer, and the number in it, or 0. That of a shard is the digit that its container ends with: the index of its range.
 pub fn told(answer: &ContAnswer) -> (&'static str, u64) {
     match answer {
         ContAnswer::New(front) => ("New", *front),
@@ -113,10 +121,21 @@ pub fn told(answer: &ContAnswer) -> (&'static str, u64) {
         ContAnswer::Absent => ("Absent", 0),
         ContAnswer::Stale(time) => ("Stale", time.units()),
         ContAnswer::NotEmpty(count) => ("NotEmpty", *count),
+        ContAnswer::HasRanges => ("HasRanges", 0),
+        ContAnswer::NoRanges => ("NoRanges", 0),
+        ContAnswer::Redirect(shard) => ("Redirect", last_digit(shard)),
+        ContAnswer::StillOpen(range) => ("StillOpen", u64::from(*range)),
+        ContAnswer::Later(rowid) => ("Later", *rowid),
+        ContAnswer::NotAcked(device) => ("NotAcked", u64::from(*device)),
         ContAnswer::JournalFull => ("JournalFull", 0),
         ContAnswer::Failed => ("Failed", 0),
         ContAnswer::NoMemory => ("NoMemory", 0),
     }
+}
+
+/// Whether this is the name of the answer, and the number in it.
+pub fn is_told(answer: &ContAnswer, name: &str, number: u64) -> bool {
+    told(answer) == (name, number)
 }
 
 /// The front after an answer.
@@ -138,7 +157,7 @@ fn each_step_is_answered_by_what_stands(rt: HostRuntime) -> Result<(), Fail> {
         let (answer, after) = make(alloc, tables, &place, &change, front)?;
         assert_eq!(rt; told(&answer), (*name, *number));
         front = front_after(&answer, front);
-        let count = info_of(&after, front).ok().map(|info| info.count);
+        let count = info_of(alloc, &after, front)?.ok().map(|info| info.count);
         assert_eq!(rt; count, *live);
         let greatest = after.as_ref().map_or(0, |tables| tables.rows.top());
         assert_eq!(rt; greatest, *top);
@@ -153,14 +172,14 @@ fn a_container_is_created_and_tells_its_rows(rt: HostRuntime) -> Result<(), Fail
     let place = place(alloc, b"a")?;
     let row = change_of(alloc, &Step::Row("o", 500_000, false))?;
     let (refused, none) = make(alloc, None, &place, &row, 0)?;
-    assert_eq!(rt; refused, ContAnswer::Absent);
+    assert_eq!(rt; told(&refused), ("Absent", 0));
     assert!(rt; times_of(&none).is_none());
     let create = change_of(alloc, &Step::Create(1))?;
     let (created, empty) = make(alloc, none, &place, &create, 0)?;
-    assert_eq!(rt; created, ContAnswer::New(1));
+    assert_eq!(rt; told(&created), ("New", 1));
     let (done, tables) = make(alloc, empty, &place, &row, 1)?;
-    assert_eq!(rt; done, ContAnswer::Done(2));
-    let told = info_of(&tables, 2)
+    assert_eq!(rt; told(&done), ("Done", 2));
+    let told = info_of(alloc, &tables, 2)?
         .ok()
         .map(|info| (info.count, info.bytes, info.hash, info.front));
     assert_eq!(rt; told, Some((1, 3, HASH_OF_O, 2)));

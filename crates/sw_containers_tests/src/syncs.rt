@@ -8,6 +8,7 @@ use sw_container_steps::ContAnswer;
 use sw_hashpath::Place;
 use sw_keeper::{Keeper, MemKeeper};
 use sw_outside::NoMemory;
+use sw_sync::Points;
 
 /// A step at a container.
 enum Step {
@@ -72,6 +73,18 @@ const RUNS: [(&[(u64, bool)], &str, u64, Told, Told, Told); 5] = [
     ),
 ];
 
+/// Numbers that are raised one after the other: the range, the device and the number. Then whether it rose, and the greatest numbers of the ranges 0 and 1.
+const RAISES: [(u32, u8, u64, bool, u64, u64); 8] = [
+    (0, 0, 0, true, 0, 0),
+    (0, 0, 0, false, 0, 0),
+    (0, 255, 7, true, 7, 0),
+    (0, 1, 5, true, 7, 0),
+    (1, 0, 9, true, 7, 9),
+    (0, 0, 6, true, 7, 9),
+    (0, 255, 6, false, 7, 9),
+    (0, 0, 8, true, 8, 9),
+];
+
 fn make<K: Keeper + Drop>(
     alloc: Global,
     containers: &mut ContDir<K>,
@@ -124,12 +137,12 @@ fn rows_above_a_sync_point_are_sent(rt: HostRuntime) -> Result<(), Fail> {
     let mut containers = ContDir::start(alloc, keeper(alloc, &[])?, 10);
     assert!(rt; containers.sync_rows(alloc, &place, 1).is_err());
     assert_eq!(rt;
-        containers.create(alloc, &place, time(1)),
-        ContAnswer::New(1)
+        told(&containers.create(alloc, &place, time(1))),
+        ("New", 1)
     );
     for (step, front, names, top) in &STEPS {
         let answer = make(alloc, &mut containers, &place, step)?;
-        assert_eq!(rt; answer, ContAnswer::Done(*front));
+        assert_eq!(rt; told(&answer), ("Done", *front));
         assert!(rt; sends(alloc, &mut containers, &place, names, *top));
     }
     Ok(())
@@ -147,6 +160,19 @@ fn a_sync_point_whose_commit_failed_is_looked_for(rt: HostRuntime) -> Result<(),
         assert_eq!(rt; told_of(alloc, &mut containers, &place), *second);
         let mut anew = ContDir::start(alloc, containers.into_keeper(), 10);
         assert_eq!(rt; told_of(alloc, &mut anew, &place), *again);
+    }
+    Ok(())
+}
+
+#[test]
+fn the_greatest_point_of_a_range_is_found(rt: HostRuntime) -> Result<(), Fail> {
+    let mut points = Points::new(rt.alloc());
+    for (range, device, rowid, rises, first, second) in RAISES {
+        let rose = points.raise(range, device, rowid)?;
+        assert_eq!(rt;
+            (rose, points.greatest(0), points.greatest(1)),
+            (rises, first, second)
+        );
     }
     Ok(())
 }

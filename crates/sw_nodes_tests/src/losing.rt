@@ -42,7 +42,6 @@ struct Asked {
     time: Timestamp,
     name: Name,
     place: Place,
-    change: ContChange,
     query: Query,
 }
 
@@ -56,7 +55,6 @@ impl Asked {
             time,
             name,
             place,
-            change: ContChange::Create { time },
             query: everything(alloc),
         })
     }
@@ -102,9 +100,11 @@ fn is_heard(
             door.change(alloc, link, 1, &asked.name, change).is_ok()
         }
         Step::Get => door.get(alloc, link, 1, &asked.name).is_ok(),
-        Step::ChangeContainer => door
-            .change_container(alloc, link, 1, &asked.place, &asked.change)
-            .is_ok(),
+        Step::ChangeContainer => {
+            let change = ContChange::Create { time: asked.time };
+            door.change_container(alloc, link, 1, &asked.place, &change)
+                .is_ok()
+        }
         Step::Times => door.times(alloc, link, 1, &asked.place).is_ok(),
         Step::Info => door.info(alloc, link, 1, &asked.place).is_ok(),
         Step::List => door
@@ -267,12 +267,13 @@ fn what_is_heard_acknowledges_a_write(rt: HostRuntime) -> Result<(), Fail> {
 /// What is heard of three messages, and how many steps come to the door inside.
 fn heard_of_three(alloc: Global, acts: Acts, has_write: bool, asked: &Asked) -> (Heard, u64) {
     let mut door = Lossy::new(Refusing::new(has_write), acts);
+    let change = ContChange::Create { time: asked.time };
     let heard = send_between(
         alloc,
         &mut door,
         1,
         &asked.place,
-        &asked.change,
+        &change,
         &asked.name,
         write_at(asked.time),
     );

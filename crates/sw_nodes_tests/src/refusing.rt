@@ -2,7 +2,7 @@ ghost use Rattle.std.specs.Prelude.{◌≡◌};
 ghost use Rattle.sw_nodes_tests.specs.Silent.{answer_to, silent};
 
 use std::alloc::Global;
-use sw_container_steps::{ContAnswer, ContChange, Info, Parcel};
+use sw_container_steps::{ContAnswer, ContChange, Info, Parcel, Sharding};
 use sw_hashpath::{Name, Place};
 use sw_listing::{Entries, Query};
 use sw_object_steps::{Answer, Change, Got};
@@ -133,6 +133,30 @@ impl ContainerDoor for Refusing {
         _device: u8,
         _place: &Place,
         _to: u8,
+    ) -> Result<Result<Parcel, ContAnswer>, Lost> {
+        self.steps = self.steps.saturating_add(1);
+        Ok(Err(ContAnswer::NoMemory))
+    }
+
+    fn sharding(
+        &mut self,
+        _alloc: Global,
+        _link: Link,
+        _device: u8,
+        _place: &Place,
+    ) -> Result<Result<Sharding, ContAnswer>, Lost> {
+        self.steps = self.steps.saturating_add(1);
+        Ok(Err(ContAnswer::NoMemory))
+    }
+
+    fn rows_above(
+        &mut self,
+        _alloc: Global,
+        _link: Link,
+        _device: u8,
+        _place: &Place,
+        _range: u32,
+        _above: u64,
     ) -> Result<Result<Parcel, ContAnswer>, Lost> {
         self.steps = self.steps.saturating_add(1);
         Ok(Err(ContAnswer::NoMemory))

@@ -8,7 +8,7 @@ use sw_container_server::{
     ContAsked, info_reply, is_for_containers, listing_reply, made_status, read_container_request,
     reply_to,
 };
-use sw_container_steps::{ContAnswer, ContChange, Info};
+use sw_container_steps::{ContAnswer, ContChange, Info, SplitState};
 use sw_listing::{Entries, Entry};
 use sw_message::{Response, write_response};
 use sw_outside::MemSink;
@@ -79,7 +79,7 @@ fn each_answer_has_its_reply(rt: HostRuntime) -> Result<(), Fail> {
         ),
     ];
     for (made, answer, text) in table {
-        assert_text(&rt, alloc, &reply_to(alloc, made, answer)?, text)?;
+        assert_text(&rt, alloc, &reply_to(alloc, made, &answer)?, text)?;
     }
     Ok(())
 }
@@ -91,6 +91,7 @@ fn info() -> Result<Info, Fail> {
         count: 3,
         bytes: 7,
         hash: 0xab,
+        split: SplitState::Unsharded,
         front: 9,
     })
 }
