@@ -7,8 +7,6 @@
 //!
 //! What is promised: each of them is exactly the definition of `specs/`, and memory is wanted only where something is made; [`laws`] say that each
 //! name is in exactly one of the ranges, the one that is found, that the bounds rise, and that shards of one container have names of their own.
-//!
-//! Nothing in the program uses this yet: the next layer, which has a container's ranges beside its rows, isn't there.
 #![tactic(auto)]
 
 mod finding;
