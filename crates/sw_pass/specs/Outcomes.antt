@@ -1,5 +1,5 @@
 -- What a pass came to, and what each event counts for. (This project's own.)
-use Rattle.std.specs.Prelude.{◌≡◌, ◌==◌, ◌&&◌, ℕ, Bool, true, false, Option, None, Some}
+use Rattle.std.specs.Prelude.{◌≡◌, ◌==◌, ◌&&◌, ℕ, Bool, true, false, if◌then◌else◌, Option, None, Some}
 use Rattle.sw_outside.specs.Counts.{raised}
 use Rattle.sw_container_steps.specs.Rules.{cont_ending}
 use Rattle.sw_container_steps.specs.declared.cont_answer.ContAnswer.{ContAnswer}
@@ -94,6 +94,10 @@ keeping o hindrance = record o { kept = first_kept o.kept hindrance }
 
 abbrev pub hindered : Outcome → Hindrance → Outcome
 hindered o hindrance = record o { kept = first_kept o.kept hindrance; left = raised o.left }
+
+-- what something was missed for is left
+abbrev pub leaving : Bool → Outcome → Outcome
+leaving missed o = if missed then record o { left = raised o.left } else o
 
 -- done exactly where nothing is left
 abbrev pub finished : Outcome → Outcome

@@ -8,9 +8,11 @@
 #![tactic(auto)]
 
 mod hindrance;
+mod missing;
 mod outcome;
 mod replicas;
 
 pub use hindrance::{Hindrance, is_acknowledged};
+pub use missing::miss;
 pub use outcome::Outcome;
-pub use replicas::{devices_of, replicas_of};
+pub use replicas::{devices_of, is_place, replicas_of};

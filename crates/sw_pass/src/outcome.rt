@@ -1,5 +1,6 @@
 ghost use Rattle.std.specs.Prelude.{◌≡◌};
-ghost use Rattle.sw_pass.specs.Outcomes.{asking, ended, finished, finished_where, hindered, keeping, losing, nothing_yet, putting_off, sending, unanswered};
+ghost use Rattle.sw_pass.specs.Outcomes.{asking, ended, finished, finished_where, hindered, keeping, leaving, losing, nothing_yet, putting_off, sending};
+ghost use Rattle.sw_pass.specs.Outcomes.{unanswered};
 
 use crate::hindrance::Hindrance;
 
@@ -89,6 +90,15 @@ impl Outcome {
     {
         self.keep(hindrance);
         self.left = self.left.saturating_add(1);
+    }
+
+    /// What it was for is left where something was missed for it.
+    pub fn leave_where(&mut self, missed: bool)
+        ensures { self.new ≡ leaving missed self.old }
+    {
+        if missed {
+            self.left = self.left.saturating_add(1);
+        }
     }
 
     /// The outcome of a pass that is done exactly where nothing is left.

@@ -1,9 +1,9 @@
 ghost use Rattle.std.specs.Prelude.{◌≡◌, IfOk};
-ghost use Rattle.sw_pass.specs.Rings.{AreKnown, AreReplicas, replicas_in};
+ghost use Rattle.sw_pass.specs.Rings.{AreKnown, AreReplicas, is_place, replicas_in};
 
 use std::alloc::Global;
 use sw_container_steps::DeviceList;
-use sw_hashpath::{Place, partition};
+use sw_hashpath::{Place, Secrets, hash_path, partition};
 use sw_outside::NoMemory;
 use sw_ring::{Ring, Which};
 
@@ -23,4 +23,19 @@ pub fn replicas_of(alloc: Global, ring: &Ring, place: &Place) -> Result<DeviceLi
     ensures known { IfOk result (λ all. AreKnown ring.now all) }
 {
     Ok(DeviceList::from(Vec::from_slice(alloc, devices_of(ring, place))?))
+}
+
+/// Whether nothing is wrong with a place's names, and its hash is that of its path under these secrets, so that the nodes know it. It takes no memory.
+pub fn is_place(secrets: &Secrets, place: &Place) -> bool
+    ensures { result ≡ is_place secrets.now place.now }
+{
+    match hash_path(
+        secrets,
+        place.account.as_slice(),
+        Some(place.container.as_slice()),
+        None,
+    ) {
+        Ok(hash) => place.hash == hash,
+        Err(_) => false,
+    }
 }
