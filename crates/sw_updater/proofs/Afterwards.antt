@@ -9,7 +9,9 @@ use Rattle.sw_pass.specs.declared.hindrance.Hindrance.{Hindrance}
 use Rattle.sw_pass.specs.declared.outcome.Outcome.{Outcome}
 use Rattle.sw_peer.specs.Sights.{Sight}
 use Rattle.sw_pending.specs.declared.filed.Filed.{Filed}
-use Rattle.sw_updater.specs.Updating.{Course, IsAfterDrop, course}
+use Rattle.sw_redirect.specs.Sending.{Course, course}
+use Rattle.sw_ring.specs.declared.ring.Ring.{Ring}
+use Rattle.sw_updater.specs.Updating.{IsAfterDrop}
 
 pub ended : {A : Type 0} (r : Result A NoMemory) → IsErr r → is_ok r ≡ false
 ended (Ok x) err = cc
@@ -23,17 +25,17 @@ unread fault h t missed o p on same is keeps = (ap (course t) is, subst (λ (x :
 pub unchanged : (c : Course) (o : Outcome) → (c ≡ c) × (o ≡ o) × (true ≡ true)
 unchanged c o = (refl, refl, refl)
 
-module _ (device : ℕ) (filed : Filed) (place : Place) (all : List ℕ) where
+module _ (device : ℕ) (filed : Filed) (ring : Ring) (place : Place) (all : List ℕ) where
   -- it went, or something was missed for it
   pub nothing-more : (went missed : Bool) (c : Course) (o : Outcome) → (went ≡ true) ⊎ (missed ≡ true)
-      → IsAfterDrop device filed place all went missed c o c o true
+      → IsAfterDrop device filed ring place all went missed c o c o true
   nothing-more true missed c o is = (refl, refl, refl)
   nothing-more false true c o is = (refl, refl, refl)
   nothing-more false false c o (inl is) = cc
   nothing-more false false c o (inr is) = cc
 
   pub once-more : (went missed : Bool) (c : Course) (o : Outcome) (d : Course) (p : Outcome) (on : Bool) → went ≡ false → missed ≡ false
-      → IsAfterDrop device filed place all false false c o d p on → IsAfterDrop device filed place all went missed c o d p on
+      → IsAfterDrop device filed ring place all false false c o d p on → IsAfterDrop device filed ring place all went missed c o d p on
   once-more true missed c o d p on is not after = cc
   once-more false true c o d p on is not after = cc
   once-more false false c o d p on is not after = after

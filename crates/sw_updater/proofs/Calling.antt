@@ -2,16 +2,11 @@
 use Rattle.std.proofs.Common.{ℕ, Option, Result}
 use Rattle.std.specs.declared.alloc.Global.{Global}
 use Rattle.std.specs.declared.vec.Vec.{Vec}
-use Rattle.sw_container_steps.specs.declared.cont_answer.ContAnswer.{ContAnswer}
-use Rattle.sw_container_steps.specs.declared.cont_change.ContChange.{ContChange}
 use Rattle.sw_hashpath.specs.declared.name.Name.{Name}
-use Rattle.sw_hashpath.specs.declared.place.Place.{Place}
 use Rattle.sw_object_steps.specs.declared.answer.Answer.{Answer}
 use Rattle.sw_object_steps.specs.declared.change.Change.{Change}
 use Rattle.sw_object_steps.specs.declared.dir_fault.DirFault.{DirFault}
 use Rattle.sw_peer.proofs.Calls.{BaseFrame, StripeFrame, base-step, calls-moves, made-step, records-step}
-use Rattle.sw_peer.proofs.ContCalls.{cont-made-step}
-use Rattle.sw_peer.specs.ContSights.{ContMoves, IsContMade, IsIn}
 use Rattle.sw_peer.specs.Sights.{Calls, IsAt, IsBaseRead, IsMade, IsRecordsRead, Moves, Sight}
 use Rattle.sw_peer.specs.declared.link.Link.{Link}
 use Rattle.sw_peer.specs.declared.link.Lost.{Lost}
@@ -22,11 +17,6 @@ pub made-moves : (link : Link) (device : ℕ) (name : Name) (change : Change) (s
     → Calls (IsMade link device name change) s link r t → Moves (IsAt device name.hash) s t
 made-moves link device name change s r t p =
     calls-moves (Moves (IsAt device name.hash)) (IsMade link device name change) (made-step link device name change) s link r t p
-
-pub cont-moves : (link : Link) (device : ℕ) (place : Place) (change : ContChange) (s : Sight) (r : Result ContAnswer Lost) (t : Sight)
-    → Calls (IsContMade link device place change) s link r t → ContMoves (IsIn device place) s t
-cont-moves link device place change s r t p =
-    calls-moves (ContMoves (IsIn device place)) (IsContMade link device place change) (cont-made-step link device place change) s link r t p
 
 pub base-moves : (link : Link) (device : ℕ) (filed : Filed) (s : Sight) (r : Result (Result (Option Row) DirFault) Lost) (t : Sight)
     → Calls (IsBaseRead link device filed) s link r t → BaseFrame device filed s t

@@ -33,7 +33,7 @@ module _ (ring : Ring) (device : ℕ) where
   updated filed s o t p (inl is) =
       let d = is.2 in
       subst (λ (x : Sight). Passes s o x p) (sym is.7)
-      (subst (λ (x : Outcome). Passes s o d.sight x) (sym is.8) (passes-left s o d is.3 (settled device filed is.0 is.1 s o d is.3 is.6)))
+      (subst (λ (x : Outcome). Passes s o d.sight x) (sym is.8) (passes-left s o d is.3 (settled device filed ring is.0 is.1 s o d is.3 is.6)))
   updated filed s o t p (inr wants) = absurd (apart wants.2)
 
   each-updated : (records : List Filed) (s : Sight) (o : Outcome) (t : Sight) (p : Outcome) → InTurn (IsUpdated ring device) records s o t p true

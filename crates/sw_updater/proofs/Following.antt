@@ -23,8 +23,8 @@ use Rattle.sw_peer.specs.declared.link.Link.{Link}
 use Rattle.sw_peer.specs.declared.link.Link.TheVariants.{Local}
 use Rattle.sw_peer.specs.declared.link.Lost.{Lost}
 use Rattle.sw_pending.specs.declared.filed.Filed.{Filed}
+use Rattle.sw_redirect.proofs.Calling.{made-moves as cont-moves}
 use Rattle.sw_rows.specs.declared.row.Row.{Row}
-use Rattle.sw_updater.proofs.Calling.{cont-moves}
 use Rattle.sw_updater.proofs.Entering.{drop-quiet, mark-quiet}
 use Rattle.sw_updater.proofs.Quiet.{IsClear, IsQuiet, quiet-same, quiet-trans, settled-quiet}
 

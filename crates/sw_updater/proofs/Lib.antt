@@ -13,6 +13,7 @@ mod Naming
 mod Over
 mod Passing
 mod Quiet
+mod SentOn
 mod Standing
 mod Stripes
 mod Taking

@@ -17,7 +17,7 @@ use Rattle.sw_object_steps.specs.Values.{Records}
 use Rattle.sw_object_steps.specs.declared.dir_fault.DirFault.{DirFault}
 use Rattle.sw_object_steps.specs.declared.entry.ObjEntry.{ObjEntry}
 use Rattle.sw_outside.specs.Counts.{raised}
-use Rattle.sw_pass.specs.Outcomes.{Hinders, fault_hindrance, nothing_yet}
+use Rattle.sw_pass.specs.Outcomes.{Hinders, fault_hindrance, leaving, nothing_yet}
 use Rattle.sw_pass.specs.Turns.{InTurn}
 use Rattle.sw_pass.specs.declared.hindrance.Hindrance.{Hindrance}
 use Rattle.sw_pass.specs.declared.outcome.Outcome.{Outcome}
@@ -35,7 +35,6 @@ use Rattle.sw_updater.proofs.Leading.{Leads, leads-on, leads-trans}
 use Rattle.sw_updater.proofs.Passing.{apart}
 use Rattle.sw_updater.proofs.Quiet.{IsClear, IsQuiet}
 use Rattle.sw_updater.proofs.Unmissed.{settled-over}
-use Rattle.sw_updater.specs.Counting.{leaving}
 use Rattle.sw_updater.specs.Laws.{DoneUpdatesEndRecords, HasEnded, HasEndedSince, HaveEnded, any_unmarks, ends}
 use Rattle.sw_updater.specs.Reading.{AreAllRead, AreRead, joined_with}
 use Rattle.sw_updater.specs.Updating.{IsGoneOver, IsUpdated}
@@ -79,7 +78,7 @@ module _ (ring : Ring) (device : ℕ) where
       by : (missed : Bool) → (is.2).missed ≡ missed → (leaving missed is.3).left ≡ 0 → (o.left ≡ 0) × Ends device s t filed
       by true was left = absurd (raised-some (is.3).left left)
       by false was left =
-          let one = λ (l : ℕ). settled-over device filed l is.0 is.1 s o is.2 is.3 is.6 was in
+          let one = λ (l : ℕ). settled-over device filed l ring is.0 is.1 s o is.2 is.3 is.6 was in
           (sym (one 0).left ∙ left, λ l. subst (λ (x : Sight). Leads device filed l (Stood filed) Over s x) (sym is.7) (one l).leads)
   updated filed s o t p (inr wants) none = absurd (apart wants.2)
 

@@ -2,12 +2,11 @@
 use Rattle.std.proofs.Common.{◌≡◌, ◌≤◌, Bool, true, false, ap, subst, sym, refl, arith, ◌∙◌, ◌⊎◌, inl, inr, Option, Some, None}
 use Rattle.sw_outside.specs.Faults.{HasRisen}
 use Rattle.sw_pass.proofs.Counts.{Counts, HasCause, counts-hinders, counts-keeping, counts-same, counts-sending, counts-trans, keeping-causes}
-use Rattle.sw_pass.specs.Outcomes.{Hinders, Keeps, sending, unanswered}
+use Rattle.sw_pass.specs.Outcomes.{Hinders, Keeps, leaving, sending, unanswered}
 use Rattle.sw_pass.specs.declared.hindrance.Hindrance.{Hindrance}
 use Rattle.sw_pass.specs.declared.outcome.Outcome.{Outcome}
 use Rattle.sw_peer.specs.Sights.{Sight}
-use Rattle.sw_updater.specs.Counting.{leaving}
-use Rattle.sw_updater.specs.Updating.{Course, course}
+use Rattle.sw_redirect.specs.Sending.{Course, course}
 
 pub apart : true ≡ false → ⊥
 apart same = cc
@@ -45,6 +44,11 @@ passes-hindered h s o p on is = record { faults = omega arith; counts = counts-h
 pub record Goes (c : Course) (o : Outcome) (d : Course) (p : Outcome) : Type 0 where
   pub passes : Passes c.sight o d.sight p
   pub missed : d.missed ≡ true → (c.missed ≡ true) ⊎ HasCause p
+
+-- where nothing was missed before
+missed-cause : (q : Outcome) → (false ≡ true) ⊎ HasCause q → HasCause q
+missed-cause q (inl same) = absurd (apart (sym same))
+missed-cause q (inr cause) = cause
 
 pub goes-trans : (a : Course) (o : Outcome) (b : Course) (p : Outcome) (c : Course) (q : Outcome) → Goes a o b p → Goes b p c q → Goes a o c q
 goes-trans a o b p c q one two = record {
@@ -99,6 +103,20 @@ goes-unanswered c t o d p up risen is same =
       missed = λ was. inr (inl (omega arith));
     }))
 
+-- ---- aside, as at the replicas of a shard
+
+-- what was missed there isn't missed for the record
+pub goes-aside : (c : Course) (o : Outcome) (e : Course) (p : Outcome) → Goes (course c.sight false) o e p → Goes c o (course e.sight c.missed) p
+goes-aside c o e p goes = record { passes = goes.passes; missed = λ was. inl was }
+
+-- or it is
+pub goes-behind : (c : Course) (o : Outcome) (e : Course) (q : Outcome) (d : Course) (p : Outcome) → Goes (course c.sight false) o e q → e.missed ≡ true
+    → d ≡ course e.sight true → p ≡ q → Goes c o d p
+goes-behind c o e q d p goes lacks is same =
+    subst (λ (x : Course). Goes c o x p) (sym is)
+    (subst (λ (x : Outcome). Goes c o (course e.sight true) x) (sym same)
+    (record { passes = goes.passes; missed = λ was. inr (missed-cause q (goes.missed lacks)) }))
+
 -- ---- the end of a record
 
 pub passes-left : (s : Sight) (o : Outcome) (d : Course) (q : Outcome) → Goes (course s false) o d q → Passes s o d.sight (leaving d.missed q)
@@ -107,14 +125,10 @@ passes-left s o d q goes = by d.missed goes.missed
     passes : Passes s o d.sight q
     passes = goes.passes
 
-    caused : (false ≡ true) ⊎ HasCause q → HasCause q
-    caused (inl same) = absurd (apart (sym same))
-    caused (inr cause) = cause
-
     by : (missed : Bool) → (missed ≡ true → (false ≡ true) ⊎ HasCause q) → Passes s o d.sight (leaving missed q)
     by false why = passes
     by true why = record {
       faults = passes.faults;
-      counts = record { lost = passes.counts.lost; left = inr (caused (why refl)); lasts = λ cause. passes.counts.lasts cause };
+      counts = record { lost = passes.counts.lost; left = inr (missed-cause q (why refl)); lasts = λ cause. passes.counts.lasts cause };
       asked = passes.asked;
     }

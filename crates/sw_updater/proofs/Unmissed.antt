@@ -21,15 +21,21 @@ use Rattle.sw_pending.specs.Records.{key_of}
 use Rattle.sw_pending.specs.Rules.{is_done}
 use Rattle.sw_pending.specs.declared.filed.Filed.{Filed}
 use Rattle.sw_pending.specs.declared.key.RecordKey.{RecordKey}
+use Rattle.sw_redirect.specs.Hearing.{heard_of}
+use Rattle.sw_redirect.specs.Sending.{Course, course}
+use Rattle.sw_redirect.specs.declared.heard.Heard.{Heard}
+use Rattle.sw_redirect.specs.declared.heard.Heard.TheVariants.{Acknowledged, Redirected, Refused}
+use Rattle.sw_ring.specs.declared.ring.Ring.{Ring}
 use Rattle.sw_rows.specs.declared.row.Row.{Row}
 use Rattle.sw_updater.proofs.Fates.{StandsAt}
 use Rattle.sw_updater.proofs.Following.{base-call-follows, cont-call-follows, follows-refl}
 use Rattle.sw_updater.proofs.Leading.{Leads, base-gone, base-stays, drop-leads, leads-from, leads-on, leads-to, leads-trans, mark-leads}
 use Rattle.sw_updater.proofs.Passing.{apart}
+use Rattle.sw_updater.proofs.SentOn.{SendsOn, sent-on}
 use Rattle.sw_updater.proofs.Standing.{done-all, stands-fewer}
 use Rattle.sw_updater.proofs.Taking.{IsKept}
-use Rattle.sw_updater.specs.Updating.{Course, IsAfterBase, IsAfterDrop, IsDropCounted, IsDropped, IsHeard, IsMarkCounted, IsMarked, IsReadAgain, IsRowTold}
-use Rattle.sw_updater.specs.Updating.{IsSettled, IsTold, course, to_tell}
+use Rattle.sw_updater.specs.Updating.{IsAfterBase, IsAfterDrop, IsDropCounted, IsDropped, IsFollowed, IsHeard, IsHeardAs, IsMarkCounted, IsMarked}
+use Rattle.sw_updater.specs.Updating.{IsMarkedBehind, IsReadAgain, IsRowTold, IsSettled, IsTold, to_tell}
 
 -- where something was missed
 hindered : (c : Course) (t : Sight) → c ≡ course t true → c.missed ≡ false → ⊥
@@ -101,38 +107,59 @@ module _ (device : ℕ) (filed : Filed) (l : ℕ) where
       unmissed-on (Stood P) (Stood (With P to)) c t o d p (mark-leads device filed l P to c.sight went t call) is.0 (ap (λ (x : Outcome). x.left) is.1) none
   counted P to answer t c o d p call is none = absurd (hindered d t is.0 none)
 
-  heard : (P : ℕ → Type 0) (to : ℕ) (answer : ContAnswer) (c : Course) (o : Outcome) (d : Course) (p : Outcome)
-      → IsHeard device filed to (Ok answer) c o d p true → d.missed ≡ false → Unmissed (Stood P) (Stood (With P to)) c o d p
-  heard P to answer c o d p (inl is) none = by is.1
-    where
-      by : IsMarked device filed to c o d p true → Unmissed (Stood P) (Stood (With P to)) c o d p
-      by (inl marked) = counted P to marked.0 marked.1 c o d p marked.2 marked.3 none
-      by (inr wants) = absurd (apart wants.2)
-  heard P to answer c o d p (inr is) none = absurd (hindered d c.sight is.1 none)
+  marked : (P : ℕ → Type 0) (to : ℕ) (c : Course) (o : Outcome) (d : Course) (p : Outcome) → IsMarked device filed to c o d p true → d.missed ≡ false
+      → Unmissed (Stood P) (Stood (With P to)) c o d p
+  marked P to c o d p (inl is) none = counted P to is.0 is.1 c o d p is.2 is.3 none
+  marked P to c o d p (inr wants) none = absurd (apart wants.2)
 
-  told : (P : ℕ → Type 0) (place : Place) (row : Row) (to : ℕ) (c : Course) (o : Outcome) (d : Course) (p : Outcome)
-      → IsTold device filed place row to c o d p true → d.missed ≡ false → Unmissed (Stood P) (Stood (With P to)) c o d p
-  told P place row to c o d p is none = by is.0 is.2 is.3
+  -- sending a row on to a shard changes no record
+  followed : (P : ℕ → Type 0) (ring : Ring) (row : Row) (to : ℕ) (shard : Place) (c : Course) (o : Outcome) (d : Course) (p : Outcome)
+      → IsFollowed device filed ring row to shard c o d p true → d.missed ≡ false → Unmissed (Stood P) (Stood (With P to)) c o d p
+  followed P ring row to shard c o d p (inl is) none = by is.3
+    where
+      e : Sight
+      e = (is.0).sight
+
+      sends : SendsOn (course c.sight false) o is.0 is.1
+      sends = sent-on shard row ring c.sight o is.0 is.1 is.2
+
+      by : IsMarkedBehind device filed to is.0 c.missed is.1 d p true → Unmissed (Stood P) (Stood (With P to)) c o d p
+      by (inl has) =
+          unmissed-trans (Stood P) (Stood P) (Stood (With P to)) c o (course e c.missed) is.1 d p
+          (unmissed-on (Stood P) (Stood P) c e o (course e c.missed) is.1 (leads-on device filed l P c.sight e sends.follows) refl sends.left)
+          (marked P to (course e c.missed) is.1 d p has.1 none)
+      by (inr lacks) = absurd (hindered d e lacks.1 none)
+  followed P ring row to shard c o d p (inr stopped) none = absurd (apart stopped.3)
+
+  heard : (P : ℕ → Type 0) (ring : Ring) (row : Row) (to : ℕ) (h : Heard) (c : Course) (o : Outcome) (d : Course) (p : Outcome)
+      → IsHeardAs device filed ring row to h c o d p true → d.missed ≡ false → Unmissed (Stood P) (Stood (With P to)) c o d p
+  heard P ring row to Acknowledged c o d p is none = marked P to c o d p is none
+  heard P ring row to (Redirected shard) c o d p is none = followed P ring row to shard c o d p is none
+  heard P ring row to (Refused hindrance) c o d p is none = absurd (hindered d c.sight is.0 none)
+
+  told : (P : ℕ → Type 0) (ring : Ring) (place : Place) (row : Row) (to : ℕ) (c : Course) (o : Outcome) (d : Course) (p : Outcome)
+      → IsTold device filed ring place row to c o d p true → d.missed ≡ false → Unmissed (Stood P) (Stood (With P to)) c o d p
+  told P ring place row to c o d p is none = by is.0 is.2 is.3
     where
       mid : Sight
       mid = is.1
 
       by : (answer : Result ContAnswer Lost) → Calls (IsContMade Sent to place (MergeRow row)) c.sight Sent answer mid
-          → IsHeard device filed to answer (course mid c.missed) (sending o) d p true → Unmissed (Stood P) (Stood (With P to)) c o d p
+          → IsHeard device filed ring place row to answer (course mid c.missed) (sending o) d p true → Unmissed (Stood P) (Stood (With P to)) c o d p
       by (Ok answer) call hears =
           unmissed-trans (Stood P) (Stood P) (Stood (With P to)) c o (course mid c.missed) (sending o) d p
           (unmissed-on (Stood P) (Stood P) c mid o (course mid c.missed) (sending o)
           (leads-on device filed l P c.sight mid (cont-call-follows Sent to place (MergeRow row) c.sight (Ok answer) mid call)) refl refl)
-          (heard P to answer (course mid c.missed) (sending o) d p hears none)
+          (heard P ring row to (heard_of place answer) (course mid c.missed) (sending o) d p hears none)
       by (Err lost) call hears = absurd (hindered d mid hears.0 none)
 
   -- all of them, one after the other
   abbrev Among : (ℕ → Type 0) → List ℕ → ℕ → Type 0
   Among P devices d = P d ⊎ (is_done d devices ≡ true)
 
-  all-told : (P : ℕ → Type 0) (place : Place) (row : Row) (devices : List ℕ) (c : Course) (o : Outcome) (d : Course) (p : Outcome)
-      → InTurn (IsTold device filed place row) devices c o d p true → d.missed ≡ false → Unmissed (Stood P) (Stood (Among P devices)) c o d p
-  all-told P place row [] c o d p is none =
+  all-told : (P : ℕ → Type 0) (ring : Ring) (place : Place) (row : Row) (devices : List ℕ) (c : Course) (o : Outcome) (d : Course) (p : Outcome)
+      → InTurn (IsTold device filed ring place row) devices c o d p true → d.missed ≡ false → Unmissed (Stood P) (Stood (Among P devices)) c o d p
+  all-told P ring place row [] c o d p is none =
       unmissed-on (Stood P) (Stood (Among P [])) c c.sight o d p
       (leads-to device filed l (Stood P) (Stood P) (Stood (Among P [])) c.sight c.sight
       (λ g. stands-fewer P (Among P []) key _ none-among) (leads-on device filed l P c.sight c.sight (follows-refl c.sight)))
@@ -141,9 +168,9 @@ module _ (device : ℕ) (filed : Filed) (l : ℕ) where
       none-among : (d : ℕ) → Among P [] d → P d
       none-among d (inl is) = is
       none-among d (inr is) = absurd (apart (sym is))
-  all-told P place row (to ∷ devices) c o d p (inl went) none =
-      let rest = all-told (With P to) place row devices went.0 went.1 d p went.3 none in
-      unmissed-trans (Stood P) (Stood (With P to)) (Stood (Among P (to ∷ devices))) c o went.0 went.1 d p (told P place row to c o went.0 went.1 went.2)
+  all-told P ring place row (to ∷ devices) c o d p (inl went) none =
+      let rest = all-told (With P to) ring place row devices went.0 went.1 d p went.3 none in
+      unmissed-trans (Stood P) (Stood (With P to)) (Stood (Among P (to ∷ devices))) c o went.0 went.1 d p (told P ring place row to c o went.0 went.1 went.2)
       (record {
         before = rest.before;
         left = rest.left;
@@ -157,7 +184,7 @@ module _ (device : ℕ) (filed : Filed) (l : ℕ) where
         | inl first ↦ inl (inr (eqb-true e to first))
         | inr later ↦ inr later
       ]
-  all-told P place row (to ∷ devices) c o d p (inr stopped) none = absurd (apart stopped.1)
+  all-told P ring place row (to ∷ devices) c o d p (inr stopped) none = absurd (apart stopped.1)
 
   -- ---- the end of the record
 
@@ -182,7 +209,7 @@ module _ (device : ℕ) (filed : Filed) (l : ℕ) where
   abbrev pub Done : ℕ → Type 0
   Done d = is_done d filed.done ≡ true
 
-  module _ (place : Place) (all : List ℕ) where
+  module _ (ring : Ring) (place : Place) (all : List ℕ) where
     abbrev Told : ℕ → Type 0
     Told = Among Done (to_tell filed.done all)
 
@@ -192,11 +219,11 @@ module _ (device : ℕ) (filed : Filed) (l : ℕ) where
         let stays = kept.1.stays in
         true≢false (sym (done-all all stays.stood.done (λ d is. stays.done d (all-among filed.done all d is))) ∙ kept.1.lacks)
 
-    row-told : (row : Row) (c : Course) (o : Outcome) (d : Course) (p : Outcome) → IsRowTold device filed place all row c o d p true → d.missed ≡ false
+    row-told : (row : Row) (c : Course) (o : Outcome) (d : Course) (p : Outcome) → IsRowTold device filed ring place all row c o d p true → d.missed ≡ false
         → Unmissed (Stood Done) Over c o d p
     row-told row c o d p (inl is) none =
         let last = dropped-so Told all is.0 is.1 d p is.3.0 is.3.1 none in
-        unmissed-trans (Stood Done) (Stood Told) Over c o is.0 is.1 d p (all-told Done place row (to_tell filed.done all) c o is.0 is.1 is.2)
+        unmissed-trans (Stood Done) (Stood Told) Over c o is.0 is.1 d p (all-told Done ring place row (to_tell filed.done all) c o is.0 is.1 is.2)
         (record {
           before = last.before;
           left = last.left;
@@ -206,7 +233,7 @@ module _ (device : ℕ) (filed : Filed) (l : ℕ) where
 
     -- a read of what stands, after a drop that kept the record
     read-again : (base : Result (Option Row) DirFault) (s : Sight) (mid : Sight) (missed : Bool) (o : Outcome) (d : Course) (p : Outcome)
-        → Calls (IsBaseRead Local device filed) s Local (Ok base) mid → IsReadAgain device filed place all base (course mid missed) o d p true
+        → Calls (IsBaseRead Local device filed) s Local (Ok base) mid → IsReadAgain device filed ring place all base (course mid missed) o d p true
         → d.missed ≡ false → Unmissed (IsKept Done filed all) Over (course s missed) o d p
     read-again (Ok (Some row)) s mid missed o d p call is none =
         unmissed-trans (IsKept Done filed all) (Stood Done) Over (course s missed) o (course mid missed) o d p
@@ -219,7 +246,7 @@ module _ (device : ℕ) (filed : Filed) (l : ℕ) where
     read-again (Err fault) s mid missed o d p call is none = absurd (hindered d mid is.0 none)
 
     after-drop : (dropped missed : Bool) (c : Course) (o : Outcome) (d : Course) (p : Outcome)
-        → IsAfterDrop device filed place all dropped missed c o d p true → missed ≡ c.missed → d.missed ≡ false
+        → IsAfterDrop device filed ring place all dropped missed c o d p true → missed ≡ c.missed → d.missed ≡ false
         → Unmissed (Kept Done all dropped) Over c o d p
     after-drop true missed c o d p is same none =
         unmissed-on (Kept Done all true) Over c c.sight o d p
@@ -234,7 +261,7 @@ module _ (device : ℕ) (filed : Filed) (l : ℕ) where
         }
 
     after-base : (base : Result (Option Row) DirFault) (c : Course) (o : Outcome) (d : Course) (p : Outcome)
-        → IsAfterBase device filed place all base c o d p true → d.missed ≡ false → Unmissed (Stood Done) Over c o d p
+        → IsAfterBase device filed ring place all base c o d p true → d.missed ≡ false → Unmissed (Stood Done) Over c o d p
     after-base (Ok (Some row)) c o d p is none = row-told row c o d p is none
     after-base (Ok None) c o d p (inl is) none =
         unmissed-trans (Stood Done) (Kept Done all is.2) Over c o is.0 is.1 d p (dropped-so Done all c o is.0 is.1 is.2 is.3)
@@ -243,7 +270,7 @@ module _ (device : ℕ) (filed : Filed) (l : ℕ) where
     after-base (Err fault) c o d p is none = absurd (hindered d c.sight is.0 none)
 
     -- the record that stood is over
-    pub settled-over : (s : Sight) (o : Outcome) (d : Course) (p : Outcome) → IsSettled device filed place all s o d p true → d.missed ≡ false
+    pub settled-over : (s : Sight) (o : Outcome) (d : Course) (p : Outcome) → IsSettled device filed ring place all s o d p true → d.missed ≡ false
         → Unmissed (Stood Done) Over (course s false) o d p
     settled-over s o d p is none =
         unmissed-trans (Stood Done) (Stood Done) Over (course s false) o (course is.1 false) o d p

@@ -1,5 +1,4 @@
 pub mod Causes
-pub mod Counting
 pub mod Laws
 pub mod Reading
 pub mod Tasks

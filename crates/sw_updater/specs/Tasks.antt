@@ -1,5 +1,5 @@
 -- What is done for one record: what it needs of the nodes, and what its parts tell. (This project's own.)
-use Rattle.std.specs.Prelude.{◌≡◌, ◌<◌, ℕ, Bool, true, false, List, length, Result, Ok, Err}
+use Rattle.std.specs.Prelude.{◌≡◌, ◌<◌, Bool, true, false, List, Result, Ok, Err}
 use Rattle.std.specs.List.{All}
 use Rattle.std.specs.declared.alloc.Global.{Global}
 use Rattle.std.specs.declared.vec.Vec.{Vec}
@@ -7,7 +7,6 @@ use Rattle.sw_object_steps.specs.declared.dir_fault.DirFault.{DirFault}
 use Rattle.sw_outside.specs.declared.errors.NoMemory.{NoMemory}
 use Rattle.sw_peer.specs.Sights.{Nodes}
 use Rattle.sw_pending.specs.declared.filed.Filed.{Filed}
-use Rattle.sw_ring.specs.declared.ring.Ring.{Ring}
 use Rattle.sw_updater.specs.declared.task.Task.{Task}
 
 -- its device and those of the container are nodes, and the hashes of its names are those that the nodes know them by

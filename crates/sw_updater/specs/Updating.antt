@@ -10,8 +10,8 @@ use Rattle.sw_object_steps.specs.declared.answer.Answer.TheVariants as answers
 use Rattle.sw_object_steps.specs.declared.change.Change.TheVariants.{DropRecord, MarkRecord}
 use Rattle.sw_object_steps.specs.declared.dir_fault.DirFault.{DirFault}
 use Rattle.sw_outside.specs.declared.errors.NoMemory.{NoMemory}
-use Rattle.sw_pass.specs.Outcomes.{Hinders, Keeps, answer_hindrance, cont_hindrance, fault_hindrance, finished, is_acknowledged, nothing_yet, sending}
-use Rattle.sw_pass.specs.Outcomes.{unanswered}
+use Rattle.sw_pass.specs.Outcomes.{Hinders, Keeps, answer_hindrance, fault_hindrance, finished, leaving, nothing_yet, sending, unanswered}
+use Rattle.sw_pass.specs.Rings.{AreReplicas}
 use Rattle.sw_pass.specs.Turns.{InTurn}
 use Rattle.sw_pass.specs.declared.outcome.Outcome.{Outcome}
 use Rattle.sw_peer.specs.ContSights.{IsContMade}
@@ -20,19 +20,13 @@ use Rattle.sw_peer.specs.declared.link.Link.TheVariants.{Local, Sent}
 use Rattle.sw_peer.specs.declared.link.Lost.{Lost}
 use Rattle.sw_pending.specs.Rules.{is_done}
 use Rattle.sw_pending.specs.declared.filed.Filed.{Filed}
+use Rattle.sw_redirect.specs.Hearing.{heard_of}
+use Rattle.sw_redirect.specs.Sending.{Course, IsSentOn, course}
+use Rattle.sw_redirect.specs.declared.heard.Heard.{Heard}
+use Rattle.sw_redirect.specs.declared.heard.Heard.TheVariants.{Acknowledged, Redirected, Refused}
 use Rattle.sw_ring.specs.declared.ring.Ring.{Ring}
 use Rattle.sw_rows.specs.declared.row.Row.{Row}
-use Rattle.sw_updater.specs.Counting.{leaving}
-use Rattle.sw_pass.specs.Rings.{AreReplicas}
 use Rattle.sw_updater.specs.Reading.{AreAllRead, IsOrderOf}
-
--- what is known of the nodes, and whether anything was missed for the record so far
-pub record Course : Type 0 where
-  pub sight : Sight
-  pub missed : Bool
-
-abbrev pub course : Sight → Bool → Course
-course s missed = record { sight = s; missed = missed }
 
 -- memory ran out before a call: nothing was made and nothing counted
 abbrev pub Wants : Course → Outcome → Course → Outcome → Bool → Type 0
@@ -56,18 +50,32 @@ module _ (device : ℕ) (filed : Filed) where
       × IsMarkCounted answer t c.missed o d p on)
       ⊎ Wants c o d p on
 
-  -- only where the device acknowledged the row it is marked
-  abbrev pub IsHeard : ℕ → Result ContAnswer Lost → Course → Outcome → Course → Outcome → Bool → Type 0
-  IsHeard to (Ok answer) c o d p on =
-      ((is_acknowledged answer ≡ true) × IsMarked to c o d p on)
-      ⊎ ((is_acknowledged answer ≡ false) × (d ≡ course c.sight true) × Keeps (cont_hindrance answer) o p on)
-  IsHeard to (Err lost) c o d p on = (d ≡ course c.sight true) × (p ≡ unanswered o) × (on ≡ true)
+  -- where it left the name of the row to a shard, that is marked only once each replica of the shard acknowledged the row
+  abbrev pub IsMarkedBehind : ℕ → Course → Bool → Outcome → Course → Outcome → Bool → Type 0
+  IsMarkedBehind to e missed o d p on =
+      ((e.missed ≡ false) × IsMarked to (course e.sight missed) o d p on)
+      ⊎ ((e.missed ≡ true) × (d ≡ course e.sight true) × (p ≡ o) × (on ≡ true))
+
+  abbrev pub IsFollowed : Ring → Row → ℕ → Place → Course → Outcome → Course → Outcome → Bool → Type 0
+  IsFollowed ring row to shard c o d p on =
+      ((e : Course) × (between : Outcome) × IsSentOn ring shard row c.sight o e between true × IsMarkedBehind to e c.missed between d p on)
+      ⊎ ((e : Course) × IsSentOn ring shard row c.sight o e p false × (d ≡ course e.sight c.missed) × (on ≡ false))
+
+  -- only a device that acknowledged the row, or left it to a shard, is marked
+  abbrev pub IsHeardAs : Ring → Row → ℕ → Heard → Course → Outcome → Course → Outcome → Bool → Type 0
+  IsHeardAs ring row to Acknowledged c o d p on = IsMarked to c o d p on
+  IsHeardAs ring row to (Redirected shard) c o d p on = IsFollowed ring row to shard c o d p on
+  IsHeardAs ring row to (Refused hindrance) c o d p on = (d ≡ course c.sight true) × Keeps hindrance o p on
+
+  abbrev pub IsHeard : Ring → Place → Row → ℕ → Result ContAnswer Lost → Course → Outcome → Course → Outcome → Bool → Type 0
+  IsHeard ring place row to (Ok answer) c o d p on = IsHeardAs ring row to (heard_of place answer) c o d p on
+  IsHeard ring place row to (Err lost) c o d p on = (d ≡ course c.sight true) × (p ≡ unanswered o) × (on ≡ true)
 
   -- the row is sent to it
-  abbrev pub IsTold : Place → Row → ℕ → Course → Outcome → Course → Outcome → Bool → Type 0
-  IsTold place row to c o d p on =
+  abbrev pub IsTold : Ring → Place → Row → ℕ → Course → Outcome → Course → Outcome → Bool → Type 0
+  IsTold ring place row to c o d p on =
       (answer : Result ContAnswer Lost) × (mid : Sight) × Calls (IsContMade Sent to place (MergeRow row)) c.sight Sent answer mid
-      × IsHeard to answer (course mid c.missed) (sending o) d p on
+      × IsHeard ring place row to answer (course mid c.missed) (sending o) d p on
 
   -- ---- the end of a record
 
@@ -82,13 +90,13 @@ module _ (device : ℕ) (filed : Filed) where
       × IsDropCounted answer t c.missed o d p dropped on)
       ⊎ (Wants c o d p on × (dropped ≡ false))
 
-  module _ (place : Place) (all : List ℕ) where
+  module _ (ring : Ring) (place : Place) (all : List ℕ) where
     -- a row that was read is told to all devices that lack it, and then the record is dropped where it can be
     abbrev pub IsRowTold : Row → Course → Outcome → Course → Outcome → Bool → Type 0
     IsRowTold row c o d p on =
-        ((mid : Course) × (between : Outcome) × InTurn (IsTold place row) (to_tell filed.done all) c o mid between true
+        ((mid : Course) × (between : Outcome) × InTurn (IsTold ring place row) (to_tell filed.done all) c o mid between true
         × ((dropped : Bool) × IsDropped all mid between d p dropped on))
-        ⊎ (InTurn (IsTold place row) (to_tell filed.done all) c o d p false × (on ≡ false))
+        ⊎ (InTurn (IsTold ring place row) (to_tell filed.done all) c o d p false × (on ≡ false))
 
     -- What stands is read once more where nothing stood and yet the record wasn't dropped: it is gone, or an object came in between
     abbrev pub IsReadAgain : Result (Option Row) DirFault → Course → Outcome → Course → Outcome → Bool → Type 0
@@ -122,7 +130,7 @@ module _ (device : ℕ) (filed : Filed) where
 abbrev pub IsUpdated : Ring → ℕ → Filed → Sight → Outcome → Sight → Outcome → Bool → Type 0
 IsUpdated ring device filed s o t p on =
     ((place : Place) × (all : List ℕ) × (d : Course) × (q : Outcome) × IsPlaceOf ring.secrets filed.name place × AreReplicas ring place all
-    × IsSettled device filed place all s o d q on × (t ≡ d.sight) × (p ≡ leaving d.missed q))
+    × IsSettled device filed ring place all s o d q on × (t ≡ d.sight) × (p ≡ leaving d.missed q))
     ⊎ ((t ≡ s) × (p ≡ o) × (on ≡ false))
 
 -- ---- the whole pass

@@ -1,39 +1,43 @@
 ghost use Rattle.std.specs.Prelude.{◌≡◌, ℕ, false, None, Ok};
 ghost use Rattle.std.specs.Result.{is_ok};
+ghost use Rattle.sw_pass.specs.Rings.{IsRingOf};
 ghost use Rattle.sw_peer.specs.Sights.{Sight};
 ghost use Rattle.sw_pending.specs.declared.filed.Filed.{Filed};
+ghost use Rattle.sw_redirect.specs.Sending.{course};
 ghost use Rattle.sw_updater.specs.Tasks.{IsFor, has_gone};
-ghost use Rattle.sw_updater.specs.Updating.{IsAfterBase, IsAfterDrop, IsDropCounted, IsDropped, IsRowTold, IsSettled, course};
+ghost use Rattle.sw_updater.specs.Updating.{IsAfterBase, IsAfterDrop, IsDropCounted, IsDropped, IsRowTold, IsSettled};
 
-use crate::counting::miss;
 use crate::task::Task;
 use crate::telling::tell_all;
 use std::alloc::Global;
 use sw_object_steps::{Answer, Change};
 use sw_outside::NoMemory;
-use sw_pass::{Hindrance, Outcome};
+use sw_pass::{Hindrance, Outcome, miss};
 use sw_peer::{ContainerDoor, Link, PendingDoor};
+use sw_ring::Ring;
 use sw_rows::Row;
 
 /// Does for a record what has to be done: tells the row of what stands under its name, and drops it where it can be.
 pub(crate) fn settle<D: PendingDoor + ContainerDoor>(
     alloc: Global,
     door: &mut D,
+    ring: &Ring,
     task: &Task,
     missed: &mut bool,
     outcome: &mut Outcome,
 ) -> Result<(), NoMemory>
+    requires ring { IsRingOf ring.now (D.sight door.old).nodes }
     requires can { IsFor (D.sight door.old).nodes task.now }
     requires fresh { missed.old ≡ false }
-    ensures settles { IsSettled task.now.device task.now.filed task.now.place task.now.all (D.sight door.old) outcome.old
+    ensures settles { IsSettled task.now.device task.now.filed ring.now task.now.place task.now.all (D.sight door.old) outcome.old
         (course (D.sight door.new) missed.new) outcome.new (is_ok result) }
     ensures nodes { (D.sight door.new).nodes ≡ (D.sight door.old).nodes }
     ensures asks { (D.sight door.new).asks ≡ (D.sight door.old).asks }
 {
     let base = door.base_for(alloc, Link::Local, task.device, &task.filed);
     match base.unwrap() {
-        Ok(Some(row)) => tell_row(alloc, door, task, row, missed, outcome),
-        Ok(None) => drop_unneeded(alloc, door, task, missed, outcome),
+        Ok(Some(row)) => tell_row(alloc, door, ring, task, row, missed, outcome),
+        Ok(None) => drop_unneeded(alloc, door, ring, task, missed, outcome),
         Err(fault) => miss(Hindrance::of_fault(&fault), missed, outcome),
     }
 }
@@ -42,12 +46,14 @@ pub(crate) fn settle<D: PendingDoor + ContainerDoor>(
 fn drop_unneeded<D: PendingDoor + ContainerDoor>(
     alloc: Global,
     door: &mut D,
+    ring: &Ring,
     task: &Task,
     missed: &mut bool,
     outcome: &mut Outcome,
 ) -> Result<(), NoMemory>
+    requires ring { IsRingOf ring.now (D.sight door.old).nodes }
     requires can { IsFor (D.sight door.old).nodes task.now }
-    ensures drops { IsAfterBase task.now.device task.now.filed task.now.place task.now.all (Ok None) (course (D.sight door.old) missed.old) outcome.old
+    ensures drops { IsAfterBase task.now.device task.now.filed ring.now task.now.place task.now.all (Ok None) (course (D.sight door.old) missed.old) outcome.old
         (course (D.sight door.new) missed.new) outcome.new (is_ok result) }
     ensures nodes { (D.sight door.new).nodes ≡ (D.sight door.old).nodes }
     ensures asks { (D.sight door.new).asks ≡ (D.sight door.old).asks }
@@ -56,26 +62,28 @@ fn drop_unneeded<D: PendingDoor + ContainerDoor>(
     if went || *missed {
         return Ok(());
     }
-    read_again(alloc, door, task, missed, outcome)
+    read_again(alloc, door, ring, task, missed, outcome)
 }
 
 /// Reads once more what stands under the name of a record, and goes on with that.
 fn read_again<D: PendingDoor + ContainerDoor>(
     alloc: Global,
     door: &mut D,
+    ring: &Ring,
     task: &Task,
     missed: &mut bool,
     outcome: &mut Outcome,
 ) -> Result<(), NoMemory>
+    requires ring { IsRingOf ring.now (D.sight door.old).nodes }
     requires can { IsFor (D.sight door.old).nodes task.now }
-    ensures reads { IsAfterDrop task.now.device task.now.filed task.now.place task.now.all false false (course (D.sight door.old) missed.old) outcome.old
-        (course (D.sight door.new) missed.new) outcome.new (is_ok result) }
+    ensures reads { IsAfterDrop task.now.device task.now.filed ring.now task.now.place task.now.all false false (course (D.sight door.old) missed.old)
+        outcome.old (course (D.sight door.new) missed.new) outcome.new (is_ok result) }
     ensures nodes { (D.sight door.new).nodes ≡ (D.sight door.old).nodes }
     ensures asks { (D.sight door.new).asks ≡ (D.sight door.old).asks }
 {
     let base = door.base_for(alloc, Link::Local, task.device, &task.filed);
     match base.unwrap() {
-        Ok(Some(row)) => tell_row(alloc, door, task, row, missed, outcome),
+        Ok(Some(row)) => tell_row(alloc, door, ring, task, row, missed, outcome),
         Ok(None) => Ok(()),
         Err(fault) => miss(Hindrance::of_fault(&fault), missed, outcome),
     }
@@ -85,18 +93,20 @@ fn read_again<D: PendingDoor + ContainerDoor>(
 fn tell_row<D: PendingDoor + ContainerDoor>(
     alloc: Global,
     door: &mut D,
+    ring: &Ring,
     task: &Task,
     row: Row,
     missed: &mut bool,
     outcome: &mut Outcome,
 ) -> Result<(), NoMemory>
+    requires ring { IsRingOf ring.now (D.sight door.old).nodes }
     requires can { IsFor (D.sight door.old).nodes task.now }
-    ensures tells { IsRowTold task.now.device task.now.filed task.now.place task.now.all row (course (D.sight door.old) missed.old) outcome.old
+    ensures tells { IsRowTold task.now.device task.now.filed ring.now task.now.place task.now.all row (course (D.sight door.old) missed.old) outcome.old
         (course (D.sight door.new) missed.new) outcome.new (is_ok result) }
     ensures nodes { (D.sight door.new).nodes ≡ (D.sight door.old).nodes }
     ensures asks { (D.sight door.new).asks ≡ (D.sight door.old).asks }
 {
-    tell_all(alloc, door, task, row, missed, outcome)?;
+    tell_all(alloc, door, ring, task, row, missed, outcome)?;
     drop_record(alloc, door, task, missed, outcome)?;
     Ok(())
 }

@@ -3,16 +3,16 @@ ghost use Rattle.std.specs.List.{All};
 ghost use Rattle.std.specs.Result.{is_ok};
 ghost use Rattle.sw_object_steps.specs.declared.dir_fault.DirFault.{DirFault as ReadFault};
 ghost use Rattle.sw_pass.specs.Outcomes.{nothing_yet};
+ghost use Rattle.sw_pass.specs.Rings.{IsRingOf};
 ghost use Rattle.sw_pass.specs.Turns.{InTurn};
 ghost use Rattle.sw_peer.specs.Sights.{Sight};
 ghost use Rattle.sw_pending.specs.Outcomes.{IsRecord};
 ghost use Rattle.sw_pending.specs.declared.filed.Filed.{Filed as FiledRecord};
 ghost use Rattle.sw_updater.specs.Causes.{HasCauses};
-ghost use Rattle.sw_pass.specs.Rings.{IsRingOf};
 ghost use Rattle.sw_updater.specs.Reading.{AreAllRead, ArePending};
 ghost use Rattle.sw_updater.specs.Updating.{IsGoneOver, IsUpdate, IsUpdated};
 
-use crate::counting::{hinder, leave};
+use crate::counting::hinder;
 use crate::ordering::in_order;
 use crate::reading::read_stripes;
 use crate::settling::settle;
@@ -130,7 +130,7 @@ fn update_record<D: PendingDoor + ContainerDoor>(
 {
     let task = Task::new(alloc, ring, device, filed)?;
     let mut missed = false;
-    let settled = settle(alloc, door, &task, &mut missed, outcome);
-    leave(missed, outcome);
+    let settled = settle(alloc, door, ring, &task, &mut missed, outcome);
+    outcome.leave_where(missed);
     settled
 }

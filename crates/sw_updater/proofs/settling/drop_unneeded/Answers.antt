@@ -1,7 +1,7 @@
 use Rattle.std.proofs.Common.{◌≡◌, ◌⊎◌, inl, inr, true}
 use Rattle.std.specs.Result.{is_ok}
+use Rattle.sw_redirect.specs.Sending.{course}
 use Rattle.sw_updater.proofs.Afterwards.{nothing-more, once-more}
-use Rattle.sw_updater.specs.Updating.{course}
 use Rattle.sw_updater.proofs.settling.drop_unneeded.Goals as goal
 use Rattle.sw_updater.proofs.settling.drop_unneeded.Goals.{then-went-via-then-went, then-went-via-else-went+then-missed}
 
@@ -16,7 +16,7 @@ returns-then-went-clause-drops g c =
       c.drop_record.new.outcome,
       c.in_ok-went.went,
       c.in_ok-went.ensures.drops,
-      nothing-more task.device task.filed task.place task.all c.in_ok-went.went c.drop_record.new.missed d c.drop_record.new.outcome why,
+      nothing-more task.device task.filed c.args.ring.now task.place task.all c.in_ok-went.went c.drop_record.new.missed d c.drop_record.new.outcome why,
     )
 
 pub returns-clause-drops : goal.returns-clause-drops
@@ -29,7 +29,7 @@ returns-clause-drops g c =
       c.drop_record.new.outcome,
       c.in_ok-went.went,
       c.in_ok-went.ensures.drops,
-      once-more task.device task.filed task.place task.all c.in_ok-went.went c.drop_record.new.missed d c.drop_record.new.outcome
+      once-more task.device task.filed c.args.ring.now task.place task.all c.in_ok-went.went c.drop_record.new.missed d c.drop_record.new.outcome
           (course (s c.read_again.new.door) c.read_again.new.missed) c.read_again.new.outcome (is_ok c.read_again.result) c.if-went.false c.if-missed.false
           c.read_again.ensures.reads,
     )

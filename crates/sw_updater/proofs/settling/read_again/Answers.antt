@@ -3,8 +3,8 @@ use Rattle.std.specs.Result.{is_ok}
 use Rattle.sw_peer.proofs.Heard.{heard}
 use Rattle.sw_peer.specs.Sights.{IsBaseRead}
 use Rattle.sw_peer.specs.declared.link.Link.TheVariants.{Local}
+use Rattle.sw_redirect.specs.Sending.{course}
 use Rattle.sw_updater.proofs.Afterwards.{unchanged, unread}
-use Rattle.sw_updater.specs.Updating.{course}
 use Rattle.sw_updater.proofs.settling.read_again.Goals as goal
 
 pub returns-in-Ok-Some-clause-reads : goal.returns-in-Ok-Some-clause-reads

@@ -4,7 +4,8 @@ use Rattle.std.specs.Result.{is_ok}
 use Rattle.sw_pass.proofs.Turns.{turn-broken, turn-passed}
 use Rattle.sw_pass.specs.Turns.{InTurn}
 use Rattle.sw_pending.specs.Rules.{is_done}
-use Rattle.sw_updater.specs.Updating.{IsTold, course, to_tell}
+use Rattle.sw_redirect.specs.Sending.{course}
+use Rattle.sw_updater.specs.Updating.{IsTold, to_tell}
 use Rattle.sw_updater.proofs.telling.tell_all.Goals as goal
 
 abbrev lacks : List ℕ → ℕ → Bool
@@ -23,7 +24,7 @@ loop-to-preserved g c =
     let is : to ≡ get_or all i to = get_or_default all i 0 to c.loop-to-test.true in
     let own : lacks task.filed.done to ≡ true = unmarked task.filed.done to c.is_done.result c.is_done.ensures c.if-is_done.false in
     record {
-      tells = turn-passed (IsTold task.device task.filed task.place c.args.row) (lacks task.filed.done) all i to
+      tells = turn-passed (IsTold task.device task.filed c.args.ring.now task.place c.args.row) (lacks task.filed.done) all i to
           (course (s c.args.door.now) c.args.missed.now) c.args.outcome.now (course (s c.loop-to.door) c.loop-to.missed) c.loop-to.outcome
           (course (s c.tell.new.door) c.tell.new.missed) c.tell.new.outcome c.loop-to-test.true is own c.loop-to.invariant.tells
           (c.in_ok-tell.ensures.tells c.args.row c.loop-to.invariant.change);
@@ -41,10 +42,10 @@ returns-in_err-tell-clause-tells g c =
     let to = get_or all i 0 in
     let is : to ≡ get_or all i to = get_or_default all i 0 to c.loop-to-test.true in
     let own : lacks task.filed.done to ≡ true = unmarked task.filed.done to c.is_done.result c.is_done.ensures c.if-is_done.false in
-    subst (λ (devices : List ℕ). InTurn (IsTold task.device task.filed task.place c.args.row) (to_tell task.filed.done devices)
+    subst (λ (devices : List ℕ). InTurn (IsTold task.device task.filed c.args.ring.now task.place c.args.row) (to_tell task.filed.done devices)
     (course (s c.args.door.now) c.args.missed.now) c.args.outcome.now (course (s c.tell.new.door) c.tell.new.missed) c.tell.new.outcome
     (is_ok c.from_residual.result)) c.as_slice-to-items.ensures
-    (turn-broken (IsTold task.device task.filed task.place c.args.row) (lacks task.filed.done) c.from_residual.result all i to
+    (turn-broken (IsTold task.device task.filed c.args.ring.now task.place c.args.row) (lacks task.filed.done) c.from_residual.result all i to
     (course (s c.args.door.now) c.args.missed.now) c.args.outcome.now (course (s c.loop-to.door) c.loop-to.missed) c.loop-to.outcome
     (course (s c.tell.new.door) c.tell.new.missed) c.tell.new.outcome c.from_residual.ensures.0 c.loop-to-test.true is own c.loop-to.invariant.tells
     (c.in_err-tell.ensures.tells c.args.row c.loop-to.invariant.change))
