@@ -14,3 +14,7 @@ ended-untold (Err wanting) err = refl
 pub ended-told : (r : Result Bool NoMemory) → IsErr r → (h : Option Hindrance) (o p : Outcome) → Hinders h o p false → Hinders h o p (is_ok r)
 ended-told (Ok kept) err h o p hinders = cc
 ended-told (Err wanting) err h o p hinders = hinders
+
+pub ended-off : {B : Type 0} (r : Result B NoMemory) → IsErr r → is_ok r ≡ false
+ended-off (Ok kept) err = cc
+ended-off (Err wanting) err = refl

@@ -8,10 +8,10 @@ use Rattle.sw_cont_replicator.proofs.Making.{Brings, IsSet, Sure, call-sets, sur
 use Rattle.sw_cont_replicator.proofs.Meeting.{above-each, all-there, merged-greatest, parcel-is, parcel-once, tells-later}
 use Rattle.sw_cont_replicator.proofs.Passing.{Any, Goes, all-any, done-goes, rows-bring, rows-reach}
 use Rattle.sw_cont_replicator.proofs.Pointing.{pushes-keep-points}
-use Rattle.sw_cont_replicator.proofs.Sending.{made-moves}
+use Rattle.sw_cont_replicator.proofs.Sending.{Anywhere, PushMoves, made-moves}
 use Rattle.sw_cont_replicator.specs.Laws.{ExchangesAgree, ExchangesMeet, PushesMeet, PushesReach}
-use Rattle.sw_cont_replicator.specs.Meeting.{Agree, HasRow, IsDone, PointsTell, TellsTruly, greatest, owed_above, replica, row_in}
-use Rattle.sw_cont_replicator.specs.Pushing.{IsOfPair, PairMoves}
+use Rattle.sw_cont_replicator.specs.Meeting.{Agree, HasRow, IsDone, LeavesNoName, PointsTell, TellsTruly, greatest, owed_above, replica, row_in}
+use Rattle.sw_cont_replicator.specs.Pushing.{IsReached}
 use Rattle.sw_hashpath.specs.declared.place.Place.{Place}
 use Rattle.sw_keeper.specs.declared.tables.Tables.{Tables}
 use Rattle.sw_pass.specs.Outcomes.{nothing_yet}
@@ -25,7 +25,7 @@ use Rattle.sw_rows.specs.declared.row.Row.{Row}
 -- ---- a push that is done
 
 module _ (from to : ℕ) (place : Place) (s t : Sight) (is : IsDone from to place s t) where
-  goes : Goes from to place s t
+  goes : Goes is.ring from to place s t
   goes = done-goes from to place s t is
 
   abbrev ours : Option Tables
@@ -35,14 +35,14 @@ module _ (from to : ℕ) (place : Place) (s t : Sight) (is : IsDone from to plac
   abbrev Own : Row → Type 0
   Own row = row_in ours row.name ≡ Some row
 
-  moves : PairMoves from to place s t
-  moves = (run-keeps from to place s t is.pushes.0 is.pushes.1 true is.pushes.2).moves
+  moves : PushMoves is.ring from to place s t
+  moves = (run-keeps is.ring from to place s t is.pushes.0 is.pushes.1 true is.pushes.2).moves
 
   from-sure : Sure from place t
-  from-sure = (is.goes.alone, told-after (IsOfPair from to place) from place s t moves is.goes.from_tells)
+  from-sure = (is.goes.alone, told-after (IsReached is.ring from to place) from place s t moves is.goes.from_tells)
 
   to-sure : Sure to place t
-  to-sure = (is.goes.alone, told-after (IsOfPair from to place) to place s t moves is.goes.to_tells)
+  to-sure = (is.goes.alone, told-after (IsReached is.ring from to place) to place s t moves is.goes.to_tells)
 
   set-moves : ContMoves (IsIn from place) goes.mid t
   set-moves = made-moves Local from place (SetSync to goes.parcel.top) goes.mid (Ok goes.answer) t goes.sets
@@ -54,11 +54,11 @@ module _ (from to : ℕ) (place : Place) (s t : Sight) (is : IsDone from to plac
   set = call-sets from to place goes.parcel.top goes.mid goes.answer t goes.sets from-sure
 
   brings : (S : Row → Type 0) → All S goes.parcel.rows → Brings to place S goes.read goes.mid
-  brings S all = rows-bring to place S goes.parcel.rows all goes.read nothing_yet goes.mid goes.between true goes.sends
+  brings S all = rows-bring is.ring to place S goes.parcel.rows all goes.read nothing_yet goes.mid goes.between true goes.sends
 
   from-read : Sure from place goes.read
   from-read =
-      sure-before (IsIn to place) from place goes.read goes.mid (brings Any (all-any goes.parcel.rows)).moves
+      sure-before Anywhere from place goes.read goes.mid (brings Any (all-any goes.parcel.rows)).moves
       (sure-before (IsIn from place) from place goes.mid t set-moves from-sure)
 
   read-same : (d : ℕ) → replica goes.read d place ≡ replica s d place
@@ -67,8 +67,11 @@ module _ (from to : ℕ) (place : Place) (s t : Sight) (is : IsDone from to plac
   parcel : (goes.parcel.rows ≡ rows_above (owed_above ours to) (rows_of ours).list) × (goes.parcel.top ≡ (rows_of ours).top)
   parcel = let told = goes.reads.parcel goes.parcel refl from-read in parcel-is ours to told.0 goes.parcel told.1
 
+  keeps : LeavesNoName (replica goes.read to place)
+  keeps = subst LeavesNoName (sym (read-same to)) is.goes.keeps_all
+
   reached : All (HasRow (replica goes.mid to place)) goes.parcel.rows
-  reached = (rows-reach to place goes.parcel.rows goes.read nothing_yet goes.mid goes.between goes.sends goes.none).1 to-mid
+  reached = (rows-reach is.ring to place goes.parcel.rows goes.read nothing_yet goes.mid goes.between goes.sends to-mid keeps goes.none).1
 
   to-same : replica t to place ≡ replica goes.mid to place
   to-same = set.others to (λ same. is.goes.apart (sym same))
@@ -81,10 +84,10 @@ module _ (from to : ℕ) (place : Place) (s t : Sight) (is : IsDone from to plac
 
   came : (S : Row → Type 0) → All S goes.parcel.rows → Merges S (replica s to place) (replica goes.mid to place)
   came S all =
-      subst (λ (x : Option Tables). Merges S x (replica goes.mid to place)) (read-same to) ((brings S all).brought to-mid).merges
+      subst (λ (x : Option Tables). Merges S x (replica goes.mid to place)) (read-same to) ((brings S all).brought to-mid keeps).merges
 
   from-same : replica goes.mid from place ≡ ours
-  from-same = ((brings Any (all-any goes.parcel.rows)).brought to-mid).others from is.goes.apart ∙ read-same from
+  from-same = ((brings Any (all-any goes.parcel.rows)).brought to-mid keeps).others from is.goes.apart ∙ read-same from
 
   module _ (truly : TellsTruly to ours (replica s to place)) where
     all : All (λ (n : Numbered). HasRow (replica goes.mid to place) n.row) (rows_of ours).list
@@ -129,7 +132,7 @@ exchanges-meet a b place s m n t x points name = (
     there = pushes-meet a b place s m x.there (points a b) name
 
     told : PointsTell place m
-    told = pushes-keep-points a b place s (Ok x.there.outcome) m x.there.goes x.there.pushes points
+    told = pushes-keep-points a b place x.there.ring s (Ok x.there.outcome) m x.there.goes x.there.pushes points
 
     truly : Truly (replica n b place) (replica n a place)
     truly =

@@ -1,9 +1,11 @@
 mod Ending
 mod Entering
 mod Exchanging
+mod Following
 mod Keeping
 mod Making
 mod Meeting
+mod Opening
 mod Passing
 mod Pointing
 mod Sending

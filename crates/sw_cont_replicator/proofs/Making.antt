@@ -3,11 +3,14 @@ use Rattle.std.proofs.Common.{◌≡◌, ◌≢◌, ℕ, true, List, [], ◌∷�
 use Rattle.sw_container_steps.specs.Reads.{parcel_of}
 use Rattle.sw_container_steps.specs.Rules.{ReadsUnder}
 use Rattle.sw_container_steps.specs.declared.cont_answer.ContAnswer.{ContAnswer}
+use Rattle.sw_container_steps.specs.declared.cont_answer.ContAnswer.TheVariants as answers
 use Rattle.sw_container_steps.specs.declared.cont_change.ContChange.{ContChange}
 use Rattle.sw_container_steps.specs.declared.cont_change.ContChange.TheVariants.{MergeRow, SetSync}
 use Rattle.sw_container_steps.specs.declared.syncing.Parcel.{Parcel}
 use Rattle.sw_cont_replicator.proofs.Entering.{BringsOnly, Merges, Sets, merges-same, merges-trans, step-has, step-merges, step-sets}
-use Rattle.sw_cont_replicator.specs.Meeting.{HasRow, IsTold, replica}
+use Rattle.sw_cont_replicator.proofs.Opening.{step-opens, step-stays}
+use Rattle.sw_cont_replicator.proofs.Sending.{Anywhere, moves-anywhere}
+use Rattle.sw_cont_replicator.specs.Meeting.{HasRow, IsTold, LeavesNoName, replica}
 use Rattle.sw_hashpath.specs.declared.place.Place.{Place}
 use Rattle.sw_keeper.specs.declared.tables.Tables.{Tables}
 use Rattle.sw_pass.specs.Outcomes.{is_acknowledged}
@@ -73,60 +76,101 @@ module _ (link : Link) (device : ℕ) (place : Place) (change : ContChange) (a :
         step-has b.alone (a.containers.seen (cont_lock a.nodes device place)) made.step.held place change answer
         (b.containers.seen (cont_lock a.nodes device place)) (replica b device place) made.step.step sure.0 told
 
+    -- where no name is left to a shard
+    module _ (row : Row) (is : change ≡ MergeRow row) (keeps : LeavesNoName (replica a device place)) where
+      pub here-opens : LeavesNoName (replica b device place)
+      here-opens =
+          step-opens b.alone (a.containers.seen (cont_lock a.nodes device place)) made.step.held place change answer
+          (b.containers.seen (cont_lock a.nodes device place)) (replica b device place) made.step.step sure.0 told row is
+          (subst LeavesNoName (sym stood) keeps)
+
+      pub here-stays : (shard : Place) → answer ≡ answers.Redirect shard → ⊥
+      here-stays =
+          step-stays b.alone (a.containers.seen (cont_lock a.nodes device place)) made.step.held place change answer
+          (b.containers.seen (cont_lock a.nodes device place)) (replica b device place) made.step.step sure.0 told row is
+          (subst LeavesNoName (sym stood) keeps)
+
 -- ---- rows that come to one device
 
 module _ (to : ℕ) (place : Place) (S : Row → Type 0) where
-  -- rows of this kind were merged there, and no other replica of the container changed
+  -- rows of this kind were merged there, where no name is left to a shard then, and no other replica of the container changed
   pub record IsBrought (a b : Sight) : Type 0 where
     pub others : (d : ℕ) → d ≢ to → replica b d place ≡ replica a d place
     pub merges : Merges S (replica a to place) (replica b to place)
+    pub opens : LeavesNoName (replica b to place)
 
+  -- that is so where no name was left to one before
   pub record Brings (a b : Sight) : Type 0 where
-    pub moves : ContMoves (IsIn to place) a b
-    pub brought : Sure to place b → IsBrought a b
+    pub moves : ContMoves Anywhere a b
+    pub brought : Sure to place b → LeavesNoName (replica a to place) → IsBrought a b
 
-  nothing-brought : (a b : Sight) → ((d : ℕ) → replica b d place ≡ replica a d place) → IsBrought a b
-  nothing-brought a b same = record { others = λ d away. same d; merges = merges-same S (replica a to place) (replica b to place) (same to) }
+  nothing-brought : (a b : Sight) → ((d : ℕ) → replica b d place ≡ replica a d place) → LeavesNoName (replica a to place) → IsBrought a b
+  nothing-brought a b same keeps = record {
+    others = λ d away. same d;
+    merges = merges-same S (replica a to place) (replica b to place) (same to);
+    opens = subst LeavesNoName (sym (same to)) keeps;
+  }
 
   pub brings-same : (a b : Sight) → b ≡ a → Brings a b
   brings-same a b same = subst (Brings a) (sym same) (record {
-    moves = cont-moves-refl (IsIn to place) a;
-    brought = λ sure. nothing-brought a a (λ d. refl);
+    moves = cont-moves-refl Anywhere a;
+    brought = λ sure keeps. nothing-brought a a (λ d. refl) keeps;
   })
 
   pub brings-trans : (a b c : Sight) → Brings a b → Brings b c → Brings a c
   brings-trans a b c p q = record {
-    moves = cont-moves-trans (IsIn to place) a b c p.moves q.moves;
-    brought = λ sure.
-        let first = p.brought (sure-before (IsIn to place) to place b c q.moves sure) in
-        let second = q.brought sure in
+    moves = cont-moves-trans Anywhere a b c p.moves q.moves;
+    brought = λ sure keeps.
+        let first = p.brought (sure-before Anywhere to place b c q.moves sure) keeps in
+        let second = q.brought sure first.opens in
         record {
           others = λ d away. second.others d away ∙ first.others d away;
           merges = merges-trans S (replica a to place) (replica b to place) (replica c to place) first.merges second.merges;
+          opens = second.opens;
         };
   }
 
-  module _ (link : Link) (change : ContChange) (only : BringsOnly S change) where
-    one-brings : (a : Sight) (answer : ContAnswer) (b : Sight) → IsContMade link to place change a answer b → Brings a b
+  module _ (link : Link) (row : Row) (only : S row) where
+    one-brings : (a : Sight) (answer : ContAnswer) (b : Sight) → IsContMade link to place (MergeRow row) a answer b → Brings a b
     one-brings a answer b made = record {
-      moves = made.moves;
-      brought = λ sure. record {
-        others = λ d away. elsewhere link to place change a answer b made sure.0 d place (λ at. away at.0);
-        merges = here-merges link to place change a answer b made sure S only;
+      moves = moves-anywhere (IsIn to place) a b made.moves;
+      brought = λ sure keeps. record {
+        others = λ d away. elsewhere link to place (MergeRow row) a answer b made sure.0 d place (λ at. away at.0);
+        merges = here-merges link to place (MergeRow row) a answer b made sure S only;
+        opens = here-opens link to place (MergeRow row) a answer b made sure row refl keeps;
       };
     }
 
-    come-bring : (a : Sight) (answers : List ContAnswer) (b : Sight) → Comes (IsContMade link to place change) a answers b → Brings a b
+    come-bring : (a : Sight) (answers : List ContAnswer) (b : Sight) → Comes (IsContMade link to place (MergeRow row)) a answers b → Brings a b
     come-bring a [] b same = record {
-      moves = comes-moves (ContMoves (IsIn to place)) (IsContMade link to place change) (cont-made-step link to place change) a [] b same;
-      brought = λ sure. nothing-brought a b (λ d. same-replica a b d place same);
+      moves = moves-anywhere (IsIn to place) a b
+          (comes-moves (ContMoves (IsIn to place)) (IsContMade link to place (MergeRow row)) (cont-made-step link to place (MergeRow row)) a [] b same);
+      brought = λ sure keeps. nothing-brought a b (λ d. same-replica a b d place same) keeps;
     }
     come-bring a (answer ∷ answers) b came =
         brings-trans a came.0 b (one-brings a answer came.0 came.1) (come-bring came.0 answers b came.2)
 
-    pub call-brings : (a : Sight) (r : Result ContAnswer Lost) (b : Sight) → Calls (IsContMade link to place change) a link r b → Brings a b
+    pub call-brings : (a : Sight) (r : Result ContAnswer Lost) (b : Sight) → Calls (IsContMade link to place (MergeRow row)) a link r b → Brings a b
     call-brings a (Ok answer) b call = come-bring a (call.0 ++ answer ∷ []) b call.2
     call-brings a (Err lost) b call = come-bring a call.2.0 b call.2.1
+
+-- a row is answered there where no name is left to a shard
+module _ (to : ℕ) (place : Place) (link : Link) (row : Row) (answer : ContAnswer) where
+  come-stay : (a : Sight) (earlier : List ContAnswer) (b : Sight) → Comes (IsContMade link to place (MergeRow row)) a (earlier ++ answer ∷ []) b
+      → Sure to place b → LeavesNoName (replica a to place) → (shard : Place) → answer ≡ answers.Redirect shard → ⊥
+  come-stay a [] b came sure keeps =
+      let moves = comes-moves (ContMoves (IsIn to place)) (IsContMade link to place (MergeRow row)) (cont-made-step link to place (MergeRow row)) came.0 [] b
+      came.2 in
+      here-stays link to place (MergeRow row) a answer came.0 came.1 (sure-before (IsIn to place) to place came.0 b moves sure) row refl keeps
+  come-stay a (x ∷ earlier) b came sure keeps =
+      let moves = comes-moves (ContMoves (IsIn to place)) (IsContMade link to place (MergeRow row)) (cont-made-step link to place (MergeRow row)) came.0
+      (earlier ++ answer ∷ []) b came.2 in
+      come-stay came.0 earlier b came.2 sure
+      (here-opens link to place (MergeRow row) a x came.0 came.1 (sure-before (IsIn to place) to place came.0 b moves sure) row refl keeps)
+
+  pub call-stays : (a b : Sight) → Calls (IsContMade link to place (MergeRow row)) a link (Ok answer) b → Sure to place b
+      → LeavesNoName (replica a to place) → (shard : Place) → answer ≡ answers.Redirect shard → ⊥
+  call-stays a b call sure keeps = come-stay a call.0 b call.2 sure keeps
 
 -- a row that was acknowledged is there
 module _ (to : ℕ) (place : Place) (link : Link) (row : Row) (answer : ContAnswer) (acknowledged : is_acknowledged answer ≡ true) where

@@ -15,10 +15,10 @@ use Rattle.sw_cont_replicator.proofs.Making.{Brings, IsBrought, IsParcelRead, Is
 use Rattle.sw_cont_replicator.proofs.Making.{told-after}
 use Rattle.sw_cont_replicator.proofs.Meeting.{all-there, parcel-is, tells-later, tells-set}
 use Rattle.sw_cont_replicator.proofs.Passing.{Any, all-any, rows-bring, rows-reach}
-use Rattle.sw_cont_replicator.proofs.Sending.{made-moves}
+use Rattle.sw_cont_replicator.proofs.Sending.{Anywhere, PushMoves, made-moves}
 use Rattle.sw_cont_replicator.specs.Laws.{PointsBegin, PushesKeepPoints, RestartsKeepPoints, StepsKeepPoints}
-use Rattle.sw_cont_replicator.specs.Meeting.{HasRow, PointsTell, TellsTruly, owed_above, point_in, replica}
-use Rattle.sw_cont_replicator.specs.Pushing.{IsOfPair, IsParcelSent, IsPointKept, IsPush, IsReadNext, IsRowSent, IsRun, PairMoves}
+use Rattle.sw_cont_replicator.specs.Meeting.{HasRow, LeavesNoName, PointsTell, TellsTruly, owed_above, point_in, replica}
+use Rattle.sw_cont_replicator.specs.Pushing.{IsParcelSent, IsPointKept, IsPush, IsReached, IsReadNext, IsRowSent, IsRun}
 use Rattle.sw_hashpath.specs.declared.place.Place.{Place}
 use Rattle.sw_keeper.specs.declared.tables.Tables.{Tables}
 use Rattle.sw_outside.specs.declared.errors.NoMemory.{NoMemory}
@@ -28,6 +28,7 @@ use Rattle.sw_pass.specs.declared.outcome.Outcome.{Outcome}
 use Rattle.sw_peer.specs.ContSights.{ContMoves, IsIn}
 use Rattle.sw_peer.specs.Sights.{Sight}
 use Rattle.sw_peer.specs.declared.link.Link.TheVariants.{Local}
+use Rattle.sw_ring.specs.declared.ring.Ring.{Ring}
 use Rattle.sw_rows.specs.Rows.{rows_above}
 use Rattle.sw_rows.specs.declared.numbered.Numbered.{Numbered}
 use Rattle.sw_rows.specs.declared.row.Row.{Row}
@@ -84,7 +85,8 @@ points-set from to place top a b set top_is all is d e =
 
 -- ---- a push
 
-module _ (from to : ℕ) (place : Place) (s : Sight) (apart : from ≢ to) (points : PointsTell place s) where
+module _ (ring : Ring) (from to : ℕ) (place : Place) (s : Sight) (apart : from ≢ to) (keeps : LeavesNoName (replica s to place))
+    (points : PointsTell place s) where
   abbrev Both : Sight → Type 0
   Both x = Sure from place x × Sure to place x
 
@@ -93,18 +95,21 @@ module _ (from to : ℕ) (place : Place) (s : Sight) (apart : from ≢ to) (poin
 
   module _ (parcel : Parcel) (read : Sight) (reads : IsParcelRead from to place s (Ok parcel) read) where
     abbrev Rows : Sight → Outcome → Bool → Type 0
-    Rows mid p on = InTurn (IsRowSent to place) parcel.rows read nothing_yet mid p on
+    Rows mid p on = InTurn (IsRowSent ring to place) parcel.rows read nothing_yet mid p on
 
     brings : (mid : Sight) (p : Outcome) (on : Bool) → Rows mid p on → Brings to place Any read mid
-    brings mid p on turn = rows-bring to place Any parcel.rows (all-any parcel.rows) read nothing_yet mid p on turn
+    brings mid p on turn = rows-bring ring to place Any parcel.rows (all-any parcel.rows) read nothing_yet mid p on turn
 
     both-read : (mid : Sight) (p : Outcome) (on : Bool) → Rows mid p on → Both mid → Both read
-    both-read mid p on turn sure = both-before (IsIn to place) read mid (brings mid p on turn).moves sure
+    both-read mid p on turn sure = both-before Anywhere read mid (brings mid p on turn).moves sure
+
+    keeps-read : (mid : Sight) (p : Outcome) (on : Bool) → Rows mid p on → Both mid → LeavesNoName (replica read to place)
+    keeps-read mid p on turn sure = subst LeavesNoName (sym (reads.holds (both-read mid p on turn sure).0.0 to)) keeps
 
     -- behind the rows, or some of them
     at-mid : (mid : Sight) (p : Outcome) (on : Bool) → Rows mid p on → Both mid → PointsTell place mid
     at-mid mid p on turn sure =
-        points-brought to place read mid ((brings mid p on turn).brought sure.1)
+        points-brought to place read mid ((brings mid p on turn).brought sure.1 (keeps-read mid p on turn sure))
         (points-same place s read (reads.holds (both-read mid p on turn sure).0.0) points)
 
     module _ (mid : Sight) (between : Outcome) (turn : Rows mid between true) (none : between.left ≡ 0) (sure : Both mid) where
@@ -112,7 +117,7 @@ module _ (from to : ℕ) (place : Place) (s : Sight) (apart : from ≢ to) (poin
       was = both-read mid between true turn sure
 
       from-same : replica mid from place ≡ replica s from place
-      from-same = ((brings mid between true turn).brought sure.1).others from apart ∙ reads.holds was.0.0 from
+      from-same = ((brings mid between true turn).brought sure.1 (keeps-read mid between true turn sure)).others from apart ∙ reads.holds was.0.0 from
 
       told : (parcel.rows ≡ rows_above (owed_above (replica mid from place) to) (rows_of (replica mid from place)).list)
           × (parcel.top ≡ (rows_of (replica mid from place)).top)
@@ -126,7 +131,7 @@ module _ (from to : ℕ) (place : Place) (s : Sight) (apart : from ≢ to) (poin
       all =
           all-there to (replica mid from place) (replica mid to place) (at-mid mid between true turn sure from to)
           (subst (λ (rows : List Row). All (HasRow (replica mid to place)) rows) told.0
-          ((rows-reach to place parcel.rows read nothing_yet mid between turn none).1 sure.1))
+          (rows-reach ring to place parcel.rows read nothing_yet mid between turn sure.1 (keeps-read mid between true turn sure) none).1)
 
     at-end : (mid : Sight) (between : Outcome) (t : Sight) (p : Outcome) (kept on : Bool) → Rows mid between true
         → IsPointKept from to place parcel.top mid between t p kept on → Both t → PointsTell place t
@@ -138,31 +143,31 @@ module _ (from to : ℕ) (place : Place) (s : Sight) (apart : from ≢ to) (poin
         points-set from to place parcel.top mid t (call-sets from to place parcel.top mid set.1.0 t set.1.1 sure.0)
         (told mid between turn set.0 was_sure).1 (all mid between turn set.0 was_sure) (at-mid mid between true turn was_sure)
 
-    sent-points : (t : Sight) (p : Outcome) (kept on : Bool) → IsParcelSent from to place parcel read nothing_yet t p kept on → Both t → PointsTell place t
+    sent-points : (t : Sight) (p : Outcome) (kept on : Bool) → IsParcelSent from to place ring parcel read nothing_yet t p kept on → Both t → PointsTell place t
     sent-points t p kept on (inl sent) sure = at-end sent.0 sent.1 t p kept on sent.2 sent.3 sure
     sent-points t p kept on (inr stopped) sure = at-mid t p false stopped.0 sure
 
   next-points : (got : Result Parcel ContAnswer) (read t : Sight) (p : Outcome) (kept on : Bool) → IsParcelRead from to place s got read
-      → IsReadNext from to place got read t p kept on → Both t → PointsTell place t
+      → IsReadNext from to place ring got read t p kept on → Both t → PointsTell place t
   next-points (Ok parcel) read t p kept on reads next sure = sent-points parcel read reads t p kept on next sure
   next-points (Err answer) read t p kept on reads next sure =
       subst (PointsTell place) (sym next.0) (points-same place s read (reads.holds (subst Both next.0 sure).0.0) points)
 
-  run-points : (t : Sight) (p : Outcome) (kept on : Bool) → IsRun from to place s t p kept on → Both t → PointsTell place t
+  run-points : (t : Sight) (p : Outcome) (kept on : Bool) → IsRun from to place ring s t p kept on → Both t → PointsTell place t
   run-points t p kept on run sure = next-points run.0 run.1 t p kept on (call-reads from to place s run.0 run.1 run.2) run.3 sure
 
 pub pushes-keep-points : PushesKeepPoints
-pushes-keep-points from to place s result t goes push points = by result push
+pushes-keep-points from to place ring s result t goes push points = by result push
   where
-    run : (p : Outcome) (kept on : Bool) → IsRun from to place s t p kept on → PointsTell place t
+    run : (p : Outcome) (kept on : Bool) → IsRun from to place ring s t p kept on → PointsTell place t
     run p kept on is =
-        let moves : PairMoves from to place s t = (run-keeps from to place s t p kept on is).moves in
-        run-points from to place s goes.apart points t p kept on is (
-          (goes.alone, told-after (IsOfPair from to place) from place s t moves goes.from_tells),
-          (goes.alone, told-after (IsOfPair from to place) to place s t moves goes.to_tells),
+        let moves : PushMoves ring from to place s t = (run-keeps ring from to place s t p kept on is).moves in
+        run-points ring from to place s goes.apart goes.keeps_all points t p kept on is (
+          (goes.alone, told-after (IsReached ring from to place) from place s t moves goes.from_tells),
+          (goes.alone, told-after (IsReached ring from to place) to place s t moves goes.to_tells),
         )
 
-    by : (r : Result Outcome NoMemory) → IsPush from to place s r t → PointsTell place t
+    by : (r : Result Outcome NoMemory) → IsPush from to place ring s r t → PointsTell place t
     by (Ok outcome) is = run is.0 is.1 true is.2
     by (Err wanting) is = run is.0 false false is.1
 

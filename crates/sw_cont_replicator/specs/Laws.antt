@@ -1,4 +1,4 @@
--- What is promised of pushes of rows, at nodes that nobody else changes meanwhile. (This project's own.)
+-- What is promised of pushes of rows, at nodes that nobody else changes meanwhile, to replicas that have left no name to a shard. (This project's own.)
 use Rattle.std.specs.Prelude.{◌≡◌, ◌≢◌, ℕ, ◌<◌, true, List, All, None, Result}
 use Rattle.sw_container_steps.specs.Entries.{rows_of}
 use Rattle.sw_container_steps.specs.declared.cont_answer.ContAnswer.{ContAnswer}
@@ -12,6 +12,7 @@ use Rattle.sw_pass.specs.declared.outcome.Outcome.{Outcome}
 use Rattle.sw_peer.specs.ContSights.{IsContMade}
 use Rattle.sw_peer.specs.Sights.{Restarts, Sight}
 use Rattle.sw_peer.specs.declared.link.Link.{Link}
+use Rattle.sw_ring.specs.declared.ring.Ring.{Ring}
 
 -- ---- one push
 
@@ -30,8 +31,8 @@ PushesMeet = (from to : ℕ) (place : Place) (s t : Sight) → IsDone from to pl
 -- Sync points that told truly do so after a push, whatever came of it: with messages or answers lost, messages that came twice, refusals, calls that failed
 -- or wanted memory
 abbrev pub PushesKeepPoints : Type 0
-PushesKeepPoints = (from to : ℕ) (place : Place) (s : Sight) (result : Result Outcome NoMemory) (t : Sight) → GoesAlone from to place s t
-    → IsPush from to place s result t → PointsTell place s → PointsTell place t
+PushesKeepPoints = (from to : ℕ) (place : Place) (ring : Ring) (s : Sight) (result : Result Outcome NoMemory) (t : Sight) → GoesAlone from to place s t
+    → IsPush from to place ring s result t → PointsTell place s → PointsTell place t
 
 -- ---- two pushes, there and back
 

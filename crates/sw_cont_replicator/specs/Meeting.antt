@@ -1,5 +1,5 @@
 -- What replicas have of each other's rows, and what their sync points tell of it. (This project's own.)
-use Rattle.std.specs.Prelude.{◌≡◌, ◌≢◌, ℕ, ◌≤◌, true, List, All, Option, None, Some, Ok}
+use Rattle.std.specs.Prelude.{◌≡◌, ◌≢◌, ⊤, ℕ, ◌≤◌, true, List, All, Option, None, Some, Ok}
 use Rattle.std.specs.Option.{option_map_or}
 use Rattle.sw_container_steps.specs.Entries.{rows_of}
 use Rattle.sw_cont_replicator.specs.Pushing.{IsPush}
@@ -7,6 +7,7 @@ use Rattle.sw_hashpath.specs.declared.place.Place.{Place}
 use Rattle.sw_keeper.specs.declared.tables.Tables.{Tables}
 use Rattle.sw_pass.specs.declared.outcome.Outcome.{Outcome}
 use Rattle.sw_peer.specs.Sights.{Sight, cont_lock}
+use Rattle.sw_ring.specs.declared.ring.Ring.{Ring}
 use Rattle.sw_rows.specs.Laws.{greater}
 use Rattle.sw_rows.specs.Rows.{IsListed, find_named, is_at_least}
 use Rattle.sw_rows.specs.declared.row.Row.{Row}
@@ -63,16 +64,23 @@ PointsTell place s = (d e : ℕ) → TellsTruly e (replica s d place) (replica s
 abbrev pub IsTold : ℕ → Place → Sight → Type 0
 IsTold device place s = (s.containers.seen (cont_lock s.nodes device place)).told ≡ true
 
--- a push goes from one device to another, at nodes that nobody else changes while it does
+-- no range of the container is closed there, so that no name is left to a shard
+abbrev pub LeavesNoName : Option Tables → Type 0
+LeavesNoName None = ⊤
+LeavesNoName (Some t) = t.cursor ≡ 0
+
+-- a push goes from one device to another that has no range closed, at nodes that nobody else changes while it does
 pub record GoesAlone (from to : ℕ) (place : Place) (s t : Sight) : Type 0 where
   pub apart : from ≢ to
   pub from_tells : IsTold from place s
   pub to_tells : IsTold to place s
+  pub keeps_all : LeavesNoName (replica s to place)
   pub alone : t.alone ≡ true
 
 -- and it is told as done
 pub record IsDone (from to : ℕ) (place : Place) (s t : Sight) : Type 0 where
+  pub ring : Ring
   pub goes : GoesAlone from to place s t
   pub outcome : Outcome
-  pub pushes : IsPush from to place s (Ok outcome) t
+  pub pushes : IsPush from to place ring s (Ok outcome) t
   pub done : outcome.done ≡ true

@@ -1,6 +1,5 @@
-ghost use Rattle.std.specs.Prelude.{◌≡◌, Ok};
 ghost use Rattle.std.specs.Result.{is_ok};
-ghost use Rattle.sw_cont_replicator.specs.Pushing.{CountsFor, PointCounts, point_told};
+ghost use Rattle.sw_cont_replicator.specs.Pushing.{PointCounts, point_told};
 ghost use Rattle.sw_pass.specs.Outcomes.{Hinders};
 
 use sw_container_steps::ContAnswer;
@@ -17,17 +16,6 @@ pub(crate) fn hinder(hindrance: Option<Hindrance>, outcome: &mut Outcome) -> Res
             Ok(())
         }
         None => Err(NoMemory),
-    }
-}
-
-/// Counts the answer to a row's message.
-pub(crate) fn count_answer(answer: &ContAnswer, outcome: &mut Outcome) -> Result<(), NoMemory>
-    ensures { CountsFor (Ok answer.now) outcome.old outcome.new (is_ok result) }
-{
-    if is_acknowledged(answer) {
-        Ok(())
-    } else {
-        hinder(Hindrance::of_container_answer(answer), outcome)
     }
 }
 

@@ -1,4 +1,5 @@
-//! Laws of pushes of rows, at nodes that nobody else changes meanwhile. Each function does nothing: its clause is the law.
+//! Laws of pushes of rows, at nodes that nobody else changes meanwhile, to replicas that have left no name to a shard. Each function does nothing: its
+//! clause is the law.
 
 ghost use Rattle.sw_cont_replicator.specs.Laws.{ExchangesAgree, ExchangesMeet, PointsBegin, PushesKeepPoints, PushesMeet, PushesReach};
 ghost use Rattle.sw_cont_replicator.specs.Laws.{RestartsKeepPoints, StepsKeepPoints};

@@ -19,7 +19,7 @@ returns-in-Ok-clause-pushes g c =
       s c.sync_rows-read.new.self,
       heard (IsLooked Local c.args.from c.args.place.now (parcel_of c.args.to) (λ read. Parceled c.args.place.now c.args.to read)) (s c.args.door.now) Local
           c.sync_rows-read.result (Ok (Ok c.in-Ok.parcel)) (s c.sync_rows-read.new.self) c.in-Ok.ensures c.sync_rows-read.ensures.read,
-      subst (λ (o : Outcome). IsParcelSent c.args.from c.args.to c.args.place.now c.in-Ok.parcel (s c.sync_rows-read.new.self) o
+      subst (λ (o : Outcome). IsParcelSent c.args.from c.args.to c.args.place.now c.args.ring.now c.in-Ok.parcel (s c.sync_rows-read.new.self) o
           (s c.send_parcel.new.door) c.send_parcel.new.outcome (point_told c.send_parcel.result) (is_ok c.send_parcel.result)) c.requires.fresh
           c.send_parcel.ensures.pushes,
     )

@@ -15,7 +15,7 @@ nothing-left (x ∷ xs) none = absurd (omega arith)
 pub loop-row-preserved : goal.loop-row-preserved
 loop-row-preserved g c =
     let s = g.D.Door.sight in
-    let one = IsRowSent c.args.to c.args.place.now in
+    let one = IsRowSent c.args.ring.now c.args.to c.args.place.now in
     let row = c.in-Some.row in
     let left = into_iter_items c.next.new.self in
     let steps : into_iter_items c.loop-row.row-iterator ≡ row ∷ left = c.in-Some.ensures.steps.0 in
@@ -34,7 +34,7 @@ loop-row-preserved g c =
 pub returns-in_err-send_row-clause-pushes : goal.returns-in_err-send_row-clause-pushes
 returns-in_err-send_row-clause-pushes g c =
     let s = g.D.Door.sight in
-    let one = IsRowSent c.args.to c.args.place.now in
+    let one = IsRowSent c.args.ring.now c.args.to c.args.place.now in
     let row = c.in-Some.row in
     let left = into_iter_items c.next.new.self in
     let steps : into_iter_items c.loop-row.row-iterator ≡ row ∷ left = c.in-Some.ensures.steps.0 in
@@ -56,5 +56,5 @@ returns-clause-pushes g c =
     let whole : c.loop-row.yielded ≡ c.args.rows =
     sym (append-nil c.loop-row.yielded)
     ∙ (ap (λ (rest : List Row). c.loop-row.yielded ++ rest) (sym none) ∙ c.loop-row.invariant.whole) in
-    subst (λ (rows : List Row). InTurn (IsRowSent c.args.to c.args.place.now) rows (s c.args.door.now) c.args.outcome.now (s c.loop-row.door)
+    subst (λ (rows : List Row). InTurn (IsRowSent c.args.ring.now c.args.to c.args.place.now) rows (s c.args.door.now) c.args.outcome.now (s c.loop-row.door)
     c.loop-row.outcome true) whole c.loop-row.invariant.pushes
