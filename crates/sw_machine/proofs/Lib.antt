@@ -2,6 +2,7 @@ pub mod Sides
 pub mod Objects
 pub mod Rows
 pub mod Greatest
+pub mod Honesty
 pub mod Runs
 pub mod Entering
 pub mod Going

@@ -1,9 +1,11 @@
 -- How a door that is alone stands for the machine, with a trail or without: each of its steps goes on with a run. (This project's own.)
-use Rattle.std.specs.Prelude.{◌≡◌, ⊤, ℕ, Bool, true, List, [], ◌∷◌, ◌++◌, Option, Result, Ok, Err, ◌⊎◌}
+use Rattle.std.specs.Prelude.{◌≡◌, ⊤, ℕ, Bool, true, false, List, [], ◌∷◌, ◌++◌, Option, Result, Ok, Err, ◌⊎◌}
 use Rattle.std.specs.Option.{option_map}
 use Rattle.sw_container_steps.specs.Reads.{info_of, listing_of, parcel_of, range_parcel_of, sharding_of, times_of}
 use Rattle.sw_container_steps.specs.declared.cont_answer.ContAnswer.{ContAnswer}
 use Rattle.sw_container_steps.specs.declared.cont_change.ContChange.{ContChange}
+use Rattle.sw_container_steps.specs.declared.cont_change.ContChange.TheVariants.{Ack, CloseRange, Create, EmptyOut, MergeRow, MergeRows, Remove}
+use Rattle.sw_container_steps.specs.declared.cont_change.ContChange.TheVariants.{SetRanges, SetSync}
 use Rattle.sw_container_steps.specs.declared.cont_entry.ContEntry.{ContEntry}
 use Rattle.sw_diskfile.specs.declared.file_name.FileName.{FileName}
 use Rattle.sw_hashpath.specs.declared.name.Name.{Name}
@@ -28,7 +30,7 @@ use Rattle.sw_peer.specs.declared.link.Link.TheVariants.{Local}
 use Rattle.sw_peer.specs.declared.link.Lost.{Lost}
 use Rattle.sw_peer.specs.declared.part_read.PartRead.TheVariants.{Base, Files, Hashes, Records, Write}
 use Rattle.sw_machine.specs.Machine.{Came, Carries, Machine, RunLine, Runs, Went, came_in}
-use Rattle.sw_machine.specs.Messages.{Message, WasSent}
+use Rattle.sw_machine.specs.Messages.{Message, Row_of, Rows_of, Update_of, WasSent}
 
 -- what is known of the nodes, and what they hold, is the machine's
 pub record StandsFor (s : Sight) (m : Machine) : Type 0 where
@@ -56,22 +58,42 @@ GoingOnJoins = (s : Sight) (m : Machine) (lines : List RunLine) (t : Sight) (mor
 abbrev pub RunsOnJoin : Type 0
 RunsOnJoin = (s t u : Sight) → RunsOn s t → RunsOn t u → RunsOn s u
 
--- ---- lines that leave records as they are
+-- ---- lines for which nothing has to be shown: they leave records, points and ranges as they are
+
+-- it sets no ranges and closes none, and keeps of no other device that it has rows
+abbrev pub leaves_points : ContChange → Bool
+leaves_points (Create time) = true
+leaves_points (Remove time) = true
+leaves_points (MergeRow row) = true
+leaves_points (MergeRows rows) = true
+leaves_points (SetRanges ranges) = false
+leaves_points (Ack range device rowid) = false
+leaves_points (CloseRange range devices) = false
+leaves_points EmptyOut = true
+leaves_points (SetSync device rowid) = false
 
 -- it marks no record, and drops none
 abbrev pub leaves_records : Event → Bool
 leaves_records (Changed name change answer) = is_write change
+leaves_records (AtContainer (cont_events.Changed place change answer) entries) = leaves_points change
 leaves_records event = true
+
+-- rows go to their own container
+abbrev pub IsDirect : Message → Type 0
+IsDirect (Row_of to place at row) = at ≡ place
+IsDirect (Rows_of to place at rows) = at ≡ place
+IsDirect (Update_of to filed place at row) = at ≡ place
+IsDirect message = ⊤
 
 abbrev pub LeavesRecords : RunLine → Type 0
 LeavesRecords (Came line) = leaves_records line.event ≡ true
-LeavesRecords (Went from message) = ⊤
+LeavesRecords (Went from message) = IsDirect message
 
 abbrev pub LeaveRecords : List RunLine → Type 0
 LeaveRecords [] = ⊤
 LeaveRecords (line ∷ lines) = LeavesRecords line × LeaveRecords lines
 
--- every machine for which the door stood goes on to it as it is then, and no record is marked or dropped
+-- every machine for which the door stood goes on to it as it is then, by such lines
 abbrev pub RunsOnLeaving : Sight → Sight → Type 0
 RunsOnLeaving s t = (m : Machine) → StandsFor s m → (lines : List RunLine) × LeaveRecords lines × GoesOn s m lines t
 

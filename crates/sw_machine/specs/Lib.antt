@@ -4,3 +4,4 @@ pub mod Machine
 pub mod Laws
 pub mod Entering
 pub mod Doors
+pub mod Honest

@@ -164,6 +164,11 @@ abbrev pub is_emptied : Option Tables → Bool
 is_emptied None = false
 is_emptied (Some t) = t.emptied
 
+-- no row was taken away, and no range is closed, so that no name is left to a shard
+abbrev pub IsWhole : Option Tables → Type 0
+IsWhole None = ⊤
+IsWhole (Some t) = (t.emptied ≡ false) × (t.cursor ≡ 0)
+
 -- it has this list of shard ranges for the container
 abbrev pub HasList : Option Tables → List Range → Type 0
 HasList None ranges = ⊥
@@ -174,14 +179,14 @@ abbrev pub HasRow : Machine → ℕ → Place → Row → Type 0
 HasRow m device place row = Contains (map (λ n. n.row) (rows_of (m.containers.half.holds device place)).list) row
 
 module _ (nodes : Nodes) where
-  -- A write that it stands for, rows of a container that it has, the row of what stands under the name of a record, to that name's container, the creation of
+  -- A write that it stands for, rows of a container that it has, the row of what stands under the name of a record, of that name's container, the creation of
   -- a container, and the shard ranges that a container has. Of a lock that doesn't tell its contents nobody knows what it has
   abbrev pub Carries : Machine → ℕ → Message → Type 0
   Carries m from (Write_of to name write) =
       TellsAt nodes.lock m.objects from name.hash → Contains (writes_of (m.objects.half.holds from name.hash).state) write
-  Carries m from (Row_of to place row) = TellsAt (cont_lock nodes) m.containers from place → HasRow m from place row
+  Carries m from (Row_of to place at row) = TellsAt (cont_lock nodes) m.containers from place → HasRow m from place row
   Carries m from (Rows_of to place at rows) = TellsAt (cont_lock nodes) m.containers from place → All (λ row. HasRow m from place row) rows
-  Carries m from (Update_of to filed place row) =
+  Carries m from (Update_of to filed place at row) =
       IsPlaceOf nodes.secrets filed.name place
       × (TellsAt nodes.lock m.objects from filed.name.hash → IsBaseFor filed (m.objects.half.holds from filed.name.hash).state (Some row))
   Carries m from (Creation_of to place time) = ⊤

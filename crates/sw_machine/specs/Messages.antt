@@ -17,19 +17,19 @@ use Rattle.sw_state.specs.declared.write.Write.{Write}
 
 pub data Message : Type 0 where
   Write_of : (to : ℕ) (name : Name) (write : Write) → Message
-  Row_of : (to : ℕ) (place : Place) (row : Row) → Message
-  Rows_of : (to : ℕ) (place at : Place) (rows : List Row) → Message  -- of the first container, to the second: itself, or a shard
-  Update_of : (to : ℕ) (filed : Filed) (place : Place) (row : Row) → Message  -- the row that this record is for, to its container
+  Row_of : (to : ℕ) (place at : Place) (row : Row) → Message  -- of the first container, to the second: itself, or a shard
+  Rows_of : (to : ℕ) (place at : Place) (rows : List Row) → Message  -- so do these
+  Update_of : (to : ℕ) (filed : Filed) (place at : Place) (row : Row) → Message  -- the row that this record is for, of its container, to that or a shard
   Creation_of : (to : ℕ) (place : Place) (time : ℕ) → Message  -- of a container
   Ranges_of : (to : ℕ) (place : Place) (ranges : List Range) → Message  -- the shard ranges of a container
 
 -- it comes to this device as this step
 abbrev pub Arrives : Message → ℕ → Event → Type 0
 Arrives (Write_of to name write) device (Changed n change answer) = (to ≡ device) × (n ≡ name) × (change ≡ Receive write)
-Arrives (Row_of to place row) device (AtContainer (cont_events.Changed p change answer) entries) = (to ≡ device) × (p ≡ place) × (change ≡ MergeRow row)
+Arrives (Row_of to place at row) device (AtContainer (cont_events.Changed p change answer) entries) = (to ≡ device) × (p ≡ at) × (change ≡ MergeRow row)
 Arrives (Rows_of to place at rows) device (AtContainer (cont_events.Changed p change answer) entries) = (to ≡ device) × (p ≡ at) × (change ≡ MergeRows rows)
-Arrives (Update_of to filed place row) device (AtContainer (cont_events.Changed p change answer) entries) =
-    (to ≡ device) × (p ≡ place) × (change ≡ MergeRow row)
+Arrives (Update_of to filed place at row) device (AtContainer (cont_events.Changed p change answer) entries) =
+    (to ≡ device) × (p ≡ at) × (change ≡ MergeRow row)
 Arrives (Creation_of to place time) device (AtContainer (cont_events.Changed p change answer) entries) = (to ≡ device) × (p ≡ place) × (change ≡ Create time)
 Arrives (Ranges_of to place ranges) device (AtContainer (cont_events.Changed p change answer) entries) =
     (to ≡ device) × (p ≡ place) × (change ≡ SetRanges ranges)
