@@ -1,14 +1,13 @@
 -- The ledger that accounts for a machine.
-use Rattle.std.proofs.Common.{◌≡◌, ℕ, true, false, List, Some, ◌⊎◌}
+use Rattle.std.proofs.Common.{◌≡◌, ℕ, true, List, Some, ◌⊎◌}
 use Rattle.std.specs.Bool.{⊤}
 use Rattle.std.specs.List.{All, Contains}
 use Rattle.sw_container_steps.specs.Entries.{rows_of}
-use Rattle.sw_container_steps.specs.Rules.{cont_ending}
 use Rattle.sw_container_steps.specs.declared.cont_answer.ContAnswer.{ContAnswer}
 use Rattle.sw_container_steps.specs.declared.cont_change.ContChange.TheVariants.{MergeRow}
 use Rattle.sw_container_steps.specs.declared.cont_entry.ContEntry.{ContEntry}
 use Rattle.sw_hashpath.specs.declared.place.Place.{Place}
-use Rattle.sw_machine.specs.Machine.{Came, ContSide, KnownWrite, Machine, ObjSide, RunLine, Went, is_emptied}
+use Rattle.sw_machine.specs.Machine.{Came, ContSide, KnownWrite, Machine, ObjSide, RunLine, Went}
 use Rattle.sw_machine.specs.Messages.{Creation_of, Message, Ranges_of, Row_of, Rows_of, Update_of, Write_of}
 use Rattle.sw_machine.specs.Sides.{TellsAt}
 use Rattle.sw_object_steps.specs.Journals.{Hash}
@@ -25,12 +24,12 @@ use Rattle.sw_rows.specs.Rows.{IsListed, Listed}
 use Rattle.sw_rows.specs.declared.row.Row.{Row}
 use Rattle.sw_state.specs.Bases.{base_at}
 use Rattle.sw_state.specs.declared.base.Base.{Base}
-use Rattle.sw_step.specs.Rules.{has_made}
 use Rattle.sw_listing_laws.proofs.Bringing.{HasOnly}
 use Rattle.sw_listing_laws.proofs.Grounds.{ground}
-use Rattle.sw_listing_laws.proofs.Splitting.{IsSplitWhereEmptied}
+use Rattle.sw_listing_laws.proofs.Redirecting.{IsHeard}
+use Rattle.sw_listing_laws.proofs.Splitting.{IsKept, IsSplitWhereEmptied}
 use Rattle.sw_listing_laws.proofs.Standing.{Stands, reach}
-use Rattle.sw_listing_laws.specs.Honest.{Cluster, IsNamed}
+use Rattle.sw_listing_laws.specs.Plain.{Cluster, IsNamed}
 
 -- ---- objects
 
@@ -55,10 +54,11 @@ pub record ObjAccounts (c : Cluster) (m : ObjSide) (records : ℕ → Records) (
 
 -- ---- containers
 
--- The ledger has all rows that came. A device has the same where no rows were taken away, which is done only where it has shard ranges
+-- The ledger has all rows that came, also those that were left to shards. A device has the same where it keeps all; rows are taken away only where it has shard
+-- ranges
 pub record ContAccounts (c : Cluster) (m : ContSide) (tables : ℕ → Place → Listed) : Type 0 where
   pub tell : (device : ℕ) (place : Place) → TellsAt (cont_lock c.nodes) m device place
-  pub rows : (device : ℕ) (place : Place) → is_emptied (m.half.holds device place) ≡ false → tables device place ≡ rows_of (m.half.holds device place)
+  pub rows : (device : ℕ) (place : Place) → IsKept (m.half.holds device place) → tables device place ≡ rows_of (m.half.holds device place)
   pub listed : (device : ℕ) (place : Place) → IsListed (tables device place)
   pub split : (device : ℕ) (place : Place) → IsSplitWhereEmptied (m.half.holds device place)
 
@@ -81,9 +81,10 @@ told from filed row = record { from = from; key = key_of filed; row = row }
 
 abbrev pub IsAccounted : Cluster → Ledger → Message → Type 0
 IsAccounted c l (Write_of to name write) = (b : Base) → base_at write.time write.kind ≡ Some b → HasReached l name.hash b
-IsAccounted c l (Row_of to place row) = IsRight c l place row
+IsAccounted c l (Row_of to place at row) = IsRight c l at row
 IsAccounted c l (Rows_of to place at rows) = All (IsRight c l at) rows
-IsAccounted c l (Update_of to filed place row) = (from : ℕ) × Contains l.sent (told from filed row) × (place ≡ (ground c).place filed.name.hash)
+IsAccounted c l (Update_of to filed place at row) =
+    (from : ℕ) × Contains l.sent (told from filed row) × ((at ≡ (ground c).place filed.name.hash) ⊎ (c.is_hidden at ≡ true))
 IsAccounted c l (Creation_of to place time) = ⊤
 IsAccounted c l (Ranges_of to place ranges) = ⊤
 
@@ -100,12 +101,12 @@ pub record Accounts (c : Cluster) (m : Machine) (l : Ledger) : Type 0 where
 
 -- ---- lines
 
--- what the ledger has of a line that is done: an update was sent, and a row that a device acknowledged is there
+-- what the ledger has of a line that is done: an update was sent, and a row that a device took, or left to a shard, is there
 abbrev pub Says : Cluster → Ledger → RunLine → Type 0
-Says c l (Went from (Update_of to filed place row)) = Contains l.sent (told from filed row) × (place ≡ (ground c).place filed.name.hash)
+Says c l (Went from (Update_of to filed place at row)) = Contains l.sent (told from filed row) × (place ≡ (ground c).place filed.name.hash)
 Says c l (Went from message) = ⊤
 Says c l (Came line) = (place : Place) (row : Row) (answer : ContAnswer) (entries : List ContEntry)
-    → line.event ≡ AtContainer (cont_events.Changed place (MergeRow row) answer) entries → has_made (cont_ending answer) ≡ true
+    → line.event ≡ AtContainer (cont_events.Changed place (MergeRow row) answer) entries → IsHeard answer
     → IsHeld (l.tables line.device place) row.name row.created_at row.deleted
 
 abbrev pub Tells : Cluster → Ledger → List RunLine → Type 0

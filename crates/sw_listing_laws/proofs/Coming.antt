@@ -1,16 +1,15 @@
 -- The ledger goes on with what comes to a device.
-use Rattle.std.proofs.Common.{◌≡◌, ℕ, true, false, List, Option, ◌⊎◌, inl, inr, refl, sym, ap, subst}
+use Rattle.std.proofs.Common.{◌≡◌, ℕ, List, Option, ◌⊎◌, inl, inr, refl, sym, ap, subst}
 use Rattle.std.specs.List.{Contains}
 use Rattle.std.proofs.lemmas.Bool.{cases_eq}
 use Rattle.sw_container_steps.specs.Entries.{rows_of}
-use Rattle.sw_container_steps.specs.Rules.{cont_ending}
 use Rattle.sw_container_steps.specs.declared.cont_answer.ContAnswer.{ContAnswer}
 use Rattle.sw_container_steps.specs.declared.cont_change.ContChange.{ContChange}
 use Rattle.sw_container_steps.specs.declared.cont_change.ContChange.TheVariants.{MergeRow}
 use Rattle.sw_container_steps.specs.declared.cont_entry.ContEntry.{ContEntry}
 use Rattle.sw_hashpath.specs.declared.place.Place.{Place}
 use Rattle.sw_keeper.specs.declared.tables.Tables.{Tables}
-use Rattle.sw_machine.specs.Machine.{Came, ContSide, KnownWrite, Machine, RunLine, is_emptied}
+use Rattle.sw_machine.specs.Machine.{Came, ContSide, KnownWrite, Machine, RunLine}
 use Rattle.sw_machine.specs.Sides.{Side, SideRestarts, TellsAt}
 use Rattle.sw_object_steps.specs.Journals.{Hash}
 use Rattle.sw_object_steps.specs.Values.{ObjValue}
@@ -22,15 +21,15 @@ use Rattle.sw_peer.specs.declared.link.Link.{Link}
 use Rattle.sw_pending_laws.specs.Ledger.{IsHeld, Ledger}
 use Rattle.sw_rows.specs.Rows.{Listed as RowList}
 use Rattle.sw_rows.specs.declared.row.Row.{Row}
-use Rattle.sw_step.specs.Rules.{has_made}
 use Rattle.sw_listing_laws.proofs.Accounts.{Accounts, AreAccounted, AreRight, ContAccounts, Fits, IsKnown, IsRight, ObjAccounts, Says}
 use Rattle.sw_listing_laws.proofs.Bringing.{HasOnly}
 use Rattle.sw_listing_laws.proofs.Going.{LineNext, all-right-still, all-still, goes-nowhere}
 use Rattle.sw_listing_laws.proofs.Grounds.{ground}
 use Rattle.sw_listing_laws.proofs.Merging.{ContNext}
 use Rattle.sw_listing_laws.proofs.Objects.{ObjNext}
-use Rattle.sw_listing_laws.proofs.Splitting.{IsSplitWhereEmptied}
-use Rattle.sw_listing_laws.specs.Honest.{Cluster}
+use Rattle.sw_listing_laws.proofs.Redirecting.{IsHeard}
+use Rattle.sw_listing_laws.proofs.Splitting.{IsKept, IsSplitWhereEmptied}
+use Rattle.sw_listing_laws.specs.Plain.{Cluster}
 
 -- ---- what leaves all that is held
 
@@ -74,7 +73,7 @@ module _ (c : Cluster) (m : Machine) (l : Ledger) (accounts : Accounts c m l) (a
   containers-stay tell holds = record {
     tell = tell;
     rows = λ d p.
-        subst (λ (t : Option Tables). is_emptied t ≡ false → l.tables d p ≡ rows_of t) (sym (holds d p)) (accounts.containers.rows d p);
+        subst (λ (t : Option Tables). IsKept t → l.tables d p ≡ rows_of t) (sym (holds d p)) (accounts.containers.rows d p);
     listed = accounts.containers.listed;
     split = λ d p. subst IsSplitWhereEmptied (sym (holds d p)) (accounts.containers.split d p);
   }
@@ -131,15 +130,15 @@ module _ (c : Cluster) (m : Machine) (l : Ledger) (accounts : Accounts c m l) (a
         right = n.right;
         sent = messages-stay (record l { tables = n.tables }) (all-still c l (record l { tables = n.tables }) n.goes m.sent accounts.sent);
       };
-      says = λ p row ans es event made. says p row ans es event made;
+      says = λ p row ans es event heard. says p row ans es event heard;
     }
       where
         says : (p : Place) (row : Row) (ans : ContAnswer) (es : List ContEntry)
             → AtContainer (cont_events.Changed place change answer) entries ≡ AtContainer (cont_events.Changed p (MergeRow row) ans) es
-            → has_made (cont_ending ans) ≡ true → IsHeld (n.tables device p) row.name row.created_at row.deleted
-        says p row ans es event made =
+            → IsHeard ans → IsHeld (n.tables device p) row.name row.created_at row.deleted
+        says p row ans es event heard =
             let place_is : place ≡ p = cc in
             let change_is : change ≡ MergeRow row = cc in
             let answer_is : answer ≡ ans = cc in
             subst (λ (q : Place). IsHeld (n.tables device q) row.name row.created_at row.deleted) place_is
-            (n.acknowledged row change_is (subst (λ (x : ContAnswer). has_made (cont_ending x) ≡ true) (sym answer_is) made))
+            (n.heard row change_is (subst IsHeard (sym answer_is) heard))

@@ -15,7 +15,7 @@ use Rattle.sw_rows.specs.declared.numbered.Numbered.{Numbered}
 use Rattle.sw_rows.specs.declared.row.Row.{Row}
 use Rattle.sw_listing_laws.proofs.Accounts.{Accounts, AreAccounted, AreRight, IsAccounted, IsRight, Says, Tells}
 use Rattle.sw_listing_laws.proofs.Grounds.{ground}
-use Rattle.sw_listing_laws.specs.Honest.{Cluster}
+use Rattle.sw_listing_laws.specs.Plain.{Cluster}
 
 -- what was true of the ledger is, and what it had it has
 pub record Goes (g : Ground) (l after : Ledger) : Type 0 where
@@ -70,9 +70,9 @@ module _ (c : Cluster) (l after : Ledger) (goes : Goes (ground c) l after) where
 
   pub accounted-still : (message : Message) → IsAccounted c l message → IsAccounted c after message
   accounted-still (Write_of to name write) is = λ b base. ((is b base).0, goes.reached (is b base).0 (is b base).1, (is b base).2, (is b base).3)
-  accounted-still (Row_of to place row) is = right-still place row is
+  accounted-still (Row_of to place at row) is = right-still at row is
   accounted-still (Rows_of to place at rows) is = λ k d within. right-still at _ (is k d within)
-  accounted-still (Update_of to filed place row) is = (is.0, goes.sent _ is.1, is.2)
+  accounted-still (Update_of to filed place at row) is = (is.0, goes.sent _ is.1, is.2)
   accounted-still (Creation_of to place time) is = tt
   accounted-still (Ranges_of to place ranges) is = tt
 
@@ -81,13 +81,13 @@ module _ (c : Cluster) (l after : Ledger) (goes : Goes (ground c) l after) where
 
   says-still : (line : RunLine) → Says c l line → Says c after line
   says-still (Went from (Write_of to name write)) is = tt
-  says-still (Went from (Row_of to place row)) is = tt
+  says-still (Went from (Row_of to place at row)) is = tt
   says-still (Went from (Rows_of to place at rows)) is = tt
-  says-still (Went from (Update_of to filed place row)) is = (goes.sent _ is.0, is.1)
+  says-still (Went from (Update_of to filed place at row)) is = (goes.sent _ is.0, is.1)
   says-still (Went from (Creation_of to place time)) is = tt
   says-still (Went from (Ranges_of to place ranges)) is = tt
-  says-still (Came line) is = λ place row answer entries event made.
-      goes.rise line.device place row.name row.created_at row.deleted (is place row answer entries event made)
+  says-still (Came line) is = λ place row answer entries event heard.
+      goes.rise line.device place row.name row.created_at row.deleted (is place row answer entries event heard)
 
   pub tells-still : (done : List RunLine) → Tells c l done → Tells c after done
   tells-still done tells line there = says-still line (tells line there)

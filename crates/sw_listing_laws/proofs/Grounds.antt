@@ -5,7 +5,7 @@ use Rattle.sw_hashpath.specs.Places.{IsPlaceOf}
 use Rattle.sw_hashpath.specs.declared.name.Name.{Name}
 use Rattle.sw_hashpath.specs.declared.place.Place.{Place}
 use Rattle.sw_pending_laws.specs.Ledger.{Ground}
-use Rattle.sw_listing_laws.specs.Honest.{Cluster, IsNamed}
+use Rattle.sw_listing_laws.specs.Plain.{Cluster, IsNamed}
 
 -- the container of an object of this name
 abbrev pub home : Cluster → Name → Place

@@ -1,6 +1,7 @@
 pub mod Grounds
 pub mod Standing
 pub mod Splitting
+pub mod Redirecting
 pub mod Bringing
 pub mod Accounts
 pub mod Going
@@ -17,7 +18,6 @@ pub mod Sending
 pub mod Coming
 pub mod Running
 pub mod Showing
-pub mod Honesty
 pub mod Texts
 pub mod Listing
 pub mod Listed

@@ -1,8 +1,7 @@
 -- A replica's live rows are those of the live objects, so it lists what these do; and so does each listing that comes.
 use Rattle.std.proofs.Common.{◌≡◌, ℕ, Bool, true, false, cond, not, ◌&&◌, List, [], ◌∷◌, length, Option, None, Some, Ok, Err, refl, sym, ◌∙◌, ap, subst}
-use Rattle.std.proofs.Common.{◌⊎◌, inl, inr}
+use Rattle.std.specs.List.{Contains}
 use Rattle.std.specs.Str.{IsUtf8}
-use Rattle.std.proofs.lemmas.Bool.{cases_Bool}
 use mathlib.Core.HLevel.{is_prop→PathP}
 use mathlib.Core.Logic.{∥∥₁_prop}
 use Rattle.sw_container_steps.specs.Entries.{rows_of}
@@ -20,7 +19,7 @@ use Rattle.sw_listing.specs.Listing.{entry_of, listing, shows}
 use Rattle.sw_listing.specs.declared.entry.Entry.{Entry}
 use Rattle.sw_listing.specs.declared.query.Query.{Query}
 use Rattle.sw_machine.proofs.Runs.{rows-are-merged}
-use Rattle.sw_machine.specs.Machine.{Came, Comes, ContReads, ContSide, Machine, is_emptied}
+use Rattle.sw_machine.specs.Machine.{Came, Comes, ContReads, ContSide, Machine, RunLine}
 use Rattle.sw_machine.specs.Sides.{TellsAt}
 use Rattle.sw_object_steps.specs.BaseRows.{IsRowOf}
 use Rattle.sw_peer.specs.Sights.{Nodes, cont_lock}
@@ -38,10 +37,10 @@ use Rattle.sw_listing_laws.proofs.Accounts.{Accounts}
 use Rattle.sw_listing_laws.proofs.Grounds.{ground-place, named-object, one-hash, one-name}
 use Rattle.sw_listing_laws.proofs.Listing.{contained-in, in-contained, listing-one, row-found, row-itself}
 use Rattle.sw_listing_laws.proofs.Running.{IsAtEnd, ends}
-use Rattle.sw_listing_laws.proofs.Showing.{begins, settled-shows}
-use Rattle.sw_listing_laws.proofs.Splitting.{IsSplitWhereEmptied}
-use Rattle.sw_listing_laws.specs.Honest.{Cluster, IsNamed}
-use Rattle.sw_listing_laws.specs.Laws.{AreLiveRows, DoAgree, IsLive, ListingsAreExact, SettledContainersListExactly, ShowsExactly}
+use Rattle.sw_listing_laws.proofs.Showing.{begins, kept-shows}
+use Rattle.sw_listing_laws.proofs.Splitting.{IsKept, unsplit-kept, whole-kept}
+use Rattle.sw_listing_laws.specs.Laws.{AreLiveRows, DoAgree, IsLive, IsNew, IsSettled, ListingsAreExact, SettledContainersListExactly, ShowsExactly}
+use Rattle.sw_listing_laws.specs.Plain.{Cluster, IsNamed, RunsSoundly}
 
 -- ---- rows of one live object are one
 
@@ -104,7 +103,7 @@ module _ (c : Cluster) (m : Machine) (l : Ledger) (accounts : Accounts c m l) (s
 
   -- ---- what a replica lists
 
-  module _ (device : ℕ) (kept : is_emptied (m.containers.half.holds device place) ≡ false) (shown : (object : List ℕ) → ShowsExactly c m device place object)
+  module _ (device : ℕ) (kept : IsKept (m.containers.half.holds device place)) (shown : (object : List ℕ) → ShowsExactly c m device place object)
       (rows : List Numbered) (are : AreLiveRows c m place rows) where
     abbrev held : List Numbered
     held = (rows_of (m.containers.half.holds device place)).list
@@ -136,11 +135,18 @@ module _ (c : Cluster) (m : Machine) (l : Ledger) (accounts : Accounts c m l) (s
       pub lists-exactly : listing query held ≡ listing query rows
       lists-exactly = listing-one query held rows once are.once forth back
 
-pub settled-lists : SettledContainersListExactly
-settled-lists c m lines after new run same place shown all device ring kept rows are query =
+kept-lists : (c : Cluster) (m : Machine) (lines : List RunLine) (after : Machine) → IsNew c m → RunsSoundly c [] m lines after → DoAgree after
+    → (place : Place) → c.is_hidden place ≡ false → IsSettled c after place → (device : ℕ) → Contains (c.replicas place) device
+    → IsKept (after.containers.half.holds device place) → (rows : List Numbered) → AreLiveRows c after place rows → (query : Query)
+    → listing query (rows_of (after.containers.half.holds device place)).list ≡ listing query rows
+kept-lists c m lines after new run same place shown all device ring kept rows are query =
     let e : IsAtEnd c after = ends c lines [] m begun after (begins c m new) run in
     lists-exactly c after e.ledger e.accounts same place device kept
-    (λ object. settled-shows c m lines after new run same place shown all device ring kept object) rows are query
+    (λ object. kept-shows c m lines after new run same place shown all device ring kept object) rows are query
+
+pub settled-lists : SettledContainersListExactly
+settled-lists c m lines after new run same place shown all device ring whole rows are query =
+    kept-lists c m lines after new run same place shown all device ring (whole-kept (after.containers.half.holds device place) whole) rows are query
 
 -- ---- what comes in a run
 
@@ -164,20 +170,12 @@ read-listed nodes m after device place query listed entries reads told whole =
     at None whole is = cc
     at (Some t) whole is = present t (is_no_time (deletion_after t.put_time t.delete_time)) whole is
 
--- what has no ranges has its rows
-kept-unsplit : (t : Option Tables) → IsSplitWhereEmptied t → IsUnsplit t → is_emptied t ≡ false
-kept-unsplit t split whole = by (cases_Bool (is_emptied t))
-  where
-    by : (is_emptied t ≡ true) ⊎ (is_emptied t ≡ false) → is_emptied t ≡ false
-    by (inl gone) = absurd (split gone whole)
-    by (inr kept) = kept
-
 pub listings-exact : ListingsAreExact
 listings-exact c m lines mid line after new run step same place query listed entries event shown all ring whole rows are =
     let e : IsAtEnd c mid = ends c lines [] m begun mid (begins c m new) run in
     let came = subst (λ (x : Event). Comes c.nodes mid line.device x line.added after) event step.1 in
     let told : TellsAt (cont_lock c.nodes) after.containers line.device place =
     ((rows-are-merged c.nodes mid (Came line ∷ []) after (after, step, refl)).place line.device place (e.accounts.containers.tell line.device place)).told in
-    let kept = kept-unsplit (mid.containers.half.holds line.device place) (e.accounts.containers.split line.device place) whole in
+    let kept = unsplit-kept (mid.containers.half.holds line.device place) (e.accounts.containers.split line.device place) whole in
     read-listed c.nodes mid.containers after.containers line.device place query listed entries came.1 told whole
-    ∙ settled-lists c m lines mid new run same place shown all line.device ring kept rows are query
+    ∙ kept-lists c m lines mid new run same place shown all line.device ring kept rows are query

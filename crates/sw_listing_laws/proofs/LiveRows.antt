@@ -4,7 +4,7 @@ use Rattle.std.specs.List.{find}
 use Rattle.sw_container_steps.specs.Entries.{rows_of}
 use Rattle.sw_hashpath.specs.declared.place.Place.{Place}
 use Rattle.sw_listing.proofs.Members.{In}
-use Rattle.sw_machine.specs.Machine.{Machine, is_emptied}
+use Rattle.sw_machine.specs.Machine.{Machine}
 use Rattle.sw_object_steps.specs.BaseRows.{IsRowOf}
 use Rattle.sw_pending_laws.specs.Laws.{begun}
 use Rattle.sw_pending_laws.specs.Ledger.{Ledger}
@@ -17,8 +17,9 @@ use Rattle.sw_listing_laws.proofs.Accounts.{Accounts}
 use Rattle.sw_listing_laws.proofs.Listing.{contained-in, in-contained, row-found, row-itself}
 use Rattle.sw_listing_laws.proofs.Running.{IsAtEnd, ends}
 use Rattle.sw_listing_laws.proofs.Showing.{begins, settled-shows}
-use Rattle.sw_listing_laws.specs.Honest.{Cluster}
+use Rattle.sw_listing_laws.proofs.Splitting.{IsKept, whole-kept}
 use Rattle.sw_listing_laws.specs.Laws.{AreLiveRows, LiveRowsAreThere, ShowsExactly}
+use Rattle.sw_listing_laws.specs.Plain.{Cluster}
 
 abbrev live : Numbered → Bool
 live n = not n.row.deleted
@@ -67,7 +68,7 @@ once-kept (m ∷ ms) once = at (live m) (once-kept ms once.1)
     at false later = later
 
 module _ (c : Cluster) (m : Machine) (l : Ledger) (accounts : Accounts c m l) (place : Place) (device : ℕ)
-    (kept : is_emptied (m.containers.half.holds device place) ≡ false) (shown : (object : List ℕ) → ShowsExactly c m device place object) where
+    (kept : IsKept (m.containers.half.holds device place)) (shown : (object : List ℕ) → ShowsExactly c m device place object) where
   abbrev held : List Numbered
   held = (rows_of (m.containers.half.holds device place)).list
 
@@ -95,7 +96,7 @@ module _ (c : Cluster) (m : Machine) (l : Ledger) (accounts : Accounts c m l) (p
       named object (bases.Del time) row is = is.name_is
 
 pub live-rows-there : LiveRowsAreThere
-live-rows-there c m lines after new run same place shown all device ring kept =
+live-rows-there c m lines after new run same place shown all device ring whole =
     let e : IsAtEnd c after = ends c lines [] m begun after (begins c m new) run in
-    live-rows c after e.ledger e.accounts place device kept
-    (λ object. settled-shows c m lines after new run same place shown all device ring kept object)
+    live-rows c after e.ledger e.accounts place device (whole-kept (after.containers.half.holds device place) whole)
+    (λ object. settled-shows c m lines after new run same place shown all device ring whole object)

@@ -1,9 +1,10 @@
 -- The ledger goes on with a step at a container.
-use Rattle.std.proofs.Common.{◌≡◌, ℕ, Bool, true, false, cond, ◌&&◌, nat_eq, List, [], ◌∷◌, map, Option, ◌⊎◌, inl, inr, refl, sym, ◌∙◌, ap, subst}
-use Rattle.std.proofs.Common.{if◌then◌else◌, true≢false}
+use Rattle.std.proofs.Common.{◌≡◌, ℕ, Bool, true, false, cond, ◌&&◌, nat_eq, List, [], ◌∷◌, ◌++◌, map, Option, ◌⊎◌, inl, inr, refl, sym, ◌∙◌, ap, subst}
+use Rattle.std.proofs.Common.{if◌then◌else◌}
 use Rattle.std.specs.List.{All, fold}
-use Rattle.std.proofs.lemmas.Bool.{and_parts, cases_Bool, eq-eqb, eqb-true}
-use Rattle.std.proofs.lemmas.List.Elements.{All-head, All-nil, All-tail}
+use Rattle.std.proofs.lemmas.Bool.{and_parts, eq-eqb, eqb-true}
+use Rattle.std.proofs.lemmas.List.{append-nil}
+use Rattle.std.proofs.lemmas.List.Elements.{All-append, All-head, All-nil, All-tail}
 use Rattle.sw_container_steps.proofs.Placing.{place-same, place-self}
 use Rattle.sw_container_steps.proofs.Ruling.{made-whole}
 use Rattle.sw_container_steps.specs.Entries.{entered, is_same_place, rows_of}
@@ -15,8 +16,8 @@ use Rattle.sw_container_steps.specs.declared.cont_change.ContChange.TheVariants.
 use Rattle.sw_container_steps.specs.declared.cont_entry.ContEntry.{ContEntry}
 use Rattle.sw_hashpath.specs.declared.place.Place.{Place}
 use Rattle.sw_keeper.specs.declared.tables.Tables.{Tables}
-use Rattle.sw_machine.proofs.Rows.{emptied-still, unemptied-merges}
-use Rattle.sw_machine.specs.Machine.{ContMakes, ContSide, KnownRow, is_emptied, made_rows, rows_in, was_made}
+use Rattle.sw_machine.proofs.Rows.{unemptied-merges}
+use Rattle.sw_machine.specs.Machine.{ContMakes, ContSide, KnownRow, made_rows, rows_in, was_made}
 use Rattle.sw_machine.specs.Sides.{TellsAt}
 use Rattle.sw_peer.specs.Sights.{cont_lock}
 use Rattle.sw_pending_laws.specs.Ledger.{AreMerged, IsHeld, IsPlain, Ledger}
@@ -29,8 +30,9 @@ use Rattle.sw_listing_laws.proofs.Accounts.{AreRight, ContAccounts, IsRight}
 use Rattle.sw_listing_laws.proofs.Bringing.{HasOnly, step-only}
 use Rattle.sw_listing_laws.proofs.Going.{Goes, goes-by, goes-nowhere, goes-on}
 use Rattle.sw_listing_laws.proofs.Grounds.{ground}
-use Rattle.sw_listing_laws.proofs.Splitting.{IsSplitWhereEmptied, split-still}
-use Rattle.sw_listing_laws.specs.Honest.{Cluster}
+use Rattle.sw_listing_laws.proofs.Redirecting.{IsHeard, is_redirect, left-only, left-so, left-unmade, left_rows, made-here, none-left}
+use Rattle.sw_listing_laws.proofs.Splitting.{IsKept, IsSplitWhereEmptied, kept-rows, kept-still, split-still}
+use Rattle.sw_listing_laws.specs.Plain.{Cluster}
 
 module _ (device : ℕ) (place : Place) where
   -- ---- tables in which rows were merged into those of this device and container
@@ -96,14 +98,13 @@ module _ (device : ℕ) (place : Place) where
 
     -- ---- a step
 
-    -- a ledger that accounts for these containers, and differs from this one in the rows alone: a row that was acknowledged is there
+    -- a ledger that accounts for these containers, and differs from this one in the rows alone: a row that was taken, or left to a shard, is there
     pub record ContNext (l : Ledger) (change : ContChange) (answer : ContAnswer) (after : ContSide) : Type 0 where
       pub tables : ℕ → Place → Listed
       pub goes : Goes (ground c) l (record l { tables = tables })
       pub accounts : ContAccounts c after tables
       pub right : AreRight c l after
-      pub acknowledged : (row : Row) → change ≡ MergeRow row → has_made (cont_ending answer) ≡ true
-          → IsHeld (tables device place) row.name row.created_at row.deleted
+      pub heard : (row : Row) → change ≡ MergeRow row → IsHeard answer → IsHeld (tables device place) row.name row.created_at row.deleted
 
     module _ (m : ContSide) (l : Ledger) (accounts : ContAccounts c m l.tables) (stood : AreRight c l m) (change : ContChange) (answer : ContAnswer)
         (added : List ContEntry) (after : ContSide) (makes : ContMakes c.nodes m device place change answer added after)
@@ -118,9 +119,15 @@ module _ (device : ℕ) (place : Place) where
       rows-are : rows ≡ (if was_made answer makes.step.made then rows_in change else [])
       rows-are = rows-back (if was_made answer makes.step.made then rows_in change else [])
 
-      all-right : All (IsRight c l place) (rows_in change) → All (IsRight c l place) rows
+      -- with those that are left to a shard
+      abbrev all_rows : List Row
+      all_rows = rows ++ left_rows change answer
+
+      all-right : All (IsRight c l place) (rows_in change) → All (IsRight c l place) all_rows
       all-right right =
-          subst (λ (xs : List Row). All (IsRight c l place) xs) (sym rows-are) (by (was_made answer makes.step.made))
+          All-append (IsRight c l place) rows (left_rows change answer)
+          (subst (λ (xs : List Row). All (IsRight c l place) xs) (sym rows-are) (by (was_made answer makes.step.made)))
+          (left-only (IsRight c l place) change answer right)
         where
           by : (b : Bool) → All (IsRight c l place) (if b then rows_in change else [])
           by true = right
@@ -144,35 +151,33 @@ module _ (device : ℕ) (place : Place) where
               (subst (λ (q : Place). P device q (after.half.holds device q)) (sym (place-same p place parts.1)) this)
           by false is = subst (λ (t : Option Tables). P d p t) (sym (makes.moves.others refl d p (λ same. apart is same))) (others d p is)
 
-      -- ---- the rows that came, where none were taken away
+      -- ---- the rows that came, where all are kept
 
-      -- nor were they before
-      kept-before : is_emptied (after.half.holds device place) ≡ false → is_emptied (m.half.holds device place) ≡ false
-      kept-before kept = by (cases_Bool (is_emptied (m.half.holds device place)))
-        where
-          by : (is_emptied (m.half.holds device place) ≡ true) ⊎ (is_emptied (m.half.holds device place) ≡ false)
-              → is_emptied (m.half.holds device place) ≡ false
-          by (inl gone) =
-              let still : is_emptied (after.half.holds device place) ≡ true =
-              emptied-still (m.half.seen (cont_lock c.nodes device place)) makes.held place change answer (after.half.seen (cont_lock c.nodes device place))
-              (after.half.holds device place) makes.step (accounts.tell device place) (ap is_emptied (makes.is_held place refl) ∙ gone) in
-              absurd (true≢false (sym still ∙ kept))
-          by (inr stays) = stays
+      -- they were before
+      kept-before : IsKept (after.half.holds device place) → IsKept (m.half.holds device place)
+      kept-before kept =
+          let leaves = makes.step.leaves refl (makes.step.follows.told ∙ accounts.tell device place) in
+          subst IsKept (makes.is_held place refl) (kept-still (makes.held place) makes.step.made (subst IsKept leaves kept))
 
-      here-rows : is_emptied (after.half.holds device place) ≡ false
-          → fold merge_at l.tables rows device place ≡ rows_of (after.half.holds device place)
+      here-rows : IsKept (after.half.holds device place) → fold merge_at l.tables all_rows device place ≡ rows_of (after.half.holds device place)
       here-rows kept =
-          all-here l.tables rows
+          all-here l.tables all_rows
+          ∙ (ap (λ (xs : List Row). fold merged (l.tables device place) xs) (ap (λ (xs : List Row). rows ++ xs) none ∙ append-nil rows)
           ∙ sym
           (unemptied-merges (m.half.seen (cont_lock c.nodes device place)) makes.held place change answer (after.half.seen (cont_lock c.nodes device place))
-          (after.half.holds device place) makes.step (accounts.tell device place) kept
+          (after.half.holds device place) makes.step (accounts.tell device place) (kept-rows (after.half.holds device place) kept)
           ∙ (ap (λ (t : Option Tables). fold merged (rows_of t) rows) (makes.is_held place refl)
-          ∙ ap (λ (t : Listed). fold merged t rows) (sym (accounts.rows device place (kept-before kept)))))
+          ∙ ap (λ (t : Listed). fold merged t rows) (sym (accounts.rows device place (kept-before kept))))))
+        where
+          none : left_rows change answer ≡ []
+          none =
+              none-left (m.half.seen (cont_lock c.nodes device place)) makes.held place change answer (after.half.seen (cont_lock c.nodes device place))
+              (after.half.holds device place) makes.step (accounts.tell device place) kept
 
-      each-row : (d : ℕ) (p : Place) → is_emptied (after.half.holds d p) ≡ false → fold merge_at l.tables rows d p ≡ rows_of (after.half.holds d p)
+      each-row : (d : ℕ) (p : Place) → IsKept (after.half.holds d p) → fold merge_at l.tables all_rows d p ≡ rows_of (after.half.holds d p)
       each-row =
-          each (λ d p t. is_emptied t ≡ false → fold merge_at l.tables rows d p ≡ rows_of t) here-rows
-          (λ d p is kept. all-apart l.tables rows d p is ∙ accounts.rows d p kept)
+          each (λ d p t. IsKept t → fold merge_at l.tables all_rows d p ≡ rows_of t) here-rows
+          (λ d p is kept. all-apart l.tables all_rows d p is ∙ accounts.rows d p kept)
 
       -- ---- what entries leave
 
@@ -207,28 +212,37 @@ module _ (device : ℕ) (place : Place) where
           (stood device place))
           (λ d p is. stood d p)
 
-      acknowledged : (row : Row) → change ≡ MergeRow row → has_made (cont_ending answer) ≡ true
-          → IsHeld (fold merge_at l.tables rows device place) row.name row.created_at row.deleted
-      acknowledged row is made =
-          subst (λ (t : Listed). IsHeld t row.name row.created_at row.deleted) (sym (all-here l.tables rows ∙ one)) (stands-merged (l.tables device place) row)
+      heard : (row : Row) → change ≡ MergeRow row → IsHeard answer → IsHeld (fold merge_at l.tables all_rows device place) row.name row.created_at row.deleted
+      heard row is whether =
+          subst (λ (t : Listed). IsHeld t row.name row.created_at row.deleted)
+          (sym (all-here l.tables all_rows ∙ ap (λ (xs : List Row). fold merged (l.tables device place) xs) (only whether)))
+          (stands-merged (l.tables device place) row)
         where
-          was : (es : List ContEntry) → was_made answer es ≡ true
-          was [] = made
-          was (e ∷ es) = refl
+          was : has_made (cont_ending answer) ≡ true → (es : List ContEntry) → was_made answer es ≡ true
+          was made [] = made
+          was made (e ∷ es) = refl
 
-          only : rows ≡ row ∷ []
-          only =
-              rows-are
-              ∙ (ap (λ (b : Bool). if b then rows_in change else []) (was makes.step.made) ∙ ap rows_in is)
+          -- it came, or is left to a shard
+          came : (b gone : Bool) → was_made answer makes.step.made ≡ b → is_redirect answer ≡ gone → all_rows ≡ cond b (row ∷ []) [] ++ cond gone (row ∷ []) []
+          came b gone made left =
+              ap (λ (xs : List Row). xs ++ left_rows change answer) (rows-are ∙ (ap (λ (x : Bool). if x then rows_in change else []) made
+              ∙ ap (λ (x : ContChange). cond b (rows_in x) []) is))
+              ∙ ap (λ (xs : List Row). cond b (row ∷ []) [] ++ xs)
+              (ap (λ (x : ContChange). left_rows x answer) is ∙ ap (λ (x : Bool). cond x (row ∷ []) []) left)
 
-          one : fold merged (l.tables device place) rows ≡ merged (l.tables device place) row
-          one = ap (λ (xs : List Row). fold merged (l.tables device place) xs) only
+          only : IsHeard answer → all_rows ≡ row ∷ []
+          only (inl made) = came true false (was made makes.step.made) (made-here answer made)
+          only (inr left) =
+              let so =
+              left-so makes.step.looked makes.step.read makes.step.before.journal place change answer makes.step.made
+              (after.half.seen (cont_lock c.nodes device place)).journal makes.step.answered left in
+              came false true (ap (was_made answer) so.not_made ∙ left-unmade answer left) left
 
       pub comes : All (IsRight c l place) (rows_in change) → ContNext l change answer after
       comes right = record {
-        tables = fold merge_at l.tables rows;
-        goes = merges l rows (all-right right);
-        accounts = record { tell = tell; rows = each-row; listed = all-listed l.tables rows accounts.listed; split = each-split };
+        tables = fold merge_at l.tables all_rows;
+        goes = merges l all_rows (all-right right);
+        accounts = record { tell = tell; rows = each-row; listed = all-listed l.tables all_rows accounts.listed; split = each-split };
         right = each-right right;
-        acknowledged = acknowledged;
+        heard = heard;
       }

@@ -1,8 +1,9 @@
 -- What comes to a device, in a message or not, is what the ledger has.
-use Rattle.std.proofs.Common.{◌≡◌, ℕ, List, [], ◌∷◌, ◌++◌, Some, inl, inr, refl, sym, ◌∙◌, ap, subst}
+use Rattle.std.proofs.Common.{◌≡◌, ℕ, true, List, [], ◌∷◌, Some, ◌⊎◌, inl, inr, refl, sym, ◌∙◌, ap, subst}
 use Rattle.std.specs.List.{All, Contains}
 use Rattle.std.proofs.lemmas.List.Elements.{All-cons, All-nil, All-weaker, Contains-append_right}
 use Rattle.sw_container_steps.specs.declared.cont_answer.ContAnswer.{ContAnswer}
+use Rattle.sw_container_steps.specs.declared.cont_answer.ContAnswer.TheVariants.{Redirect}
 use Rattle.sw_container_steps.specs.declared.cont_change.ContChange.{ContChange}
 use Rattle.sw_container_steps.specs.declared.cont_change.ContChange.TheVariants.{Ack, CloseRange, Create, EmptyOut, MergeRow, MergeRows, Remove}
 use Rattle.sw_container_steps.specs.declared.cont_change.ContChange.TheVariants.{SetRanges, SetSync}
@@ -10,6 +11,7 @@ use Rattle.sw_container_steps.specs.declared.cont_entry.ContEntry.{ContEntry}
 use Rattle.sw_hashpath.specs.Places.{IsPlaceOf}
 use Rattle.sw_hashpath.specs.declared.name.Name.{Name}
 use Rattle.sw_hashpath.specs.declared.place.Place.{Place}
+use Rattle.sw_machine.specs.Honest.{CameTo, IsAcknowledged, WasTold}
 use Rattle.sw_machine.specs.Machine.{Came, Machine, RunLine, Went, rows_in}
 use Rattle.sw_machine.specs.Messages.{Arrives, Creation_of, Message, Ranges_of, Row_of, Rows_of, Update_of, Write_of}
 use Rattle.sw_object_steps.specs.BaseRows.{IsRowOf}
@@ -29,9 +31,10 @@ use Rattle.sw_state.specs.declared.base.Base.{Base}
 use Rattle.sw_state.specs.declared.write.Write.{Write}
 use Rattle.sw_listing_laws.proofs.Accounts.{Accounts, HasReached, IsAccounted, IsRight, Tells, told}
 use Rattle.sw_listing_laws.proofs.Grounds.{ground, ground-place, named-object}
+use Rattle.sw_listing_laws.proofs.Redirecting.{IsHeard}
 use Rattle.sw_listing_laws.proofs.Standing.{reach}
 use Rattle.sw_listing_laws.proofs.Stepping.{CanHear}
-use Rattle.sw_listing_laws.specs.Honest.{Cluster, HadReached, IsNamed, IsOfWrite, IsPlainChange, IsPlainRow, WasTaken}
+use Rattle.sw_listing_laws.specs.Plain.{Cluster, HadReached, IsNamed, IsOfWrite, IsPlainChange, IsPlainRow}
 
 -- at the device itself, or in a message
 either-link : {R : Type 0} (link : Link) → (link ≡ Local → R) → (link ≡ Sent → R) → R
@@ -63,9 +66,9 @@ module _ (c : Cluster) (m : Machine) (l : Ledger) (accounts : Accounts c m l) wh
     where
       same : Receive write ≡ Receive w → write ≡ w
       same e = cc
-  write-arrives device name write answer (Row_of to place row) comes is b base_is = absurd comes
+  write-arrives device name write answer (Row_of to place at row) comes is b base_is = absurd comes
   write-arrives device name write answer (Rows_of to place at rows) comes is b base_is = absurd comes
-  write-arrives device name write answer (Update_of to filed place row) comes is b base_is = absurd comes
+  write-arrives device name write answer (Update_of to filed place at row) comes is b base_is = absurd comes
   write-arrives device name write answer (Creation_of to place time) comes is b base_is = absurd comes
   write-arrives device name write answer (Ranges_of to place ranges) comes is b base_is = absurd comes
 
@@ -103,16 +106,19 @@ module _ (c : Cluster) (m : Machine) (l : Ledger) (accounts : Accounts c m l) wh
     row-arrives : (device : ℕ) (place : Place) (row : Row) (answer : ContAnswer) (entries : List ContEntry) (message : Message)
         → Arrives message device (AtContainer (cont_events.Changed place (MergeRow row) answer) entries) → IsAccounted c l message → IsRight c l place row
     row-arrives device place row answer entries (Write_of to name write) comes is = absurd comes
-    row-arrives device place row answer entries (Row_of to p x) comes is =
-        subst (λ (q : Place). IsRight c l q row) (sym comes.1) (subst (λ (y : Row). IsRight c l p y) (sym (same comes.2)) is)
+    row-arrives device place row answer entries (Row_of to p at x) comes is =
+        subst (λ (q : Place). IsRight c l q row) (sym comes.1) (subst (λ (y : Row). IsRight c l at y) (sym (same comes.2)) is)
       where
         same : MergeRow row ≡ MergeRow x → row ≡ x
         same e = cc
     row-arrives device place row answer entries (Rows_of to p at xs) comes is = cc
-    row-arrives device place row answer entries (Update_of to filed p x) comes is =
-        subst (λ (q : Place). IsRight c l q row) (sym (comes.1 ∙ is.2))
-        (subst (λ (y : Row). IsRight c l ((ground c).place filed.name.hash) y) (sym (same comes.2)) (inr (clients.sent (told is.0 filed x) is.1)))
+    row-arrives device place row answer entries (Update_of to filed p at x) comes is =
+        subst (λ (q : Place). IsRight c l q row) (sym comes.1) (subst (λ (y : Row). IsRight c l at y) (sym (same comes.2)) (by is.2))
       where
+        by : (at ≡ (ground c).place filed.name.hash) ⊎ (c.is_hidden at ≡ true) → IsRight c l at x
+        by (inl own) = subst (λ (q : Place). IsRight c l q x) (sym own) (inr (clients.sent (told is.0 filed x) is.1))
+        by (inr hidden) = inl hidden
+
         same : MergeRow row ≡ MergeRow x → row ≡ x
         same e = cc
     row-arrives device place row answer entries (Creation_of to p time) comes is = cc
@@ -122,13 +128,13 @@ module _ (c : Cluster) (m : Machine) (l : Ledger) (accounts : Accounts c m l) wh
         → Arrives message device (AtContainer (cont_events.Changed place (MergeRows rows) answer) entries) → IsAccounted c l message
         → All (IsRight c l place) rows
     rows-arrive device place rows answer entries (Write_of to name write) comes is = absurd comes
-    rows-arrive device place rows answer entries (Row_of to p x) comes is = cc
+    rows-arrive device place rows answer entries (Row_of to p at x) comes is = cc
     rows-arrive device place rows answer entries (Rows_of to p at xs) comes is =
         subst (λ (q : Place). All (IsRight c l q) rows) (sym comes.1) (subst (λ (ys : List Row). All (IsRight c l at) ys) (sym (same comes.2)) is)
       where
         same : MergeRows rows ≡ MergeRows xs → rows ≡ xs
         same e = cc
-    rows-arrive device place rows answer entries (Update_of to filed p x) comes is = cc
+    rows-arrive device place rows answer entries (Update_of to filed p at x) comes is = cc
     rows-arrive device place rows answer entries (Creation_of to p time) comes is = cc
     rows-arrive device place rows answer entries (Ranges_of to p ranges) comes is = cc
 
@@ -154,36 +160,38 @@ module _ (c : Cluster) (m : Machine) (l : Ledger) (accounts : Accounts c m l) wh
 
 -- ---- marks
 
--- a device that took an update holds its row, and the ledger has that it was sent
-pub hears : (c : Cluster) (l : Ledger) (done : List RunLine) → Tells c l done → (device : ℕ) (key : RecordKey) (to : ℕ) → WasTaken done device key to
-    → CanHear c l device key to
+-- the row that came and was answered so is held there
+held-there : (c : Cluster) (l : Ledger) (done : List RunLine) → Tells c l done → (device : ℕ) (place : Place) (row : Row) (answer : ContAnswer)
+    → CameTo done device place (MergeRow row) answer → IsHeard answer → IsHeld (l.tables device place) row.name row.created_at row.deleted
+held-there c l done tells device place row answer came heard =
+    subst (λ (d : ℕ). IsHeld (l.tables d place) row.name row.created_at row.deleted) came.device_is
+    (tells (Came came.came) came.among place row answer came.entries came.event_is heard)
+
+-- a device that took an update, or left it to a shard, holds its row by the ledger, and that has that it was sent
+pub hears : (c : Cluster) (l : Ledger) (done : List RunLine) → Tells c l done → (device : ℕ) (key : RecordKey) (to : ℕ)
+    → WasTold c.nodes.secrets c.replicas done device key to → CanHear c l device key to
 hears c l done tells device key to was = record {
   row = was.row;
   sent = subst (λ (k : RecordKey). Contains l.sent (record { from = device; key = k; row = was.row })) was.key_is went.0;
   held =
       subst (λ (k : RecordKey). IsHeld (l.tables to ((ground c).place k.hash)) (was.row).name (was.row).created_at (was.row).deleted) was.key_is
-      (subst (λ (d : ℕ). IsHeld (l.tables d ((ground c).place (was.filed).name.hash)) (was.row).name (was.row).created_at (was.row).deleted) was.device_is
-      (subst (λ (p : Place). IsHeld (l.tables (was.came).device p) (was.row).name (was.row).created_at (was.row).deleted) went.1 came));
+      (subst (λ (p : Place). IsHeld (l.tables to p) (was.row).name (was.row).created_at (was.row).deleted) went.1 (held was.acknowledged));
 }
   where
-    later : List RunLine
-    later = was.between ++ Came was.came ∷ was.behind
+    sending : RunLine
+    sending = Went device (Update_of to was.filed was.place was.place was.row)
 
-    contains : (line : RunLine) → Contains (Went device (Update_of to was.filed was.place was.row) ∷ (was.between ++ Came was.came ∷ was.behind)) line
-        → Contains done line
+    contains : (line : RunLine) → Contains (sending ∷ was.behind) line → Contains done line
     contains line there =
-        subst (λ (xs : List RunLine). Contains xs line) (sym was.lines_are)
-        (Contains-append_right was.before (Went device (Update_of to was.filed was.place was.row) ∷ (was.between ++ Came was.came ∷ was.behind)) line there)
+        subst (λ (xs : List RunLine). Contains xs line) (sym was.lines_are) (Contains-append_right was.before (sending ∷ was.behind) line there)
 
     went : Contains l.sent (told device was.filed was.row) × (was.place ≡ (ground c).place (was.filed).name.hash)
-    went =
-        tells (Went device (Update_of to was.filed was.place was.row))
-        (contains (Went device (Update_of to was.filed was.place was.row)) (in-front (Went device (Update_of to was.filed was.place was.row)) later))
+    went = tells sending (contains sending (in-front sending was.behind))
 
-    came : IsHeld (l.tables (was.came).device was.place) (was.row).name (was.row).created_at (was.row).deleted
-    came =
-        tells (Came was.came)
-        (contains (Came was.came)
-        (behind (Went device (Update_of to was.filed was.place was.row)) later (Came was.came)
-        (Contains-append_right was.between (Came was.came ∷ was.behind) (Came was.came) (in-front (Came was.came) was.behind))))
-        was.place was.row was.answer was.entries was.event_is was.taken
+    tells_behind : Tells c l was.behind
+    tells_behind line there = tells line (contains line (behind sending was.behind line there))
+
+    held : IsAcknowledged c.nodes.secrets c.replicas was.behind to was.place was.row
+        → IsHeld (l.tables to was.place) (was.row).name (was.row).created_at (was.row).deleted
+    held (inl taken) = held-there c l was.behind tells_behind to was.place was.row taken.0 taken.1 (inl taken.2)
+    held (inr left) = held-there c l was.behind tells_behind to was.place was.row (Redirect left.0) left.1 (inr refl)

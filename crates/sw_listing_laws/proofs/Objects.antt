@@ -24,7 +24,7 @@ use Rattle.sw_listing_laws.proofs.Setting.{fits-apart, fits-set, set-here, set-i
 use Rattle.sw_listing_laws.proofs.Standing.{Stands, all-earlier, reach, stands-more}
 use Rattle.sw_listing_laws.proofs.Turning.{fits-reach, known-beside, known-more, known-same, turned}
 use Rattle.sw_listing_laws.proofs.Writing.{with_filed, with_write}
-use Rattle.sw_listing_laws.specs.Honest.{Cluster, IsNamed}
+use Rattle.sw_listing_laws.specs.Plain.{Cluster, IsNamed}
 
 -- a ledger that accounts for these objects, and has the rows that this one has
 pub record ObjNext (c : Cluster) (l : Ledger) (after : ObjSide) : Type 0 where

@@ -6,6 +6,7 @@ use Rattle.sw_container_steps.specs.declared.cont_entry.ContEntry.{ContEntry}
 use Rattle.sw_hashpath.specs.declared.name.Name.{Name}
 use Rattle.sw_hashpath.specs.declared.place.Place.{Place}
 use Rattle.sw_machine.proofs.Runs.{hashes-stand, rows-are-merged}
+use Rattle.sw_machine.specs.Honest.{IsHonest, IsHonestEvent, IsHonestStep}
 use Rattle.sw_machine.specs.Machine.{Came, ContSide, Machine, ObjReadsPart, RunLine, Steps, Went}
 use Rattle.sw_machine.specs.Messages.{WasSent}
 use Rattle.sw_machine.specs.Sides.{TellsAt}
@@ -36,8 +37,7 @@ use Rattle.sw_listing_laws.proofs.Merging.{comes}
 use Rattle.sw_listing_laws.proofs.Messages.{hears, rows-fair, write-fair}
 use Rattle.sw_listing_laws.proofs.Sending.{sends}
 use Rattle.sw_listing_laws.proofs.Stepping.{IsFair, stepped}
-use Rattle.sw_listing_laws.specs.Honest.{Cluster, IsHonest, IsHonestEvent, IsHonestStep, IsNamedEvent, IsNamedLine, IsNamedStep, IsPlain, IsPlainEvent}
-use Rattle.sw_listing_laws.specs.Honest.{RunsSoundly}
+use Rattle.sw_listing_laws.specs.Plain.{Cluster, IsNamedEvent, IsNamedLine, IsNamedStep, IsPlain, IsPlainEvent, RunsSoundly}
 
 module _ (c : Cluster) (done : List RunLine) (m : Machine) (l : Ledger) (sound : IsSound c done m l) (after : Machine) where
   -- each lock tells its contents still
@@ -92,44 +92,43 @@ module _ (c : Cluster) (done : List RunLine) (m : Machine) (l : Ledger) (sound :
         (comes device place c m.containers l sound.accounts.containers sound.accounts.right change answer entries after.containers step.1.1
         (tell-containers (Came (line (AtContainer (cont_events.Changed place change answer) entries))) step)
         (rows-fair c m l sound.accounts sound.clients device link place change answer entries (λ is. step.0 is tt) plain))
-    at-places (cont_events.Timed place got) entries step plain = still (AtContainer (cont_events.Timed place got) entries) step (λ p row ans es event made. cc)
+    at-places (cont_events.Timed place got) entries step plain = still (AtContainer (cont_events.Timed place got) entries) step (λ p row ans es event heard. cc)
         (stays-same m.objects after.objects step.1.2) step.1.1.holds
     at-places (cont_events.Informed place got) entries step plain =
-        still (AtContainer (cont_events.Informed place got) entries) step (λ p row ans es event made. cc) (stays-same m.objects after.objects step.1.2)
+        still (AtContainer (cont_events.Informed place got) entries) step (λ p row ans es event heard. cc) (stays-same m.objects after.objects step.1.2)
         step.1.1.holds
     at-places (cont_events.Listed place query got) entries step plain =
-        still (AtContainer (cont_events.Listed place query got) entries) step (λ p row ans es event made. cc) (stays-same m.objects after.objects step.1.2)
+        still (AtContainer (cont_events.Listed place query got) entries) step (λ p row ans es event heard. cc) (stays-same m.objects after.objects step.1.2)
         step.1.1.holds
     at-places (cont_events.Parceled place to got) entries step plain =
-        still (AtContainer (cont_events.Parceled place to got) entries) step (λ p row ans es event made. cc) (stays-same m.objects after.objects step.1.2)
+        still (AtContainer (cont_events.Parceled place to got) entries) step (λ p row ans es event heard. cc) (stays-same m.objects after.objects step.1.2)
         step.1.1.holds
     at-places (cont_events.Sharded place got) entries step plain =
-        still (AtContainer (cont_events.Sharded place got) entries) step (λ p row ans es event made. cc) (stays-same m.objects after.objects step.1.2)
+        still (AtContainer (cont_events.Sharded place got) entries) step (λ p row ans es event heard. cc) (stays-same m.objects after.objects step.1.2)
         step.1.1.holds
     at-places (cont_events.Cleft place range above got) entries step plain =
-        still (AtContainer (cont_events.Cleft place range above got) entries) step (λ p row ans es event made. cc)
+        still (AtContainer (cont_events.Cleft place range above got) entries) step (λ p row ans es event heard. cc)
         (stays-same m.objects after.objects step.1.2) step.1.1.holds
 
-    came : (event : Event) → Steps c.nodes m (Came (line event)) after → IsHonestEvent c.nodes.secrets c.replicas done device event
-        → (link ≡ Local → IsPlainEvent c m event)
-        → IsNamedEvent c event → LineNext c after l (Came (line event))
+    came : (event : Event) → Steps c.nodes m (Came (line event)) after → IsHonestEvent c.nodes.secrets c.replicas done link device event
+        → (link ≡ Local → IsPlainEvent c m event) → IsNamedEvent c event → LineNext c after l (Came (line event))
     came (Changed name change answer) step honest plain named =
         at-object c m l sound.accounts after step.2 (tell-objects (Came (line (Changed name change answer))) step)
         (tell-containers (Came (line (Changed name change answer))) step) (Came (line (Changed name change answer))) step.1.1
         (stepped c m.objects l sound.accounts.objects device name named.0 after.objects (tell-objects (Came (line (Changed name change answer))) step) change
         (turns c.nodes m.objects device name change answer added after.objects step.1.0 (sound.accounts.objects.tell device name.hash))
         (fair name change answer step.0 honest plain named.1))
-        (λ p row ans es event made. cc)
+        (λ p row ans es event heard. cc)
     came (Read name got) step honest plain named =
-        still (Read name got) step (λ p row ans es event made. cc) (record { holds = step.1.0.holds; known = step.1.0.known }) (same-containers step.1.1)
+        still (Read name got) step (λ p row ans es event heard. cc) (record { holds = step.1.0.holds; known = step.1.0.known }) (same-containers step.1.1)
     came (ReadPart read) step honest plain named =
-        still (ReadPart read) step (λ p row ans es event made. cc) (read-part read step.1.0) (same-containers step.1.1)
+        still (ReadPart read) step (λ p row ans es event heard. cc) (read-part read step.1.0) (same-containers step.1.1)
     came (Listed failed) step honest plain named =
-        still (Listed failed) step (λ p row ans es event made. cc) (record { holds = step.1.1.0.holds; known = step.1.1.0.known })
+        still (Listed failed) step (λ p row ans es event heard. cc) (record { holds = step.1.1.0.holds; known = step.1.1.0.known })
         (same-containers step.1.1.1)
     came (AtContainer event entries) step honest plain named = at-places event entries step plain
     came Restarted step honest plain named =
-        still Restarted step (λ p row ans es event made. cc)
+        still Restarted step (λ p row ans es event heard. cc)
         (restart-stays c.nodes.lock m.objects device after.objects sound.accounts.objects.tell step.1.1)
         (restart-stays (cont_lock c.nodes) m.containers device after.containers sound.accounts.containers.tell step.1.2).holds
 

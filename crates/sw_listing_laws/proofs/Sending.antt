@@ -26,7 +26,7 @@ use Rattle.sw_listing_laws.proofs.Accounts.{Accounts, HasReached, IsAccounted, I
 use Rattle.sw_listing_laws.proofs.Going.{Goes, LineNext, all-still, goes-by, goes-nowhere}
 use Rattle.sw_listing_laws.proofs.Grounds.{ground, ground-place, named-object}
 use Rattle.sw_listing_laws.proofs.Standing.{Stands, reach, stands-late, standing}
-use Rattle.sw_listing_laws.specs.Honest.{Cluster, IsNamed, IsNamedMessage, IsPlainMessage}
+use Rattle.sw_listing_laws.specs.Plain.{Cluster, IsNamed, IsNamedMessage, IsPlainMessage}
 
 -- ---- the write that a state has of its base
 
@@ -78,7 +78,7 @@ module _ (c : Cluster) (m : Machine) (l : Ledger) (accounts : Accounts c m l) (f
 
   -- ---- updates
 
-  module _ (to : ℕ) (filed : Filed) (place : Place) (row : Row) (named : IsNamed c filed.name)
+  module _ (filed : Filed) (row : Row) (named : IsNamed c filed.name)
       (base : IsBaseFor filed (m.objects.half.holds from filed.name.hash).state (Some row)) where
     can-send : CanSend (ground c) l (told from filed row)
     can-send = record {
@@ -113,16 +113,17 @@ module _ (c : Cluster) (m : Machine) (l : Ledger) (accounts : Accounts c m l) (f
       by x (inl old) = accounts.sent x old
       by x (inr new) = subst (λ (y : Message). IsAccounted c l y) new is
 
-  update : (to : ℕ) (filed : Filed) (place : Place) (row : Row) → IsNamed c filed.name → Carries c.nodes m from (Update_of to filed place row)
-      → LineNext c (record m { sent = m.sent ++ Update_of to filed place row ∷ [] }) l (Went from (Update_of to filed place row))
-  update to filed place row named carries = record {
+  update : (to : ℕ) (filed : Filed) (place at : Place) (row : Row) → IsNamed c filed.name → (at ≡ place) ⊎ (c.is_hidden at ≡ true)
+      → Carries c.nodes m from (Update_of to filed place at row)
+      → LineNext c (record m { sent = m.sent ++ Update_of to filed place at row ∷ [] }) l (Went from (Update_of to filed place at row))
+  update to filed place at row named plain carries = record {
     next = next;
     goes = goes;
     accounts = record {
       objects = accounts.objects;
       containers = accounts.containers;
       right = accounts.right;
-      sent = λ x there. by x (Contains-push_cases m.sent (Update_of to filed place row) x there);
+      sent = λ x there. by x (Contains-push_cases m.sent (Update_of to filed place at row) x there);
     };
     says = (in-front (told from filed row) l.sent, there_is);
   }
@@ -135,29 +136,35 @@ module _ (c : Cluster) (m : Machine) (l : Ledger) (accounts : Accounts c m l) (f
 
       goes : Goes (ground c) l (record l { sent = told from filed row ∷ l.sent })
       goes = goes-by (ground c) l (Sends (told from filed row)) (record l { sent = told from filed row ∷ l.sent })
-          (can-send to filed place row named (carries.1 (accounts.objects.tell from filed.name.hash)), refl) tt (λ a there. there)
+          (can-send filed row named (carries.1 (accounts.objects.tell from filed.name.hash)), refl) tt (λ a there. there)
           (behind (told from filed row) l.sent)
 
-      by : (x : Message) → Contains m.sent x ⊎ (Update_of to filed place row ≡ x) → IsAccounted c (record l { sent = told from filed row ∷ l.sent }) x
+      goes_to : (at ≡ place) ⊎ (c.is_hidden at ≡ true) → (at ≡ (ground c).place filed.name.hash) ⊎ (c.is_hidden at ≡ true)
+      goes_to (inl same) = inl (same ∙ there_is)
+      goes_to (inr hidden) = inr hidden
+
+      by : (x : Message) → Contains m.sent x ⊎ (Update_of to filed place at row ≡ x) → IsAccounted c (record l { sent = told from filed row ∷ l.sent }) x
       by x (inl old) = all-still c l (record l { sent = told from filed row ∷ l.sent }) goes m.sent accounts.sent x old
       by x (inr new) =
           subst (λ (y : Message). IsAccounted c (record l { sent = told from filed row ∷ l.sent }) y) new
-          (from, in-front (told from filed row) l.sent, there_is)
+          (from, in-front (told from filed row) l.sent, goes_to plain)
 
-  -- rows of a container are right for it, and for one that is hidden all are
+  -- what is right for a container is so where it goes, and for one that is hidden all is
+  row-goes : (place at : Place) (row : Row) → (at ≡ place) ⊎ (c.is_hidden at ≡ true) → HasRow m from place row → IsRight c l at row
+  row-goes place at row (inl same) has = subst (λ (p : Place). IsRight c l p row) (sym same) (row-right place row has)
+  row-goes place at row (inr hidden) has = inl hidden
+
   rows-right : (place at : Place) (rows : List Row) → (at ≡ place) ⊎ (c.is_hidden at ≡ true) → All (HasRow m from place) rows → All (IsRight c l at) rows
-  rows-right place at rows (inl same) has =
-      subst (λ (p : Place). All (IsRight c l p) rows) (sym same) (All-weaker (HasRow m from place) (IsRight c l place) (row-right place) rows has)
-  rows-right place at rows (inr hidden) has = All-weaker (HasRow m from place) (IsRight c l at) (λ row there. inl hidden) rows has
+  rows-right place at rows plain has = All-weaker (HasRow m from place) (IsRight c l at) (λ row there. row-goes place at row plain there) rows has
 
   pub sends : (message : Message) → Carries c.nodes m from message → IsPlainMessage c message → IsNamedMessage c message
       → LineNext c (record m { sent = m.sent ++ message ∷ [] }) l (Went from message)
   sends (Write_of to name write) carries plain named =
       unsaid (Write_of to name write) (write-reached name write (carries (accounts.objects.tell from name.hash))) (λ next. tt)
-  sends (Row_of to place row) carries plain named =
-      unsaid (Row_of to place row) (row-right place row (carries (accounts.containers.tell from place))) (λ next. tt)
+  sends (Row_of to place at row) carries plain named =
+      unsaid (Row_of to place at row) (row-goes place at row plain (carries (accounts.containers.tell from place))) (λ next. tt)
   sends (Rows_of to place at rows) carries plain named =
       unsaid (Rows_of to place at rows) (rows-right place at rows plain (carries (accounts.containers.tell from place))) (λ next. tt)
-  sends (Update_of to filed place row) carries plain named = update to filed place row named carries
+  sends (Update_of to filed place at row) carries plain named = update to filed place at row named plain carries
   sends (Creation_of to place time) carries plain named = unsaid (Creation_of to place time) tt (λ next. tt)
   sends (Ranges_of to place ranges) carries plain named = unsaid (Ranges_of to place ranges) tt (λ next. tt)

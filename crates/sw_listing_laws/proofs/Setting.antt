@@ -11,7 +11,7 @@ use Rattle.sw_pending.specs.declared.key.RecordKey.{RecordKey}
 use Rattle.sw_pending_laws.specs.Ledger.{IsSet, Reach}
 use Rattle.std.specs.Str.{bytes_eq}
 use Rattle.sw_listing_laws.proofs.Accounts.{Fits}
-use Rattle.sw_listing_laws.specs.Honest.{Cluster}
+use Rattle.sw_listing_laws.specs.Plain.{Cluster}
 
 -- a device and a hash are these, or they aren't
 pub same-or-apart : (d device : ℕ) (h hash : Hash) → ((d ≡ device) × (h ≡ hash)) ⊎ ((d ≡ device) × (h ≡ hash) → ⊥)

@@ -6,7 +6,7 @@ use Rattle.sw_container_steps.specs.Entries.{rows_of}
 use Rattle.sw_hashpath.specs.Places.{IsPlaceOf}
 use Rattle.sw_hashpath.specs.declared.name.Name.{Name}
 use Rattle.sw_hashpath.specs.declared.place.Place.{Place}
-use Rattle.sw_machine.specs.Machine.{KnownWrite, Machine, is_emptied}
+use Rattle.sw_machine.specs.Machine.{KnownWrite, Machine, RunLine}
 use Rattle.sw_machine.specs.Messages.{Message}
 use Rattle.sw_object_steps.specs.Journals.{Hash}
 use Rattle.sw_pending_laws.proofs.Among.{none-among}
@@ -22,9 +22,10 @@ use Rattle.sw_listing_laws.proofs.Accounts.{Accounts, AreAccounted, Fits, IsKnow
 use Rattle.sw_listing_laws.proofs.Bringing.{HasOnly}
 use Rattle.sw_listing_laws.proofs.Grounds.{ground, ground-place, home-is, named-object, one-hash, one-name, place-of}
 use Rattle.sw_listing_laws.proofs.Running.{IsAtEnd, ends}
+use Rattle.sw_listing_laws.proofs.Splitting.{IsKept, whole-kept}
 use Rattle.sw_listing_laws.proofs.Standing.{Stands, reach}
-use Rattle.sw_listing_laws.specs.Honest.{Cluster, IsNamed}
 use Rattle.sw_listing_laws.specs.Laws.{DoAgree, IsLive, IsNew, IsSettled, SettledContainersShowExactly, ShowsExactly}
+use Rattle.sw_listing_laws.specs.Plain.{Cluster, IsNamed, RunsSoundly}
 
 -- ---- the beginning
 
@@ -148,7 +149,7 @@ module _ (c : Cluster) (m : Machine) (l : Ledger) (accounts : Accounts c m l) wh
       k : IsKnownAs a
       k = known-as a live.reached
 
-  shows : (device : ℕ) (place : Place) → is_emptied (m.containers.half.holds device place) ≡ false → (object : List ℕ)
+  shows : (device : ℕ) (place : Place) → IsKept (m.containers.half.holds device place) → (object : List ℕ)
       → ledgers.ShowsExactly (ground c) l device place object → ShowsExactly c m device place object
   shows device place kept object s = record {
     shown = λ row found live.
@@ -164,9 +165,16 @@ module _ (c : Cluster) (m : Machine) (l : Ledger) (accounts : Accounts c m l) wh
 
 -- ---- the law
 
-pub settled-shows : SettledContainersShowExactly
-settled-shows c m lines after new run same place shown all device ring kept object =
+-- also of a replica that keeps all as it has no ranges
+pub kept-shows : (c : Cluster) (m : Machine) (lines : List RunLine) (after : Machine) → IsNew c m → RunsSoundly c [] m lines after → DoAgree after
+    → (place : Place) → c.is_hidden place ≡ false → IsSettled c after place → (device : ℕ) → Contains (c.replicas place) device
+    → IsKept (after.containers.half.holds device place) → (object : List ℕ) → ShowsExactly c after device place object
+kept-shows c m lines after new run same place shown all device ring kept object =
     let e : IsAtEnd c after = ends c lines [] m ledgers.begun after (begins c m new) run in
     shows c after e.ledger e.accounts device place kept object
     (shows-exactly (ground c) e.ledger e.steady e.clients (agree c after e.ledger e.accounts same) place shown
     (settled c after e.ledger e.accounts place all) device ring object)
+
+pub settled-shows : SettledContainersShowExactly
+settled-shows c m lines after new run same place shown all device ring whole object =
+    kept-shows c m lines after new run same place shown all device ring (whole-kept (after.containers.half.holds device place) whole) object

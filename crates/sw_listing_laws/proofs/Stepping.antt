@@ -36,7 +36,7 @@ use Rattle.sw_listing_laws.proofs.Recording.{IsFound, MaySet, dropping, each-don
 use Rattle.sw_listing_laws.proofs.Setting.{set-is, set_at, set_value}
 use Rattle.sw_listing_laws.proofs.Standing.{all-earlier}
 use Rattle.sw_listing_laws.proofs.Writing.{Filing, Nothing, WriteLeaves, Writing, allowed-deletion, allowed-put, filing-write, plain-write}
-use Rattle.sw_listing_laws.specs.Honest.{Cluster, IsNamed}
+use Rattle.sw_listing_laws.specs.Plain.{Cluster, IsNamed}
 
 -- ---- what is asked of a step
 

@@ -16,7 +16,7 @@ use Rattle.sw_state.specs.declared.write.Write.{Write}
 use Rattle.sw_listing_laws.proofs.Accounts.{Fits, IsKnown, ObjAccounts}
 use Rattle.sw_listing_laws.proofs.Setting.{same-or-apart}
 use Rattle.sw_listing_laws.proofs.Standing.{reach, stands-apart}
-use Rattle.sw_listing_laws.specs.Honest.{Cluster, IsNamed}
+use Rattle.sw_listing_laws.specs.Plain.{Cluster, IsNamed}
 
 module _ (c : Cluster) where
   -- ---- what became known

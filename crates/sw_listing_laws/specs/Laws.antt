@@ -8,7 +8,8 @@ use Rattle.sw_hashpath.specs.declared.place.Place.{Place}
 use Rattle.sw_listing.specs.Listing.{listing}
 use Rattle.sw_listing.specs.declared.entry.Entry.{Entry}
 use Rattle.sw_listing.specs.declared.query.Query.{Query}
-use Rattle.sw_machine.specs.Machine.{Came, KnownWrite, Machine, RunLine, Runs, Steps, is_emptied}
+use Rattle.sw_machine.specs.Honest.{AreHonest}
+use Rattle.sw_machine.specs.Machine.{Came, IsWhole, KnownWrite, Machine, RunLine, Runs, Steps, is_emptied}
 use Rattle.sw_machine.specs.Sides.{TellsAt}
 use Rattle.sw_object_steps.specs.BaseRows.{IsRowOf}
 use Rattle.sw_object_steps.specs.Journals.{Hash}
@@ -25,7 +26,7 @@ use Rattle.sw_rows.specs.declared.numbered.Numbered.{Numbered}
 use Rattle.sw_rows.specs.declared.row.Row.{Row}
 use Rattle.sw_state.specs.Bases.{base_at, base_time, is_deletion}
 use Rattle.sw_state.specs.declared.base.Base.{Base}
-use Rattle.sw_listing_laws.specs.Honest.{AreHonest, Cluster, IsNamedLine, IsPlain, RunsSoundly}
+use Rattle.sw_listing_laws.specs.Plain.{Cluster, IsNamedLine, IsPlain, RunsSoundly}
 
 -- nothing stands at any device or was taken away there, and nothing is on its way; each lock tells its contents
 pub record IsNew (c : Cluster) (m : Machine) : Type 0 where
@@ -69,11 +70,11 @@ pub record ShowsExactly (c : Cluster) (m : Machine) (device : ℕ) (place : Plac
       → (row : Row) × (find_named (rows_of (m.containers.half.holds device place)).list object ≡ Some row) × (row.deleted ≡ false) × IsRowOf object base row
 
 -- After any run in which all keep to their parts, whatever failed, was lost, came again or was restarted: of a container that isn't hidden, and of which no
--- record is pending, each replica of which no rows were taken away shows exactly the live objects
+-- record is pending, each replica that has left no name to a shard shows exactly the live objects
 abbrev pub SettledContainersShowExactly : Type 0
 SettledContainersShowExactly = (c : Cluster) (m : Machine) (lines : List RunLine) (after : Machine) → IsNew c m → RunsSoundly c [] m lines after
     → DoAgree after → (place : Place) → c.is_hidden place ≡ false → IsSettled c after place → (device : ℕ) → Contains (c.replicas place) device
-    → is_emptied (after.containers.half.holds device place) ≡ false → (object : List ℕ) → ShowsExactly c after device place object
+    → IsWhole (after.containers.half.holds device place) → (object : List ℕ) → ShowsExactly c after device place object
 
 -- ---- what is listed
 
@@ -87,14 +88,14 @@ pub record AreLiveRows (c : Cluster) (m : Machine) (place : Place) (rows : List 
 abbrev pub LiveRowsAreThere : Type 0
 LiveRowsAreThere = (c : Cluster) (m : Machine) (lines : List RunLine) (after : Machine) → IsNew c m → RunsSoundly c [] m lines after
     → DoAgree after → (place : Place) → c.is_hidden place ≡ false → IsSettled c after place → (device : ℕ) → Contains (c.replicas place) device
-    → is_emptied (after.containers.half.holds device place) ≡ false
+    → IsWhole (after.containers.half.holds device place)
     → AreLiveRows c after place (filter (λ n. not n.row.deleted) (rows_of (after.containers.half.holds device place)).list)
 
 -- so its rows are listed, whatever is asked, as the rows of the live objects are
 abbrev pub SettledContainersListExactly : Type 0
 SettledContainersListExactly = (c : Cluster) (m : Machine) (lines : List RunLine) (after : Machine) → IsNew c m → RunsSoundly c [] m lines after
     → DoAgree after → (place : Place) → c.is_hidden place ≡ false → IsSettled c after place → (device : ℕ) → Contains (c.replicas place) device
-    → is_emptied (after.containers.half.holds device place) ≡ false → (rows : List Numbered) → AreLiveRows c after place rows → (query : Query)
+    → IsWhole (after.containers.half.holds device place) → (rows : List Numbered) → AreLiveRows c after place rows → (query : Query)
     → listing query (rows_of (after.containers.half.holds device place)).list ≡ listing query rows
 
 -- and each listing that comes then is that, of a replica that isn't split into shards: it shows only rows that aren't left to these

@@ -1,2 +1,2 @@
-pub mod Honest
+pub mod Plain
 pub mod Laws

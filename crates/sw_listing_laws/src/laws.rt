@@ -3,7 +3,7 @@
 ghost use Rattle.sw_listing_laws.specs.Laws.{HonestRunsAreSound, ListingsAreExact, LiveRowsAreThere, SettledContainersListExactly};
 ghost use Rattle.sw_listing_laws.specs.Laws.{SettledContainersShowExactly};
 
-/// Of a container that isn't hidden, and of which no record is pending, each replica of which no rows were taken away shows exactly the live objects.
+/// Of a container that isn't hidden, and of which no record is pending, each replica that has left no name to a shard shows exactly the live objects.
 pub fn settled_containers_show_exactly()
     ensures { SettledContainersShowExactly }
 {}

@@ -1,81 +1,28 @@
--- Runs in which nodes and clients keep to their parts: a device marks in a record whom it heard, and drops it when all are marked; and whoever asks a device to
--- take over a write, or a row, makes none up. (This project's own.)
+-- Runs in which nodes and clients keep to their parts: nodes are honest, and whoever asks a device to take over a write, or a row, makes none up. (This
+-- project's own.)
 use Rattle.std.specs.Prelude.{◌≡◌, ⊤, ℕ, Bool, true, List, [], ◌∷◌, ◌++◌, Contains, Some, ◌⊎◌}
 use Rattle.std.specs.List.{All}
-use Rattle.sw_container_steps.specs.Rules.{cont_ending}
-use Rattle.sw_container_steps.specs.declared.cont_answer.ContAnswer.{ContAnswer}
 use Rattle.sw_container_steps.specs.declared.cont_change.ContChange.{ContChange}
 use Rattle.sw_container_steps.specs.declared.cont_change.ContChange.TheVariants.{MergeRow, MergeRows}
-use Rattle.sw_container_steps.specs.declared.cont_entry.ContEntry.{ContEntry}
 use Rattle.sw_hashpath.specs.Paths.{hash_of}
 use Rattle.sw_hashpath.specs.Places.{IsPlaceOf}
 use Rattle.sw_hashpath.specs.declared.name.Name.{Name}
 use Rattle.sw_hashpath.specs.declared.place.Place.{Place}
-use Rattle.sw_hashpath.specs.declared.secrets.Secrets.{Secrets}
-use Rattle.sw_machine.specs.Doors.{GoesOn, StandsFor}
+use Rattle.sw_machine.specs.Honest.{IsHonest}
 use Rattle.sw_machine.specs.Machine.{Came, KnownWrite, Machine, RunLine, Steps, Went}
-use Rattle.sw_machine.specs.Messages.{Message, Rows_of, Update_of}
+use Rattle.sw_machine.specs.Messages.{Message, Row_of, Rows_of, Update_of}
 use Rattle.sw_object_steps.specs.BaseRows.{IsRowOf}
 use Rattle.sw_object_steps.specs.Journals.{Hash}
 use Rattle.sw_object_steps.specs.declared.change.Change.{Change}
 use Rattle.sw_object_steps.specs.declared.change.Change.TheVariants.{DropRecord, MarkRecord, Receive}
-use Rattle.sw_peer.specs.Sights.{Nodes, Sight}
+use Rattle.sw_peer.specs.Sights.{Nodes}
 use Rattle.sw_peer.specs.declared.cont_event.ContEvent.TheVariants as cont_events
 use Rattle.sw_peer.specs.declared.line.Event.{Event}
 use Rattle.sw_peer.specs.declared.line.Event.TheVariants.{AtContainer, Changed}
-use Rattle.sw_peer.specs.declared.line.Line.{Line}
 use Rattle.sw_peer.specs.declared.link.Link.TheVariants.{Local}
-use Rattle.sw_pending.specs.Records.{key_of}
-use Rattle.sw_pending.specs.declared.filed.Filed.{Filed}
-use Rattle.sw_pending.specs.declared.key.RecordKey.{RecordKey}
 use Rattle.sw_rows.specs.declared.row.Row.{Row}
 use Rattle.sw_state.specs.Bases.{base_at}
 use Rattle.sw_state.specs.declared.base.Base.{Base}
-use Rattle.sw_step.specs.Rules.{has_made}
-
--- ---- marks and drops
-
--- the device sent a row for this record to another one, whose container took it behind that
-pub record WasTaken (lines : List RunLine) (device : ℕ) (key : RecordKey) (to : ℕ) : Type 0 where
-  pub filed : Filed
-  pub place : Place
-  pub row : Row
-  pub before : List RunLine
-  pub between : List RunLine
-  pub came : Line
-  pub behind : List RunLine
-  pub answer : ContAnswer
-  pub entries : List ContEntry
-  pub key_is : key_of filed ≡ key
-  pub lines_are : lines ≡ before ++ Went device (Update_of to filed place row) ∷ (between ++ Came came ∷ behind)
-  pub device_is : came.device ≡ to
-  pub event_is : came.event ≡ AtContainer (cont_events.Changed place (MergeRow row) answer) entries
-  pub taken : has_made (cont_ending answer) ≡ true
-
-module _ (secrets : Secrets) (replicas : Place → List ℕ) where
-  -- a step behind these lines, where these devices keep each container
-  abbrev pub IsHonestStep : List RunLine → ℕ → Change → Type 0
-  IsHonestStep lines device (MarkRecord filed to) = WasTaken lines device (key_of filed) to
-  IsHonestStep lines device (DropRecord filed all) =
-      (place : Place) → IsPlaceOf secrets filed.name place → (r : ℕ) → Contains (replicas place) r → Contains all r
-  IsHonestStep lines device change = ⊤
-
-  abbrev pub IsHonestEvent : List RunLine → ℕ → Event → Type 0
-  IsHonestEvent lines device (Changed name change answer) = IsHonestStep lines device change
-  IsHonestEvent lines device event = ⊤
-
-  abbrev pub IsHonest : List RunLine → RunLine → Type 0
-  IsHonest lines (Came line) = IsHonestEvent lines line.device line.event
-  IsHonest lines (Went from message) = ⊤
-
-  -- each line behind those in front of it
-  abbrev pub AreHonest : List RunLine → List RunLine → Type 0
-  AreHonest done [] = ⊤
-  AreHonest done (line ∷ lines) = IsHonest done line × AreHonest (done ++ line ∷ []) lines
-
-  -- every machine for which a door stood goes on to it as it is then, honestly, whatever was done before
-  abbrev pub RunsHonestly : Sight → Sight → Type 0
-  RunsHonestly s t = (m : Machine) → StandsFor s m → (lines : List RunLine) × ((done : List RunLine) → AreHonest done lines) × GoesOn s m lines t
 
 -- what cluster it is: its nodes, which devices keep each container, which containers are hidden, and whose name each hash is
 pub record Cluster : Type 0 where
@@ -117,7 +64,9 @@ IsPlainEvent c m event = ⊤
 
 -- rows go to their own container, or to one that is hidden, as shards are
 abbrev pub IsPlainMessage : Cluster → Message → Type 0
+IsPlainMessage c (Row_of to place at row) = (at ≡ place) ⊎ (c.is_hidden at ≡ true)
 IsPlainMessage c (Rows_of to place at rows) = (at ≡ place) ⊎ (c.is_hidden at ≡ true)
+IsPlainMessage c (Update_of to filed place at row) = (at ≡ place) ⊎ (c.is_hidden at ≡ true)
 IsPlainMessage c message = ⊤
 
 -- what comes in a message is another device's
@@ -142,7 +91,7 @@ IsNamedEvent c (Changed name change answer) = IsNamed c name × IsNamedStep c ch
 IsNamedEvent c event = ⊤
 
 abbrev pub IsNamedMessage : Cluster → Message → Type 0
-IsNamedMessage c (Update_of to filed place row) = IsNamed c filed.name
+IsNamedMessage c (Update_of to filed place at row) = IsNamed c filed.name
 IsNamedMessage c message = ⊤
 
 abbrev pub IsNamedLine : Cluster → RunLine → Type 0
