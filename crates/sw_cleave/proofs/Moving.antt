@@ -2,10 +2,10 @@
 use Rattle.std.proofs.Common.{◌≡◌, ◌-◌, ◌∙◌, ℕ, Bool, true, List, Option, Some, ap, inl, length, subst, sym}
 use Rattle.std.specs.List.{slice_get}
 use Rattle.sw_cleave.specs.Cleaving.{IsMoved, IsRangeMoved, IsRangeNext, IsSplitNext}
-use Rattle.sw_cleave.specs.Shards.{is_place, least_point}
+use Rattle.sw_cleave.specs.Shards.{least_point}
 use Rattle.sw_cleave.specs.declared.counting.Came.{Came}
 use Rattle.sw_hashpath.specs.declared.place.Place.{Place}
-use Rattle.sw_pass.specs.Rings.{replicas_in}
+use Rattle.sw_pass.specs.Rings.{is_place, replicas_in}
 use Rattle.sw_pass.specs.declared.outcome.Outcome.{Outcome}
 use Rattle.sw_peer.specs.Sights.{Sight}
 use Rattle.sw_ring.specs.declared.ring.Ring.{Ring}

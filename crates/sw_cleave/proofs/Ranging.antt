@@ -8,6 +8,7 @@ use Rattle.sw_cleave.specs.Cutting.{AreCut, AreCutFrom, CantCut, IsCutInto, IsRa
 use Rattle.sw_hashpath.specs.Places.{IsPlace}
 use Rattle.sw_hashpath.specs.declared.place.Place.{Place}
 use Rattle.sw_hashpath.specs.declared.secrets.Secrets.{Secrets}
+use Rattle.sw_shard_range.specs.Laws.{AreTiled}
 use Rattle.sw_shard_range.specs.declared.range.Range.{Range}
 
 -- the bound at which these end, which begin at this one
@@ -71,13 +72,14 @@ module _ (secrets : Secrets) (place : Place) (time : ℕ) where
 
   -- what cutting came to, at bounds that are known
   pub cut-into : (bounds known : List (List ℕ)) (cut into : Option (List Range)) → bounds ≡ known → cut ≡ into
-      → MatchOption cut (CantCut secrets place time bounds) (λ ranges. AreCut secrets place time bounds ranges) → IsCutInto secrets place time known into
+      → MatchOption cut (CantCut secrets place time bounds) (λ ranges. AreCut secrets place time bounds ranges × AreTiled ranges)
+      → IsCutInto secrets place time known into
   cut-into bounds known cut into are is told =
       subst (λ (bs : List (List ℕ)). IsCutInto secrets place time bs into) are
-      (by into (subst (λ (o : Option (List Range)). MatchOption o (CantCut secrets place time bounds) (λ ranges. AreCut secrets place time bounds ranges)) is
-      told))
+      (by into (subst (λ (o : Option (List Range)). MatchOption o (CantCut secrets place time bounds)
+      (λ ranges. AreCut secrets place time bounds ranges × AreTiled ranges)) is told))
     where
-      by : (o : Option (List Range)) → MatchOption o (CantCut secrets place time bounds) (λ ranges. AreCut secrets place time bounds ranges)
+      by : (o : Option (List Range)) → MatchOption o (CantCut secrets place time bounds) (λ ranges. AreCut secrets place time bounds ranges × AreTiled ranges)
           → IsCutInto secrets place time bounds o
       by (Some ranges) came = came
       by None came = came

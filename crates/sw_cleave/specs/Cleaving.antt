@@ -12,7 +12,7 @@ use Rattle.sw_container_steps.specs.declared.syncing.Parcel.{Parcel}
 use Rattle.sw_hashpath.specs.declared.place.Place.{Place}
 use Rattle.sw_outside.specs.declared.errors.NoMemory.{NoMemory}
 use Rattle.sw_pass.specs.Outcomes.{Keeps, cont_hindrance, is_acknowledged, nothing_yet, putting_off, sending, unanswered}
-use Rattle.sw_pass.specs.Rings.{replicas_in}
+use Rattle.sw_pass.specs.Rings.{is_place, replicas_in}
 use Rattle.sw_pass.specs.Turns.{InTurn}
 use Rattle.sw_pass.specs.declared.hindrance.Hindrance.TheVariants.{Failed, Missing}
 use Rattle.sw_pass.specs.declared.outcome.Outcome.{Outcome}
@@ -25,7 +25,7 @@ use Rattle.sw_ring.specs.declared.ring.Ring.{Ring}
 use Rattle.sw_shard_range.specs.declared.range.Range.{Range}
 use Rattle.sw_sync.specs.Points.{PointList}
 use Rattle.sw_cleave.specs.Counting.{Counts, IsOutcome}
-use Rattle.sw_cleave.specs.Shards.{is_place, least_point}
+use Rattle.sw_cleave.specs.Shards.{least_point}
 use Rattle.sw_cleave.specs.declared.counting.Came.{Came}
 
 -- what it came to where it isn't done and this much is left

@@ -5,6 +5,7 @@ use Rattle.sw_hashpath.specs.Paths.{hash_of}
 use Rattle.sw_hashpath.specs.declared.bad_name.BadName.{BadName}
 use Rattle.sw_hashpath.specs.declared.place.Place.{Place}
 use Rattle.sw_hashpath.specs.declared.secrets.Secrets.{Secrets}
+use Rattle.sw_shard_range.specs.Laws.{AreTiled}
 use Rattle.sw_shard_range.specs.Ranges.{first_fault}
 use Rattle.sw_shard_range.specs.ShardNames.{shard_account, shard_container}
 use Rattle.sw_shard_range.specs.declared.range.Range.{Range}
@@ -45,6 +46,7 @@ module _ (secrets : Secrets) (place : Place) (time : ℕ) where
       ((index : ℕ) × (index ≤ length bounds) × IsBadShard index)
       ⊎ (((ranges : List Range) × AreCut bounds ranges × (fault : ℕ) × (first_fault ranges ≡ Some fault)) ⊎ (2 ^ 32 ≤ suc (length bounds)))
 
+  -- what was cut was tested: its ranges are all names, each once
   abbrev pub IsCutInto : List (List ℕ) → Option (List Range) → Type 0
-  IsCutInto bounds (Some ranges) = AreCut bounds ranges
+  IsCutInto bounds (Some ranges) = AreCut bounds ranges × AreTiled ranges
   IsCutInto bounds None = CantCut bounds

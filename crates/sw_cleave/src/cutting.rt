@@ -1,5 +1,6 @@
 ghost use Rattle.std.specs.Prelude.{◌≡◌, ◌<◌, ◌^◌, IfOk, MatchOption};
 ghost use Rattle.sw_cleave.specs.Cutting.{AreCut, CantCut, IsBadShard, IsRangeBetween};
+ghost use Rattle.sw_shard_range.specs.Laws.{AreTiled};
 
 use std::alloc::Global;
 use sw_hashpath::{NameError, Place, Secrets};
@@ -18,7 +19,7 @@ pub(crate) fn cut(
     bounds: &[Bytes],
 ) -> Result<Option<Ranges>, NoMemory>
     ensures { IfOk result (λ cut. MatchOption cut (CantCut secrets.now place.now time bounds.now)
-        (λ ranges. AreCut secrets.now place.now time bounds.now ranges)) }
+        (λ ranges. AreCut secrets.now place.now time bounds.now ranges × AreTiled ranges)) }
 {
     if bounds.len() >= u32::MAX as usize {
         return Ok(None);

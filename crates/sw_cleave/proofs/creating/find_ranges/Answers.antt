@@ -60,7 +60,7 @@ split-requires-clause-shards g c =
     c.in-Some.ranges
     (cut-into c.args.ring.now.secrets c.args.place.now c.args.time c.deref.result.now
     (inner_bounds c.args.per_shard (fold merged no_rows c.in-Ok.parcel.rows).list) c.in_ok-ranges-in-Ok.field-0 (Some c.in-Some.ranges) known c.in-Some.is
-    c.in_ok-ranges-in-Ok.ensures)
+    c.in_ok-ranges-in-Ok.ensures).0
 
 pub returns-in-Some-clause-creates : goal.returns-in-Some-clause-creates
 returns-in-Some-clause-creates g c =

@@ -1,4 +1,5 @@
-use Rattle.std.proofs.Common.{◌≡◌, ◌↔◌, ◌+◌, ◌∙◌, ◌++◌, ◌∷◌, [], ℕ, List, Option, Some, Result, Ok, Err, ap, arith, inl, inr, length, refl, subst, sym, take}
+use Rattle.std.proofs.Common.{◌≡◌, ◌↔◌, ◌+◌, ◌∙◌, ◌++◌, ◌∷◌, [], ℕ, List, Option, None, Some, Result, Ok, Err, ap, arith, inl, inr, length, refl, sym}
+use Rattle.std.proofs.Common.{subst, take}
 use Rattle.std.proofs.lemmas.List.{length-take-le, length_push, take_all, take_more}
 use Rattle.std.specs.Prelude.{IfOk, MatchOption}
 use Rattle.std.specs.Result.{result_ok}
@@ -6,6 +7,7 @@ use Rattle.sw_cleave.proofs.Ranging.{AreBelow, below-last, below-more, end-more,
 use Rattle.sw_cleave.specs.Cutting.{AreCut, CantCut, IsBadShard, IsRangeBetween}
 use Rattle.sw_hashpath.specs.declared.place.Place.{Place}
 use Rattle.sw_hashpath.specs.declared.secrets.Secrets.{Secrets}
+use Rattle.sw_shard_range.specs.Laws.{AreTiled}
 use Rattle.sw_shard_range.specs.Ranges.{first_fault}
 use Rattle.sw_shard_range.specs.declared.range.Range.{Range}
 use Rattle.sw_shard_range.specs.declared.ranges.NotTiled.{NotTiled}
@@ -22,17 +24,29 @@ module _ (secrets : Secrets) (place : Place) (time index : ℕ) where
       (subst (λ (o : Option Range). MatchOption o (IsBadShard secrets place time index) (λ r. IsRangeBetween secrets place time index lower upper r)) some
       is))
 
+-- ranges that were found good have no fault
+no-fault : (r : Result (List Range) NotTiled) (ranges : List Range) → r ≡ Ok ranges → (o : Option ℕ)
+    → ((index : ℕ) → o ≡ Some index → r ≡ Err (record { 0 = index })) → o ≡ None
+no-fault r ranges good (Some index) at =
+    let bad : r ≡ Err (record { 0 = index }) = at index refl in
+    cc
+no-fault r ranges good None at = refl
+
 module _ (secrets : Secrets) (place : Place) (time : ℕ) (bounds : List (List ℕ)) where
   -- what the test of these ranges came to
   tested : (r : Result (List Range) NotTiled) (got : Option (List Range)) (items : List Range) → got ≡ result_ok r → IfOk r (λ ranges. ranges ≡ items)
       → ((index : ℕ) → (r ≡ Err (record { 0 = index })) ↔ (first_fault items ≡ Some index)) → AreCut secrets place time bounds items
-      → MatchOption got (CantCut secrets place time bounds) (λ ranges. AreCut secrets place time bounds ranges)
+      → MatchOption got (CantCut secrets place time bounds) (λ ranges. AreCut secrets place time bounds ranges × AreTiled ranges)
   tested (Ok ranges) got items is same fault are =
-      subst (λ (o : Option (List Range)). MatchOption o (CantCut secrets place time bounds) (λ ranges. AreCut secrets place time bounds ranges)) (sym is)
-      (subst (λ (x : List Range). AreCut secrets place time bounds x) (sym same) are)
+      subst
+      (λ (o : Option (List Range)). MatchOption o (CantCut secrets place time bounds) (λ ranges. AreCut secrets place time bounds ranges × AreTiled ranges))
+      (sym is)
+      (subst (λ (x : List Range). AreCut secrets place time bounds x × AreTiled x) (sym same)
+      (are, no-fault (Ok ranges) ranges refl (first_fault items) (λ index. (fault index).1)))
   tested (Err n) got items is same fault are =
-      subst (λ (o : Option (List Range)). MatchOption o (CantCut secrets place time bounds) (λ ranges. AreCut secrets place time bounds ranges)) (sym is)
-      (inr (inl (items, are, n.0, (fault n.0).0 refl)))
+      subst
+      (λ (o : Option (List Range)). MatchOption o (CantCut secrets place time bounds) (λ ranges. AreCut secrets place time bounds ranges × AreTiled ranges))
+      (sym is) (inr (inl (items, are, n.0, (fault n.0).0 refl)))
 
 pub loop-upper-preserved : goal.loop-upper-preserved
 loop-upper-preserved c =
