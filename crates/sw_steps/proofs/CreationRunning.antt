@@ -1,12 +1,13 @@
--- Creating shards is a run of the machine, and leaves records as they are: the list of ranges that is sent is the one that the sender has.
-use Rattle.std.proofs.Common.{◌≡◌, ◌≢◌, ℕ, Bool, true, false, cond, not, ◌==◌, suc, List, [], ◌∷◌, refl, sym, ◌∙◌, ap, subst, true≢false}
+-- Creating shards is an honest run of the machine: the list of ranges is set behind the creation of each replica of each shard, and the one that is sent is the
+-- one that the sender has.
+use Rattle.std.proofs.Common.{◌≡◌, ◌≢◌, ℕ, Bool, true, false, cond, not, ◌==◌, suc, List, [], ◌∷◌, ◌++◌, refl, sym, ◌∙◌, ap, subst, true≢false}
 use Rattle.std.proofs.Common.{inl, inr, Option, None, Some, Result, Ok, Err}
 use Rattle.std.proofs.lemmas.Bool.{eq-eqb}
-use Rattle.std.proofs.lemmas.List.Elements.{All-head, All-tail, All-weaker, filter_passes}
+use Rattle.std.proofs.lemmas.List.Elements.{All-cons, All-contains, All-head, All-nil, All-tail, All-weaker, filter_passes}
 use Rattle.std.specs.List.{All}
 use Rattle.sw_cleave.proofs.Leaving.{made-leaves}
-use Rattle.sw_cleave.specs.Creating.{AreCreated, IsCreate, IsCreated, IsCreatedAt, IsCutNext, IsFound, IsFoundNext, IsListGiven, IsListNext, IsListSent}
-use Rattle.sw_cleave.specs.Creating.{IsListSet, IsRun, IsSetNext, IsShardingNext, IsSplit, UpToFirst, others}
+use Rattle.sw_cleave.specs.Creating.{AreCreated, IsCreate, IsCreated, IsCreatedAt, IsCreationHeard, IsCutNext, IsFound, IsFoundNext, IsListGiven, IsListNext}
+use Rattle.sw_cleave.specs.Creating.{IsListSent, IsListSet, IsRun, IsSetNext, IsShardingNext, IsSplit, UpToFirst, others}
 use Rattle.sw_cleave.specs.Cutting.{AreCutFrom, IsCutInto, IsRangeBetween}
 use Rattle.sw_container_steps.specs.Entries.{ranged}
 use Rattle.sw_container_steps.specs.Laws.{left}
@@ -24,10 +25,11 @@ use Rattle.sw_keeper.specs.declared.tables.Tables.{Tables}
 use Rattle.sw_lossy.specs.Losses.{around, begun}
 use Rattle.sw_lossy.specs.declared.acts.Acts.{Acts}
 use Rattle.sw_machine.proofs.Doors.{parcels, shardings}
-use Rattle.sw_machine.specs.Machine.{HasList}
+use Rattle.sw_machine.specs.Honest.{WasTaken}
+use Rattle.sw_machine.specs.Machine.{HasList, RunLine}
 use Rattle.sw_machine.specs.Messages.{Creation_of, Ranges_of}
 use Rattle.sw_outside.specs.declared.errors.NoMemory.{NoMemory}
-use Rattle.sw_pass.specs.Outcomes.{is_acknowledged, nothing_yet}
+use Rattle.sw_pass.specs.Outcomes.{is_acknowledged, nothing_yet, sending}
 use Rattle.sw_pass.specs.Rings.{replicas_in}
 use Rattle.sw_pass.specs.Turns.{InTurn}
 use Rattle.sw_pass.specs.declared.outcome.Outcome.{Outcome}
@@ -35,25 +37,48 @@ use Rattle.sw_peer.specs.ContSights.{IsContMade, IsIn, IsLooked}
 use Rattle.sw_peer.specs.Sights.{Calls, Sight, cont_lock}
 use Rattle.sw_peer.specs.declared.cont_event.ContEvent.TheVariants.{Parceled, Sharded}
 use Rattle.sw_peer.specs.declared.link.Link.TheVariants.{Local, Sent}
+use Rattle.sw_peer.specs.declared.link.Lost.{Lost}
 use Rattle.sw_ring.specs.declared.ring.Ring.{Ring}
+use Rattle.sw_shard_range.specs.Laws.{AreTiled}
+use Rattle.sw_shard_range.specs.Names.{is_hidden}
 use Rattle.sw_shard_range.specs.States.{all_in_state}
 use Rattle.sw_shard_range.specs.declared.range.Range.{Range}
-use Rattle.sw_steps.proofs.GoingBy.{GoesOnBy, came-local, goes-join, goes-same}
-use Rattle.sw_steps.proofs.Holding.{Keeps, Tells, change-moves, elsewhere-keeps, looked-goes, looked-tells, made-goes, sent-goes, tells-later}
-use Rattle.sw_steps.proofs.Holding.{tells-machine, told-before}
-use Rattle.sw_steps.proofs.Within.{leaving-within}
+use Rattle.sw_steps.proofs.Behind.{Any, Both, Fact, GoesFrom, RunsFrom, TookAs, from-any, from-beside, from-honestly, from-join, from-same, from-weaker}
+use Rattle.sw_steps.proofs.Behind.{looked-from, made-from, sent-from}
+use Rattle.sw_steps.proofs.Evidence.{AreThere, Lasts, are-there-lasts, taken-lasts, taken-remains}
+use Rattle.sw_steps.proofs.GoingBy.{came-local}
+use Rattle.sw_steps.proofs.Holding.{Looks, Tells, change-moves, looked-tells, tells-machine, told-before}
+use Rattle.sw_steps.proofs.Staying.{StaysBy, elsewhere-stays, stays-tells}
+use Rattle.sw_steps.proofs.Within.{honest-within}
 use Rattle.sw_steps.specs.Laws.{CreationsRun}
 use Rattle.sw_steps.specs.Passing.{AreShardsCreatedOver}
 
--- ---- things that are created in their order go on where each does
+-- ---- things that are created in their order
 
-up-to-first-goes : {A : Type 0} (one : A → Sight → Outcome → Sight → Outcome → Bool → Bool → Type 0)
-    → ((x : A) (a : Sight) (o : Outcome) (b : Sight) (p : Outcome) (made on : Bool) → one x a o b p made on → GoesOnBy a b)
-    → (xs : List A) (a : Sight) (o : Outcome) (b : Sight) (p : Outcome) (made on : Bool) → UpToFirst one xs a o b p made on → GoesOnBy a b
-up-to-first-goes one each [] a o b p made on is = goes-same a b is.0
-up-to-first-goes one each (x ∷ xs) a o b p made on (inl went) =
-    goes-join a went.0 b (each x a o went.0 went.1 true true went.2) (up-to-first-goes one each xs went.0 went.1 b p made on went.3)
-up-to-first-goes one each (x ∷ xs) a o b p made on (inr stopped) = each x a o b p false on stopped.0
+module _ (secrets : Secrets) (replicas : Place → List ℕ) {A : Type 0} (one : A → Sight → Outcome → Sight → Outcome → Bool → Bool → Type 0)
+    (did : A → Fact) (did_lasts : (x : A) → Lasts (did x))
+    (each : (x : A) (a : Sight) (o : Outcome) (b : Sight) (p : Outcome) (made on : Bool) → one x a o b p made on
+    → GoesFrom secrets replicas Any (λ done. made ≡ true → did x done) a b) where
+  -- behind them all were made, where that was answered
+  abbrev AllDid : List A → Bool → Fact
+  AllDid xs made done = made ≡ true → All (λ x. did x done) xs
+
+  all-did : (x : A) (xs : List A) (made : Bool) (done : List RunLine) → Both (did x) (AllDid xs made) done → AllDid (x ∷ xs) made done
+  all-did x xs made done both is = All-cons (λ (y : A). did y done) x xs both.0 (both.1 is)
+
+  up-to-first-goes : (xs : List A) (a : Sight) (o : Outcome) (b : Sight) (p : Outcome) (made on : Bool) → UpToFirst one xs a o b p made on
+      → GoesFrom secrets replicas Any (AllDid xs made) a b
+  up-to-first-goes [] a o b p made on is = from-same secrets replicas Any (AllDid [] made) (λ done any made_is. All-nil (λ x. did x done)) a b is.0
+  up-to-first-goes (x ∷ xs) a o b p made on (inl went) =
+      from-join secrets replicas Any (did x) (AllDid (x ∷ xs) made) a went.0 b
+      (from-weaker secrets replicas Any Any (λ done. true ≡ true → did x done) (did x) (λ done any. tt) (λ done is. is refl) a went.0
+      (each x a o went.0 went.1 true true went.2))
+      (from-weaker secrets replicas (did x) (Both (did x) Any) (Both (did x) (AllDid xs made)) (AllDid (x ∷ xs) made) (λ done is. (is, tt))
+      (all-did x xs made) went.0 b
+      (from-beside secrets replicas (did x) (did_lasts x) Any (AllDid xs made) went.0 b (up-to-first-goes xs went.0 went.1 b p made on went.3)))
+  up-to-first-goes (x ∷ xs) a o b p made on (inr stopped) =
+      from-weaker secrets replicas Any Any (λ done. false ≡ true → did x done) (AllDid (x ∷ xs) made) (λ done any. tt)
+      (λ done is made_is. absurd (true≢false (sym made_is ∙ stopped.1))) a b (each x a o b p false on stopped.0)
 
 -- ---- ranges that were cut are all CREATED
 
@@ -118,129 +143,195 @@ module _ (device : ℕ) (place : Place) where
       let one = came-local (IsContMade Local device place (SetRanges ranges)) a answer b call in
       subst (Has (all_in_state 20 ranges)) (sym one.2.same) (one-sets ranges answer acknowledged a one.0 one.1)
 
+module _ (ring : Ring) (device : ℕ) (place : Place) (seen : is_hidden place ≡ false) where
+  abbrev Runs : Fact → Fact → Sight → Sight → Type 0
+  Runs = RunsFrom ring.secrets (replicas_in ring)
+
+  abbrev Goes : Fact → Fact → Sight → Sight → Type 0
+  Goes = GoesFrom ring.secrets (replicas_in ring)
+
+  as-it-was : (a b : Sight) → b ≡ a → Goes Any Any a b
+  as-it-was = from-same ring.secrets (replicas_in ring) Any Any (λ done any. tt)
+
+  then-any : (a b c : Sight) → Goes Any Any a b → Goes Any Any b c → Goes Any Any a c
+  then-any = from-join ring.secrets (replicas_in ring) Any Any Any
+
   -- ---- the list goes to other devices
 
-  abbrev Stays : Sight → Sight → Type 0
-  Stays = Keeps device place (λ t. t)
+  abbrev Has_list : List Range → Sight → Type 0
+  Has_list = Has device place
 
-  list-stays : (ranges : List Range) (to : ℕ) → device ≢ to → (a : Sight) (o : Outcome) (b : Sight) (p : Outcome) (on : Bool) → Has ranges a
+  abbrev Stays : Sight → Sight → Type 0
+  Stays = StaysBy device place (λ t. t) (Runs Any Any)
+
+  list-stays : (ranges : List Range) (to : ℕ) → device ≢ to → (a : Sight) (o : Outcome) (b : Sight) (p : Outcome) (on : Bool) → Has_list ranges a
       → IsListSent place (SetRanges ranges) to a o b p on → Stays a b
   list-stays ranges to apart a o b p on own is =
       let moves = change-moves Sent to place (SetRanges ranges) a is.0 b is.1 in
-      elsewhere-keeps device place (λ t. t) to place (λ at. apart at.0) a b moves
-      (sent-goes device to place (SetRanges ranges) (Ranges_of to place ranges) (λ answer entries. (refl, refl, refl)) a is.0 b is.1
+      elsewhere-stays device place (λ t. t) (Runs Any Any) to place (λ at. apart at.0) a b moves
+      (sent-from ring.secrets (replicas_in ring) device to place (SetRanges ranges) (Ranges_of to place ranges) (λ answer entries. (refl, refl, refl)) Any Any
+      (λ done any. tt) is.0 (λ done lines any took. tt) a b is.1
       (λ alone m stands. tells-machine device place (λ t. HasList t ranges) a m stands (moves.alone alone) own))
 
   lists-go : (ranges : List Range) (devices : List ℕ) → All (λ to. device ≢ to) devices → (a : Sight) (o : Outcome) (b : Sight) (p : Outcome) (on : Bool)
-      → Has ranges a → InTurn (IsListSent place (SetRanges ranges)) devices a o b p on → GoesOnBy a b
-  lists-go ranges [] apart a o b p on own is = goes-same a b is.0
+      → Has_list ranges a → InTurn (IsListSent place (SetRanges ranges)) devices a o b p on → Goes Any Any a b
+  lists-go ranges [] apart a o b p on own is = as-it-was a b is.0
   lists-go ranges (to ∷ devices) apart a o b p on own (inl went) =
       let one : Stays a went.0 =
       list-stays ranges to (All-head (λ to. device ≢ to) to devices apart) a o went.0 went.1 true own went.2 in
-      goes-join a went.0 b one.goes
+      then-any a went.0 b one.goes
       (lists-go ranges devices (All-tail (λ to. device ≢ to) to devices apart) went.0 went.1 b p on
-      (tells-later device place (λ t. t) (λ t. HasList t ranges) a went.0 one own) went.3)
+      (stays-tells device place (λ t. t) (Runs Any Any) (λ t. HasList t ranges) a went.0 one own) went.3)
   lists-go ranges (to ∷ devices) apart a o b p on own (inr stopped) =
       (list-stays ranges to (All-head (λ to. device ≢ to) to devices apart) a o b p false own stopped.0).goes
 
-  module _ (ring : Ring) where
-    others-apart : All (λ to. device ≢ to) (others ring device place)
-    others-apart =
-        All-weaker (λ to. not (to == device) ≡ true) (λ to. device ≢ to) (λ to is same. differs to is same) (others ring device place)
-        (filter_passes (λ to. not (to == device)) (replicas_in ring place))
-      where
-        differs : (to : ℕ) → not (to == device) ≡ true → device ≡ to → ⊥
-        differs to is same = let one : (to == device) ≡ true = eq-eqb to device (sym same) in true≢false (sym is ∙ ap not one)
+  others-apart : All (λ to. device ≢ to) (others ring device place)
+  others-apart =
+      All-weaker (λ to. not (to == device) ≡ true) (λ to. device ≢ to) (λ to is same. differs to is same) (others ring device place)
+      (filter_passes (λ to. not (to == device)) (replicas_in ring place))
+    where
+      differs : (to : ℕ) → not (to == device) ≡ true → device ≡ to → ⊥
+      differs to is same = let one : (to == device) ≡ true = eq-eqb to device (sym same) in true≢false (sym is ∙ ap not one)
 
-    given-goes : (ranges : List Range) (a : Sight) (o : Outcome) (b : Sight) (p : Outcome) (came : _) (on : Bool) → Has ranges a
-        → IsListGiven ring device place (SetRanges ranges) a o b p came on → GoesOnBy a b
-    given-goes ranges a o b p came on own is = lists-go ranges (others ring device place) others-apart a o b p on own is.0
+  given-goes : (ranges : List Range) (a : Sight) (o : Outcome) (b : Sight) (p : Outcome) (came : _) (on : Bool) → Has_list ranges a
+      → IsListGiven ring device place (SetRanges ranges) a o b p came on → Goes Any Any a b
+  given-goes ranges a o b p came on own is = lists-go ranges (others ring device place) others-apart a o b p on own is.0
 
-    -- ---- it is set at the device itself first
+  -- ---- it is set at the device itself first, behind the creation of all shards
 
-    set-next-goes : (ranges : List Range) (created : all_in_state 20 ranges ≡ ranges) (s : Sight) (answer : ContAnswer) (a : Sight) (o : Outcome) (b : Sight)
-        (p : Outcome) (came : _) (on : Bool) → Calls (IsContMade Local device place (SetRanges ranges)) s Local (Ok answer) a
-        → IsSetNext ring device place (SetRanges ranges) answer a o b p came on → GoesOnBy a b
-    set-next-goes ranges created s answer a o b p came on call (inl given) =
+  module _ (ranges : List Range) (created : all_in_state 20 ranges ≡ ranges) (tiled : AreTiled ranges) where
+    abbrev AllThere : Fact
+    AllThere done = All (AreThere ring.secrets (replicas_in ring) done) ranges
+
+    set-next-goes : (s : Sight) (answer : ContAnswer) (a : Sight) (o : Outcome) (b : Sight) (p : Outcome) (came : _) (on : Bool)
+        → Calls (IsContMade Local device place (SetRanges ranges)) s Local (Ok answer) a
+        → IsSetNext ring device place (SetRanges ranges) answer a o b p came on → Goes Any Any a b
+    set-next-goes s answer a o b p came on call (inl given) =
         given-goes ranges a o b p came on
-        (subst (λ (rs : List Range). Has rs a) created (sets ranges answer given.0 s a call)) given.1
-    set-next-goes ranges created s answer a o b p came on call (inr hindered) = goes-same a b hindered.1
+        (subst (λ (rs : List Range). Has_list rs a) created (sets device place ranges answer given.0 s a call)) given.1
+    set-next-goes s answer a o b p came on call (inr hindered) = as-it-was a b hindered.1
 
-    list-set-goes : (ranges : List Range) (created : all_in_state 20 ranges ≡ ranges) (a : Sight) (o : Outcome) (b : Sight) (p : Outcome) (came : _) (on : Bool)
-        → IsListSet ring device place (SetRanges ranges) a o b p came on → GoesOnBy a b
-    list-set-goes ranges created a o b p came on is =
-        goes-join a is.1 b (made-goes device place (SetRanges ranges) a is.0 is.1 is.2)
-        (set-next-goes ranges created a is.0 is.1 o b p came on is.2 is.3)
+    list-set-goes : (a : Sight) (o : Outcome) (b : Sight) (p : Outcome) (came : _) (on : Bool)
+        → IsListSet ring device place (SetRanges ranges) a o b p came on → Goes AllThere Any a b
+    list-set-goes a o b p came on is =
+        from-join ring.secrets (replicas_in ring) AllThere Any Any a is.1 b
+        (made-from ring.secrets (replicas_in ring) device place (SetRanges ranges) AllThere Any
+        (λ done there. record { plain = seen; tiled = tiled; made = there }) (λ done lines there. tt) a is.0 is.1 is.2)
+        (set-next-goes a is.0 is.1 o b p came on is.2 is.3)
 
-    module _ (time : ℕ) where
-      -- ---- shards are created
+  module _ (time : ℕ) where
+    -- ---- shards are created
 
-      created-goes : (shard : Place) (to : ℕ) (a : Sight) (o : Outcome) (b : Sight) (p : Outcome) (made on : Bool) → IsCreated time shard to a o b p made on
-          → GoesOnBy a b
-      created-goes shard to a o b p made on is =
-          sent-goes device to shard (Create time) (Creation_of to shard time) (λ answer entries. (refl, refl, refl)) a is.0 b is.1 (λ alone m stands. tt)
+    -- this device created the shard
+    abbrev IsThere : Place → ℕ → Fact
+    IsThere shard to done = WasTaken done to shard (Create time)
 
-      created-at-goes : (shard : Place) (devices : List ℕ) (a : Sight) (o : Outcome) (b : Sight) (p : Outcome) (made on : Bool)
-          → IsCreatedAt time shard devices a o b p made on → GoesOnBy a b
-      created-at-goes shard devices a o b p made on is = up-to-first-goes (IsCreated time shard) (created-goes shard) devices a o b p made on is
+    created-took : (shard : Place) (to : ℕ) (r : Result ContAnswer Lost) (o p : Outcome) (made on : Bool) → IsCreationHeard r o p made on
+        → (done lines : List RunLine) → TookAs to shard (Create time) r lines → made ≡ true → IsThere shard to (done ++ lines)
+    created-took shard to (Ok answer) o p made on (inl is) done lines took made_is =
+        taken-remains to shard (Create time) done lines (took is.0)
+    created-took shard to (Ok answer) o p made on (inr hindered) done lines took made_is = absurd (true≢false (sym made_is ∙ hindered.2))
+    created-took shard to (Err lost) o p made on is done lines took made_is = absurd (true≢false (sym made_is ∙ is.1))
 
-      all-created-go : (ranges : List Range) (a : Sight) (o : Outcome) (b : Sight) (p : Outcome) (made on : Bool) → AreCreated time ring ranges a o b p made on
-          → GoesOnBy a b
-      all-created-go ranges a o b p made on is =
-          up-to-first-goes (λ (range : Range). IsCreatedAt time range.shard (replicas_in ring range.shard))
-          (λ range. created-at-goes range.shard (replicas_in ring range.shard)) ranges a o b p made on is
+    created-goes : (shard : Place) (to : ℕ) (a : Sight) (o : Outcome) (b : Sight) (p : Outcome) (made on : Bool) → IsCreated time shard to a o b p made on
+        → Goes Any (λ done. made ≡ true → IsThere shard to done) a b
+    created-goes shard to a o b p made on is =
+        sent-from ring.secrets (replicas_in ring) device to shard (Create time) (Creation_of to shard time) (λ answer entries. (refl, refl, refl)) Any
+        (λ done. made ≡ true → IsThere shard to done) (λ done any. tt) is.0
+        (λ done lines any took. created-took shard to is.0 (sending o) p made on is.2 done lines took) a b is.1 (λ alone m stands. tt)
 
-      -- ---- the container is split
+    created-at-goes : (shard : Place) (devices : List ℕ) (a : Sight) (o : Outcome) (b : Sight) (p : Outcome) (made on : Bool)
+        → IsCreatedAt time shard devices a o b p made on → Goes Any (λ done. made ≡ true → All (λ to. IsThere shard to done) devices) a b
+    created-at-goes shard devices a o b p made on is =
+        up-to-first-goes ring.secrets (replicas_in ring) (IsCreated time shard) (IsThere shard) (λ to. taken-lasts to shard (Create time))
+        (created-goes shard) devices a o b p made on is
 
-      split-goes : (ranges : List Range) (created : all_in_state 20 ranges ≡ ranges) (a : Sight) (o : Outcome) (b : Sight) (p : Outcome) (came : _) (on : Bool)
-          → IsSplit ring device place time ranges a o b p came on → GoesOnBy a b
-      split-goes ranges created a o b p came on (inl went) =
-          goes-join a went.0 b (all-created-go ranges a o went.0 went.1 true true went.2) (list-set-goes ranges created went.0 went.1 b p came on went.3)
-      split-goes ranges created a o b p came on (inr stopped) = all-created-go ranges a o b p false on stopped.0
+    range-created-goes : (range : Range) (a : Sight) (o : Outcome) (b : Sight) (p : Outcome) (made on : Bool)
+        → IsCreatedAt time range.shard (replicas_in ring range.shard) a o b p made on
+        → Goes Any (λ done. made ≡ true → AreThere ring.secrets (replicas_in ring) done range) a b
+    range-created-goes range a o b p made on is =
+        from-weaker ring.secrets (replicas_in ring) Any Any
+        (λ done. made ≡ true → All (λ to. IsThere range.shard to done) (replicas_in ring range.shard))
+        (λ done. made ≡ true → AreThere ring.secrets (replicas_in ring) done range) (λ done any. tt)
+        (λ done all made_is r among.
+        (time, All-contains (λ to. IsThere range.shard to done) (replicas_in ring range.shard) r (all made_is) among)) a b
+        (created-at-goes range.shard (replicas_in ring range.shard) a o b p made on is)
 
-      cut-goes : (bounds : List (List ℕ)) (cut : Option (List Range)) (a : Sight) (o : Outcome) (b : Sight) (p : Outcome) (came : _) (on : Bool)
-          → IsCutInto ring.secrets place time bounds cut → IsCutNext ring device place time cut a o b p came on → GoesOnBy a b
-      cut-goes bounds (Some ranges) a o b p came on are is =
-          split-goes ranges (cut-created ring.secrets place time 0 [] bounds ranges are) a o b p came on is
-      cut-goes bounds None a o b p came on are is = goes-same a b is.0
+    all-created-go : (ranges : List Range) (a : Sight) (o : Outcome) (b : Sight) (p : Outcome) (made on : Bool) → AreCreated time ring ranges a o b p made on
+        → Goes Any (λ done. made ≡ true → All (AreThere ring.secrets (replicas_in ring) done) ranges) a b
+    all-created-go ranges a o b p made on is =
+        up-to-first-goes ring.secrets (replicas_in ring) (λ (range : Range). IsCreatedAt time range.shard (replicas_in ring range.shard))
+        (λ range done. AreThere ring.secrets (replicas_in ring) done range) (are-there-lasts ring.secrets (replicas_in ring)) range-created-goes ranges
+        a o b p made on is
 
-    module _ (per_shard time : ℕ) where
-      found-next-goes : (got : Result Parcel ContAnswer) (a : Sight) (o : Outcome) (b : Sight) (p : Outcome) (came : _) (on : Bool)
-          → IsFoundNext ring device place per_shard time got a o b p came on → GoesOnBy a b
-      found-next-goes (Ok parcel) a o b p came on (inl is) = cut-goes time _ is.0 a o b p came on is.1 is.2
-      found-next-goes (Ok parcel) a o b p came on (inr wants) = goes-same a b wants.0
-      found-next-goes (Err answer) a o b p came on is = goes-same a b is.0
+    -- ---- the container is split
 
-      found-goes : (a : Sight) (o : Outcome) (b : Sight) (p : Outcome) (came : _) (on : Bool) → IsFound ring device place per_shard time a o b p came on
-          → GoesOnBy a b
-      found-goes a o b p came on is =
-          goes-join a is.1 b
-          (looked-goes device place (parcel_of device) (λ read. Parceled place device read) (parcels device place device) a is.0 is.1 is.2)
-          (found-next-goes is.0 is.1 o b p came on is.3)
+    split-goes : (ranges : List Range) → all_in_state 20 ranges ≡ ranges → AreTiled ranges → (a : Sight) (o : Outcome) (b : Sight) (p : Outcome) (came : _)
+        (on : Bool) → IsSplit ring device place time ranges a o b p came on → Goes Any Any a b
+    split-goes ranges created tiled a o b p came on (inl went) =
+        from-join ring.secrets (replicas_in ring) Any (AllThere ranges created tiled) Any a went.0 b
+        (from-weaker ring.secrets (replicas_in ring) Any Any (λ done. true ≡ true → All (AreThere ring.secrets (replicas_in ring) done) ranges)
+        (AllThere ranges created tiled) (λ done any. tt) (λ done all. all refl) a went.0 (all-created-go ranges a o went.0 went.1 true true went.2))
+        (list-set-goes ranges created tiled went.0 went.1 b p came on went.3)
+    split-goes ranges created tiled a o b p came on (inr stopped) =
+        from-any ring.secrets (replicas_in ring) Any (λ done. false ≡ true → All (AreThere ring.secrets (replicas_in ring) done) ranges) a b
+        (all-created-go ranges a o b p false on stopped.0)
 
-      list-next-goes : (ranges : Option (List Range)) (a : Sight) (o : Outcome) (b : Sight) (p : Outcome) (came : _) (on : Bool)
-          → Tells device place (λ t. (list : List Range) → ranges ≡ Some list → HasList t list) a
-          → IsListNext ring device place per_shard time ranges a o b p came on → GoesOnBy a b
-      list-next-goes None a o b p came on own is = found-goes a o b p came on is
-      list-next-goes (Some list) a o b p came on own is = given-goes list a o b p came on (λ alone told. own alone told list refl) is
+    cut-goes : (bounds : List (List ℕ)) (cut : Option (List Range)) (a : Sight) (o : Outcome) (b : Sight) (p : Outcome) (came : _) (on : Bool)
+        → IsCutInto ring.secrets place time bounds cut → IsCutNext ring device place time cut a o b p came on → Goes Any Any a b
+    cut-goes bounds (Some ranges) a o b p came on are is =
+        split-goes ranges (cut-created ring.secrets place time 0 [] bounds ranges are.0) are.1 a o b p came on is
+    cut-goes bounds None a o b p came on are is = as-it-was a b is.0
 
-      sharding-next-goes : (s : Sight) (got : Result Sharding ContAnswer) (a : Sight) (o : Outcome) (b : Sight) (p : Outcome) (came : _) (on : Bool)
-          → Calls (IsLooked Local device place sharding_of (λ read. Sharded place read)) s Local (Ok got) a
-          → IsShardingNext ring device place per_shard time got a o b p came on → GoesOnBy a b
-      sharding-next-goes s (Ok sharding) a o b p came on call is =
-          list-next-goes sharding.ranges a o b p came on
-          (looked-tells device place sharding_of (λ read. Sharded place read) (λ t. (list : List Range) → sharding.ranges ≡ Some list → HasList t list)
-          sharding (λ t front same. read-has sharding t front same) s a call) is
-      sharding-next-goes s (Err answer) a o b p came on call is = goes-same a b is.0
+  -- ---- the whole
 
-      run-goes : (a b : Sight) (p : Outcome) (came : _) (on : Bool) → IsRun ring device place per_shard time a b p came on → GoesOnBy a b
-      run-goes a b p came on is =
-          goes-join a is.1 b (looked-goes device place sharding_of (λ read. Sharded place read) (shardings device place) a is.0 is.1 is.2)
-          (sharding-next-goes a is.0 is.1 nothing_yet b p came on is.2 is.3)
+  -- reads of which nothing has to be known
+  sharding-read-goes : (a : Sight) (got : Result Sharding ContAnswer) (b : Sight)
+      → Calls (Looks device place sharding_of (λ read. Sharded place read)) a Local (Ok got) b → Goes Any Any a b
+  sharding-read-goes a got b call =
+      looked-from ring.secrets (replicas_in ring) device place sharding_of (λ read. Sharded place read) (shardings device place) Any Any got
+      (λ done entries any. (tt, tt)) (λ done wants any. tt) a b call
 
-      pub creation-goes-on : (s : Sight) (result : Result Outcome NoMemory) (t : Sight) → IsCreate ring device place per_shard time s result t → GoesOnBy s t
-      creation-goes-on s (Ok outcome) t is = run-goes s t is.0 is.1 true is.2
-      creation-goes-on s (Err wanting) t is = run-goes s t is.0 is.1 false is.2
+  rows-read-goes : (a : Sight) (got : Result Parcel ContAnswer) (b : Sight)
+      → Calls (Looks device place (parcel_of device) (λ read. Parceled place device read)) a Local (Ok got) b → Goes Any Any a b
+  rows-read-goes a got b call =
+      looked-from ring.secrets (replicas_in ring) device place (parcel_of device) (λ read. Parceled place device read) (parcels device place device) Any Any
+      got (λ done entries any. (tt, tt)) (λ done wants any. tt) a b call
+
+  module _ (per_shard time : ℕ) where
+    found-next-goes : (got : Result Parcel ContAnswer) (a : Sight) (o : Outcome) (b : Sight) (p : Outcome) (came : _) (on : Bool)
+        → IsFoundNext ring device place per_shard time got a o b p came on → Goes Any Any a b
+    found-next-goes (Ok parcel) a o b p came on (inl is) = cut-goes time _ is.0 a o b p came on is.1 is.2
+    found-next-goes (Ok parcel) a o b p came on (inr wants) = as-it-was a b wants.0
+    found-next-goes (Err answer) a o b p came on is = as-it-was a b is.0
+
+    found-goes : (a : Sight) (o : Outcome) (b : Sight) (p : Outcome) (came : _) (on : Bool) → IsFound ring device place per_shard time a o b p came on
+        → Goes Any Any a b
+    found-goes a o b p came on is =
+        then-any a is.1 b (rows-read-goes a is.0 is.1 is.2) (found-next-goes is.0 is.1 o b p came on is.3)
+
+    list-next-goes : (ranges : Option (List Range)) (a : Sight) (o : Outcome) (b : Sight) (p : Outcome) (came : _) (on : Bool)
+        → Tells device place (λ t. (list : List Range) → ranges ≡ Some list → HasList t list) a
+        → IsListNext ring device place per_shard time ranges a o b p came on → Goes Any Any a b
+    list-next-goes None a o b p came on own is = found-goes a o b p came on is
+    list-next-goes (Some list) a o b p came on own is = given-goes list a o b p came on (λ alone told. own alone told list refl) is
+
+    sharding-next-goes : (s : Sight) (got : Result Sharding ContAnswer) (a : Sight) (o : Outcome) (b : Sight) (p : Outcome) (came : _) (on : Bool)
+        → Calls (IsLooked Local device place sharding_of (λ read. Sharded place read)) s Local (Ok got) a
+        → IsShardingNext ring device place per_shard time got a o b p came on → Goes Any Any a b
+    sharding-next-goes s (Ok sharding) a o b p came on call is =
+        list-next-goes sharding.ranges a o b p came on
+        (looked-tells device place sharding_of (λ read. Sharded place read) (λ t. (list : List Range) → sharding.ranges ≡ Some list → HasList t list)
+        sharding (λ t front same. read-has sharding t front same) s a call) is
+    sharding-next-goes s (Err answer) a o b p came on call is = as-it-was a b is.0
+
+    run-goes : (a b : Sight) (p : Outcome) (came : _) (on : Bool) → IsRun ring device place per_shard time a b p came on → Goes Any Any a b
+    run-goes a b p came on is =
+        then-any a is.1 b (sharding-read-goes a is.0 is.1 is.2) (sharding-next-goes a is.0 is.1 nothing_yet b p came on is.2 is.3)
+
+    pub creation-goes-on : (s : Sight) (result : Result Outcome NoMemory) (t : Sight) → IsCreate ring device place per_shard time s result t → Goes Any Any s t
+    creation-goes-on s (Ok outcome) t is = run-goes s t is.0 is.1 true is.2
+    creation-goes-on s (Err wanting) t is = run-goes s t is.0 is.1 false is.2
 
 -- the nodes and the door around them after such a pass
 abbrev pub creation_sight_after : {ring : Ring} {device : ℕ} {place : Place} {per_shard time : ℕ} {acts : Acts} {s : Sight} {result : Result Outcome NoMemory}
@@ -248,11 +339,12 @@ abbrev pub creation_sight_after : {ring : Ring} {device : ℕ} {place : Place} {
 creation_sight_after {t = t} over = around t over.acts_behind over.messages over.faults over.asks
 
 pub creations_run : CreationsRun
-creations_run ring device place per_shard time acts s result t over alone =
-    leaving-within s t acts over.acts_behind 0 0 0 over.messages over.faults over.asks
-    ((creation-goes-on device place ring per_shard time (begun acts s) result (creation_sight_after over) over.creates).runs alone)
+creations_run ring device place per_shard time acts s result t over seen alone =
+    honest-within s t acts over.acts_behind 0 0 0 over.messages over.faults over.asks ring.secrets (replicas_in ring)
+    (from-honestly ring.secrets (replicas_in ring) Any (begun acts s) (creation_sight_after over) (λ done. tt)
+    ((creation-goes-on ring device place seen per_shard time (begun acts s) result (creation_sight_after over) over.creates).runs alone))
 
 pub creation-over-nodes : (ring : Ring) (device : ℕ) (place : Place) (per_shard time : ℕ) (acts : Acts) (s : Sight) (result : Result Outcome NoMemory)
-    (t : Sight) → AreShardsCreatedOver ring device place per_shard time acts s result t → t.nodes ≡ s.nodes
-creation-over-nodes ring device place per_shard time acts s result t over =
-    (creation-goes-on device place ring per_shard time (begun acts s) result (creation_sight_after over) over.creates).nodes
+    (t : Sight) → is_hidden place ≡ false → AreShardsCreatedOver ring device place per_shard time acts s result t → t.nodes ≡ s.nodes
+creation-over-nodes ring device place per_shard time acts s result t seen over =
+    (creation-goes-on ring device place seen per_shard time (begun acts s) result (creation_sight_after over) over.creates).nodes

@@ -140,5 +140,5 @@ module _ (from to part : ℕ) where
 
       runs : b.alone ≡ true → RunsOnLeaving a b
       runs alone =
-          sent-leaves (object-changes to name (Receive w)) from (Write_of to name w) (λ answer added. (refl, refl, refl)) (λ answer added. refl) a r b p alone
-          (λ m stands. carried m stands alone)
+          sent-leaves (object-changes to name (Receive w)) from (Write_of to name w) tt (λ answer added. (refl, refl, refl)) (λ answer added. refl) a r b p
+          alone (λ m stands. carried m stands alone)

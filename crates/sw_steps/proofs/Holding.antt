@@ -9,31 +9,25 @@ use Rattle.sw_container_steps.specs.Halves.{ContHalf}
 use Rattle.sw_container_steps.specs.Rules.{ContHistory, cont_rules}
 use Rattle.sw_container_steps.specs.declared.cont_answer.ContAnswer.{ContAnswer}
 use Rattle.sw_container_steps.specs.declared.cont_change.ContChange.{ContChange}
-use Rattle.sw_container_steps.specs.declared.cont_entry.ContEntry.{ContEntry}
 use Rattle.sw_hashpath.specs.declared.place.Place.{Place}
 use Rattle.sw_keeper.specs.declared.tables.Tables.{Tables}
-use Rattle.sw_machine.proofs.Doors.{container-changes}
 use Rattle.sw_machine.proofs.Rows.{made-merges}
-use Rattle.sw_machine.specs.Doors.{LooksGoOn, StandsFor}
-use Rattle.sw_machine.specs.Machine.{Carries, KnownRow, Machine, empties, rows_in, was_made}
-use Rattle.sw_machine.specs.Messages.{Arrives, Message}
+use Rattle.sw_machine.specs.Doors.{StandsFor}
+use Rattle.sw_machine.specs.Machine.{KnownRow, Machine, empties, rows_in, was_made}
 use Rattle.sw_machine.specs.Sides.{TellsAt}
 use Rattle.sw_peer.proofs.Calls.{calls-moves}
-use Rattle.sw_peer.proofs.ContCalls.{cont-made-step, look-step}
+use Rattle.sw_peer.proofs.ContCalls.{cont-made-step}
 use Rattle.sw_peer.specs.ContSights.{ContMoves, IsContMade, IsIn, IsLooked}
 use Rattle.sw_peer.specs.Sights.{Calls, Nodes, Sight, cont_lock}
 use Rattle.sw_peer.specs.declared.cont_event.ContEvent.{ContEvent}
-use Rattle.sw_peer.specs.declared.cont_event.ContEvent.TheVariants as cont_events
-use Rattle.sw_peer.specs.declared.line.Event.TheVariants.{AtContainer}
 use Rattle.sw_peer.specs.declared.link.Link.{Link}
-use Rattle.sw_peer.specs.declared.link.Link.TheVariants.{Local, Sent}
+use Rattle.sw_peer.specs.declared.link.Link.TheVariants.{Local}
 use Rattle.sw_peer.specs.declared.link.Lost.{Lost}
 use Rattle.sw_rows.specs.Rows.{Listed, merged}
 use Rattle.sw_rows.specs.declared.numbered.Numbered.{Numbered}
 use Rattle.sw_rows.specs.declared.row.Row.{Row}
 use Rattle.sw_step.specs.Steps.{StepChanges}
 use Rattle.sw_steps.proofs.GoingBy.{GoesOnBy, came-local, goes-join, goes-same}
-use Rattle.sw_steps.proofs.Leaving.{made-leaves, reads-leave, sent-leaves}
 
 -- ---- rows that are read are among all rows
 
@@ -54,41 +48,10 @@ pub change-moves : (link : Link) (device : ℕ) (place : Place) (change : ContCh
 change-moves link device place change a r b call =
     calls-moves (ContMoves (IsIn device place)) (IsContMade link device place change) (cont-made-step link device place change) a link r b call
 
--- a message that a device may send as things are
-pub sent-goes : (from to : ℕ) (at : Place) (change : ContChange) (message : Message)
-    → ((answer : ContAnswer) (entries : List ContEntry) → Arrives message to (AtContainer (cont_events.Changed at change answer) entries))
-    → (a : Sight) (r : Result ContAnswer Lost) (b : Sight) → Calls (IsContMade Sent to at change) a Sent r b
-    → (b.alone ≡ true → (m : Machine) → StandsFor a m → Carries a.nodes m from message) → GoesOnBy a b
-sent-goes from to at change message arrives a r b call carried =
-    let moves : ContMoves (IsIn to at) a b = change-moves Sent to at change a r b call in
-    record {
-      nodes = moves.nodes;
-      alone = moves.alone;
-      runs = λ alone. sent-leaves (container-changes to at change) from message arrives (λ answer added. refl) a r b call alone (carried alone);
-    }
-
--- a step at the device itself
-pub made-goes : (device : ℕ) (place : Place) (change : ContChange) (a : Sight) (answer : ContAnswer) (b : Sight)
-    → Calls (IsContMade Local device place change) a Local (Ok answer) b → GoesOnBy a b
-made-goes device place change a answer b call =
-    let moves : ContMoves (IsIn device place) a b = change-moves Local device place change a (Ok answer) b call in
-    record {
-      nodes = moves.nodes;
-      alone = moves.alone;
-      runs = made-leaves (container-changes device place change) (λ given added. refl) a answer b call;
-    }
-
 module _ {A : Type 0} (device : ℕ) (place : Place) (reading : Option Tables → ℕ → Result A ContAnswer) (event : Result A ContAnswer → ContEvent) where
   -- a read at the device itself
   abbrev pub Looks : Sight → Result A ContAnswer → Sight → Type 0
   Looks = IsLooked Local device place reading event
-
-  pub looked-goes : LooksGoOn device place reading event → (a : Sight) (got : Result A ContAnswer) (b : Sight) → Calls Looks a Local (Ok got) b
-      → GoesOnBy a b
-  looked-goes goes a got b call =
-      let moves : ContMoves (IsIn device place) a b =
-      calls-moves (ContMoves (IsIn device place)) Looks (look-step Local device place reading event) a Local (Ok got) b call in
-      record { nodes = moves.nodes; alone = moves.alone; runs = reads-leave goes (λ way read added. refl) Local a (Ok got) b call }
 
 -- ---- what the device has of the container
 
@@ -180,22 +143,10 @@ module _ (device : ℕ) (place : Place) where
         made-merges h s place change stay answer g t step told
         ∙ ap (λ (rows : List Row). fold merged (rows_of (s place)) rows) (no-rows (was_made answer step.made))
 
-    one-keeps-rows : (a : Sight) (answer : ContAnswer) (b : Sight) → IsContMade Local device place change a answer b → b.alone ≡ true → IsTold a
+    pub one-keeps-rows : (a : Sight) (answer : ContAnswer) (b : Sight) → IsContMade Local device place change a answer b → b.alone ≡ true → IsTold a
         → rows_of (b.containers.holds device place) ≡ rows_of (a.containers.holds device place)
     one-keeps-rows a answer b made alone told =
         let step = made.step in
         step-keeps-rows (a.containers.seen (cont_lock a.nodes device place)) step.held answer (b.containers.seen (cont_lock a.nodes device place))
         (b.containers.holds device place) (step-alone change a answer b made alone) told
         ∙ ap rows_of (step.is_held alone place refl)
-
-    pub made-keeps-rows : (a : Sight) (answer : ContAnswer) (b : Sight) → Calls (IsContMade Local device place change) a Local (Ok answer) b
-        → Keeps rows_of a b
-    made-keeps-rows a answer b call =
-        let one = came-local (IsContMade Local device place change) a answer b call in
-        let told : IsTold b → IsTold a = told-before (IsIn device place) a b (change-moves Local device place change a (Ok answer) b call) in
-        record {
-          goes = made-goes device place change a answer b call;
-          told = told;
-          kept = subst (λ (x : Sight). x.alone ≡ true → IsTold x → rows_of (x.containers.holds device place) ≡ rows_of (a.containers.holds device place))
-              (sym one.2.same) (λ alone tells. one-keeps-rows a answer one.0 one.1 alone (told-before (IsIn device place) a one.0 one.1.moves tells));
-        }

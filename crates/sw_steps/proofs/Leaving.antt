@@ -3,7 +3,7 @@ use Rattle.std.proofs.Common.{◌≡◌, ℕ, Bool, true, List, [], ◌∷◌, s
 use Rattle.std.proofs.lemmas.List.Elements.{Contains-push}
 use Rattle.std.specs.Prelude.{Contains}
 use Rattle.sw_machine.proofs.Going.{going-joins, lines-leaving, sending-goes}
-use Rattle.sw_machine.specs.Doors.{AreLinesOf, ChangesGoOn, EndsAsHeard, GoesOn, LeaveRecords, ReadsGoOn, RunsOnLeaving, StandsFor, leaves_records}
+use Rattle.sw_machine.specs.Doors.{AreLinesOf, ChangesGoOn, EndsAsHeard, GoesOn, IsDirect, LeaveRecords, ReadsGoOn, RunsOnLeaving, StandsFor, leaves_records}
 use Rattle.sw_machine.specs.Machine.{Came, Carries, Machine, RunLine, Went}
 use Rattle.sw_machine.specs.Messages.{Arrives, Message}
 use Rattle.sw_peer.specs.Sights.{Calls, Sight}
@@ -45,11 +45,11 @@ module _ {A E : Type 0} {step : Link → Sight → A → Sight → Type 0} {line
       let came = goes.calls Sent a r b went.0.after went.0.stands alone (λ x added is_message may. (message, is_sent, arrives x added)) calls in
       (came.0, came.1, came.2, (going-joins a m (Went from message ∷ []) a came.0 b went.0 came.3).0)
 
-  pub sent-leaves : ChangesGoOn step line wanting → (from : ℕ) (message : Message)
+  pub sent-leaves : ChangesGoOn step line wanting → (from : ℕ) (message : Message) → IsDirect message
       → ((x : A) (added : List E) → Arrives message (line Sent x added).device (line Sent x added).event)
       → ((x : A) (added : List E) → leaves_records (line Sent x added).event ≡ true)
       → (a : Sight) (r : Result A Lost) (b : Sight) → Calls (step Sent) a Sent r b → b.alone ≡ true
       → ((m : Machine) → StandsFor a m → Carries a.nodes m from message) → RunsOnLeaving a b
-  sent-leaves goes from message arrives leaves a r b calls alone carried m stands =
+  sent-leaves goes from message direct arrives leaves a r b calls alone carried m stands =
       let came = sends-on goes from message arrives a r b calls alone m stands (carried m stands) in
-      (Went from message ∷ came.0, (tt, lines-leaving (line Sent) wanting leaves came.0 came.1), came.3)
+      (Went from message ∷ came.0, (direct, lines-leaving (line Sent) wanting leaves came.0 came.1), came.3)

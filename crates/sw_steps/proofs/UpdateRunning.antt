@@ -1,5 +1,5 @@
--- An update is an honest run of the machine: each row that is sent is the one to tell for its record, and goes to the container of the record's name; a device
--- is marked once it took such a row; and a record is dropped by all devices of its container.
+-- An update is an honest run of the machine: each row that is sent is the one to tell for its record, and goes to the container of the record's name, or to a
+-- shard that this left it to; a device is marked once such a row counts as acknowledged by it; and a record is dropped by all devices of its container.
 use Rattle.std.proofs.Common.{◌≡◌, ℕ, Bool, true, false, List, [], ◌∷◌, refl, sym, ap, subst, inl, inr, Option, None, Some, Result, Ok, Err}
 use Rattle.std.specs.List.{range_with_len}
 use Rattle.std.specs.Prelude.{◌^◌}
@@ -7,7 +7,6 @@ use Rattle.std.specs.declared.alloc.Global.{Global}
 use Rattle.std.specs.declared.vec.Vec.{Vec}
 use Rattle.sw_hashpath.specs.Places.{IsPlaceOf}
 use Rattle.sw_hashpath.specs.declared.place.Place.{Place}
-use Rattle.sw_hashpath.specs.declared.secrets.Secrets.{Secrets}
 use Rattle.sw_lossy.specs.Losses.{around, begun}
 use Rattle.sw_lossy.specs.declared.acts.Acts.{Acts}
 use Rattle.sw_machine.proofs.Doors.{records-reads}
@@ -24,7 +23,8 @@ use Rattle.sw_ring.specs.declared.ring.Ring.{Ring}
 use Rattle.sw_rows.specs.declared.row.Row.{Row}
 use Rattle.sw_pass.specs.Rings.{replicas_in}
 use Rattle.sw_updater.specs.Reading.{AreRead}
-use Rattle.sw_updater.specs.Updating.{Course, IsAfterBase, IsAfterDrop, IsGoneOver, IsReadAgain, IsRowTold, IsSettled, IsUpdate, IsUpdated, course, to_tell}
+use Rattle.sw_redirect.specs.Sending.{Course, course}
+use Rattle.sw_updater.specs.Updating.{IsAfterBase, IsAfterDrop, IsGoneOver, IsReadAgain, IsRowTold, IsSettled, IsUpdate, IsUpdated, to_tell}
 use Rattle.sw_steps.proofs.GoingBy.{GoesOnBy, goes-join, goes-same}
 use Rattle.sw_steps.proofs.Honestly.{AreAllOf, GoesHonestly, Knows, honestly-join, honestly-leaving, honestly-same, knows-later, named-replicas}
 use Rattle.sw_steps.proofs.Leaving.{reads-leave}
@@ -54,59 +54,63 @@ reads-go device (stripe ∷ stripes) a got b (inr stopped) = stripe-goes device 
 
 -- ---- one record
 
-module _ (secrets : Secrets) (replicas : Place → List ℕ) (device : ℕ) (filed : Filed) (place : Place) (placed : IsPlaceOf secrets filed.name place)
-    (all : List ℕ) (are : AreAllOf secrets replicas filed.name all) where
+module _ (ring : Ring) (device : ℕ) (filed : Filed) (place : Place) (placed : IsPlaceOf ring.secrets filed.name place) (all : List ℕ)
+    (are : AreAllOf ring.secrets (replicas_in ring) filed.name all) where
   abbrev Goes : Sight → Sight → Type 0
-  Goes = GoesHonestly secrets replicas
+  Goes = GoesHonestly ring.secrets (replicas_in ring)
 
-  later : (a b : Sight) → Goes a b → Knows secrets a → Knows secrets b
-  later a b goes knows = knows-later secrets a b goes.nodes knows
+  later : (a b : Sight) → Goes a b → Knows ring.secrets a → Knows ring.secrets b
+  later a b goes knows = knows-later ring.secrets a b goes.nodes knows
 
   as-it-was : (c d : Course) (missed : Bool) → d ≡ course c.sight missed → Goes c.sight d.sight
-  as-it-was c d missed is = honestly-same secrets replicas c.sight d.sight (ap (λ (x : Course). x.sight) is)
+  as-it-was c d missed is = honestly-same ring.secrets (replicas_in ring) c.sight d.sight (ap (λ (x : Course). x.sight) is)
 
   read-honestly : (a : Sight) (got : Result (Option Row) DirFault) (b : Sight) → Calls (Read device filed) a Local (Ok got) b → Goes a b
-  read-honestly a got b call = honestly-leaving secrets replicas a b (read-goes device filed a got b call)
+  read-honestly a got b call = honestly-leaving ring.secrets (replicas_in ring) a b (read-goes device filed a got b call)
 
-  row-told-goes : (row : Row) (c : Course) (o : Outcome) (d : Course) (p : Outcome) (on : Bool) → Knows secrets c.sight → Stands device filed c.sight row
-      → IsRowTold device filed place all row c o d p on → Goes c.sight d.sight
+  row-told-goes : (row : Row) (c : Course) (o : Outcome) (d : Course) (p : Outcome) (on : Bool) → Knows ring.secrets c.sight → Stands device filed c.sight row
+      → IsRowTold device filed ring place all row c o d p on → Goes c.sight d.sight
   row-told-goes row c o d p on knows own (inl went) =
-      honestly-join secrets replicas c.sight (went.0).sight d.sight
-      (all-told-go device filed secrets replicas place placed row (to_tell filed.done all) c o went.0 went.1 true knows own went.2)
-      (dropped-goes device filed secrets replicas all are went.0 went.1 d p went.3.0 on went.3.1)
+      honestly-join ring.secrets (replicas_in ring) c.sight (went.0).sight d.sight
+      (all-told-go device filed ring place placed row (to_tell filed.done all) c o went.0 went.1 true knows own went.2)
+      (dropped-goes device filed ring.secrets (replicas_in ring) all are went.0 went.1 d p went.3.0 on went.3.1)
   row-told-goes row c o d p on knows own (inr stopped) =
-      all-told-go device filed secrets replicas place placed row (to_tell filed.done all) c o d p false knows own stopped.0
+      all-told-go device filed ring place placed row (to_tell filed.done all) c o d p false knows own stopped.0
 
-  read-again-goes : (s : Sight) (base : Result (Option Row) DirFault) (c : Course) (o : Outcome) (d : Course) (p : Outcome) (on : Bool) → Knows secrets c.sight
-      → Calls (Read device filed) s Local (Ok base) c.sight → IsReadAgain device filed place all base c o d p on → Goes c.sight d.sight
+  read-again-goes : (s : Sight) (base : Result (Option Row) DirFault) (c : Course) (o : Outcome) (d : Course) (p : Outcome) (on : Bool)
+      → Knows ring.secrets c.sight → Calls (Read device filed) s Local (Ok base) c.sight → IsReadAgain device filed ring place all base c o d p on
+      → Goes c.sight d.sight
   read-again-goes s (Ok (Some row)) c o d p on knows call is = row-told-goes row c o d p on knows (read-stands device filed s row c.sight call) is
   read-again-goes s (Ok None) c o d p on knows call is = as-it-was c d c.missed is.0
   read-again-goes s (Err fault) c o d p on knows call is = as-it-was c d true is.0
 
-  after-drop-goes : (dropped missed : Bool) (c : Course) (o : Outcome) (d : Course) (p : Outcome) (on : Bool) → Knows secrets c.sight
-      → IsAfterDrop device filed place all dropped missed c o d p on → Goes c.sight d.sight
+  after-drop-goes : (dropped missed : Bool) (c : Course) (o : Outcome) (d : Course) (p : Outcome) (on : Bool) → Knows ring.secrets c.sight
+      → IsAfterDrop device filed ring place all dropped missed c o d p on → Goes c.sight d.sight
   after-drop-goes true missed c o d p on knows is = as-it-was c d c.missed is.0
   after-drop-goes false true c o d p on knows is = as-it-was c d c.missed is.0
   after-drop-goes false false c o d p on knows is =
       let read : Goes c.sight is.1 = read-honestly c.sight is.0 is.1 is.2 in
-      honestly-join secrets replicas c.sight is.1 d.sight read
+      honestly-join ring.secrets (replicas_in ring) c.sight is.1 d.sight read
       (read-again-goes c.sight is.0 (course is.1 c.missed) o d p on (later c.sight is.1 read knows) is.2 is.3)
 
-  after-base-goes : (s : Sight) (base : Result (Option Row) DirFault) (c : Course) (o : Outcome) (d : Course) (p : Outcome) (on : Bool) → Knows secrets c.sight
-      → Calls (Read device filed) s Local (Ok base) c.sight → IsAfterBase device filed place all base c o d p on → Goes c.sight d.sight
+  after-base-goes : (s : Sight) (base : Result (Option Row) DirFault) (c : Course) (o : Outcome) (d : Course) (p : Outcome) (on : Bool)
+      → Knows ring.secrets c.sight → Calls (Read device filed) s Local (Ok base) c.sight → IsAfterBase device filed ring place all base c o d p on
+      → Goes c.sight d.sight
   after-base-goes s (Ok (Some row)) c o d p on knows call is = row-told-goes row c o d p on knows (read-stands device filed s row c.sight call) is
   after-base-goes s (Ok None) c o d p on knows call (inl went) =
-      let drop : Goes c.sight (went.0).sight = dropped-goes device filed secrets replicas all are c o went.0 went.1 went.2 true went.3 in
-      honestly-join secrets replicas c.sight (went.0).sight d.sight drop
+      let drop : Goes c.sight (went.0).sight = dropped-goes device filed ring.secrets (replicas_in ring) all are c o went.0 went.1 went.2 true went.3 in
+      honestly-join ring.secrets (replicas_in ring) c.sight (went.0).sight d.sight drop
       (after-drop-goes went.2 (went.0).missed went.0 went.1 d p on (later c.sight (went.0).sight drop knows) went.4)
-  after-base-goes s (Ok None) c o d p on knows call (inr stopped) = dropped-goes device filed secrets replicas all are c o d p false false stopped.0
+  after-base-goes s (Ok None) c o d p on knows call (inr stopped) =
+      dropped-goes device filed ring.secrets (replicas_in ring) all are c o d p false false stopped.0
   after-base-goes s (Err fault) c o d p on knows call is = as-it-was c d true is.0
 
-  settled-goes : (s : Sight) (o : Outcome) (d : Course) (p : Outcome) (on : Bool) → Knows secrets s → IsSettled device filed place all s o d p on
+  settled-goes : (s : Sight) (o : Outcome) (d : Course) (p : Outcome) (on : Bool) → Knows ring.secrets s → IsSettled device filed ring place all s o d p on
       → Goes s d.sight
   settled-goes s o d p on knows is =
       let read : Goes s is.1 = read-honestly s is.0 is.1 is.2 in
-      honestly-join secrets replicas s is.1 d.sight read (after-base-goes s is.0 (course is.1 false) o d p on (later s is.1 read knows) is.2 is.3)
+      honestly-join ring.secrets (replicas_in ring) s is.1 d.sight read
+      (after-base-goes s is.0 (course is.1 false) o d p on (later s is.1 read knows) is.2 is.3)
 
 -- ---- the whole
 
@@ -124,7 +128,7 @@ module _ (ring : Ring) (device : ℕ) where
       → IsUpdated ring device filed a o b p on → Updates a b
   updated-goes filed a o b p on knows (inl is) =
       subst (λ (x : Sight). Updates a x) (sym is.7)
-      (settled-goes ring.secrets (replicas_in ring) device filed is.0 is.4 is.1 (named-replicas ring filed.name is.0 is.1 is.4 is.5) a o is.2 is.3 on knows
+      (settled-goes ring device filed is.0 is.4 is.1 (named-replicas ring filed.name is.0 is.1 is.4 is.5) a o is.2 is.3 on knows
       is.6)
   updated-goes filed a o b p on knows (inr wants) = same-update a b wants.0
 

@@ -2,7 +2,7 @@
 use Rattle.std.proofs.Common.{ℕ, List}
 use Rattle.sw_hashpath.specs.declared.place.Place.{Place}
 use Rattle.sw_hashpath.specs.declared.secrets.Secrets.{Secrets}
-use Rattle.sw_listing_laws.specs.Honest.{RunsHonestly}
+use Rattle.sw_machine.specs.Honest.{RunsHonestly}
 use Rattle.sw_lossy.specs.Losses.{around}
 use Rattle.sw_lossy.specs.declared.acts.Acts.{Acts}
 use Rattle.sw_machine.specs.Doors.{GoesOn, RunsOnLeaving, StandsFor}

@@ -1,6 +1,6 @@
 -- What is promised of steps and passes. (This project's own.)
 use Rattle.std.specs.Prelude.{◌≡◌, ◌≢◌, ℕ, true, false, List, Result}
-use Rattle.sw_listing_laws.specs.Honest.{RunsHonestly}
+use Rattle.sw_machine.specs.Honest.{RunsHonestly}
 use Rattle.sw_machine.specs.Doors.{RunsOnLeaving}
 use Rattle.sw_machine.specs.Laws.{LocksAreApart}
 use Rattle.sw_core.specs.Worlds.{nodes_of}
@@ -24,25 +24,29 @@ abbrev pub PushingRuns : Type 0
 PushingRuns = (from to part : ℕ) (acts : Acts) (s : Sight) (result : Result Outcome NoMemory) (t : Sight) → IsPushedOver from to part acts s result t
     → from ≢ to → t.alone ≡ true → RunsOnLeaving s t
 
--- So is a push of rows. Each message carries a row that its sender has, as far as the sender's lock tells what it has
+-- So is a push of rows, and an honest one. Each message carries a row that its sender has, as far as the sender's lock tells what it has; a row goes to a shard
+-- only where the receiver left it to that; and a point is kept only behind the acknowledgement of each row up to it
 abbrev pub RowPushesRun : Type 0
-RowPushesRun = (from to : ℕ) (place : Place) (acts : Acts) (s : Sight) (result : Result Outcome NoMemory) (t : Sight)
-    → AreRowsPushedOver from to place acts s result t → from ≢ to → t.alone ≡ true → RunsOnLeaving s t
+RowPushesRun = (ring : Ring) (from to : ℕ) (place : Place) (acts : Acts) (s : Sight) (result : Result Outcome NoMemory) (t : Sight)
+    → AreRowsPushedOver ring from to place acts s result t → from ≢ to → t.alone ≡ true → RunsHonestly ring.secrets (replicas_in ring) s t
 
 -- So is a pass that moves a range of a container to its shard, where the container isn't a shard itself. Each message carries rows that its sender has, as far
--- as the sender's lock tells what it has: they were read there, and what the pass made there since then only raised points
+-- as the sender's lock tells what it has: they were read there, and what the pass made there since then only raised points; each point is raised behind the
+-- acknowledgement of these rows, and the range is closed by all devices of its shard
 abbrev pub CleavesRun : Type 0
 CleavesRun = (ring : Ring) (device : ℕ) (place : Place) (acts : Acts) (s : Sight) (result : Result Outcome NoMemory) (t : Sight)
-    → IsCleftOver ring device place acts s result t → is_hidden place ≡ false → t.alone ≡ true → RunsOnLeaving s t
+    → IsCleftOver ring device place acts s result t → is_hidden place ≡ false → t.alone ≡ true → RunsHonestly ring.secrets (replicas_in ring) s t
 
--- So is a pass that creates the shards of a container. The list of ranges in each message is the one that its sender has, as far as the sender's lock tells
--- what it has: it was read there, or set there before the first message
+-- So is a pass that creates the shards of a container that isn't one itself. The list of ranges in each message is the one that its sender has, as far as the
+-- sender's lock tells what it has: it was read there, or set there before the first message; and it is set once each replica of each shard was created
 abbrev pub CreationsRun : Type 0
 CreationsRun = (ring : Ring) (device : ℕ) (place : Place) (per_shard time : ℕ) (acts : Acts) (s : Sight) (result : Result Outcome NoMemory) (t : Sight)
-    → AreShardsCreatedOver ring device place per_shard time acts s result t → t.alone ≡ true → RunsOnLeaving s t
+    → AreShardsCreatedOver ring device place per_shard time acts s result t → is_hidden place ≡ false → t.alone ≡ true
+    → RunsHonestly ring.secrets (replicas_in ring) s t
 
--- So is an update, and an honest one. Each message carries to the container of a record's name what stands under that name at the device, as far as its lock
--- tells that; a device is marked once it took such a row; and a record is dropped by all devices of its container
+-- So is an update, and an honest one. Each message carries to the container of a record's name, or to a shard that this left the row to, what stands under that
+-- name at the device, as far as its lock tells that; a device is marked once such a row counts as acknowledged by it; and a record is dropped by all devices of
+-- its container
 abbrev pub UpdatesRun : Type 0
 UpdatesRun = (ring : Ring) (device : ℕ) (acts : Acts) (s : Sight) (result : Result Outcome NoMemory) (t : Sight)
     → IsUpdateOver ring device acts s result t → s.nodes.secrets ≡ ring.secrets → t.alone ≡ true → RunsHonestly ring.secrets (replicas_in ring) s t

@@ -23,12 +23,12 @@ pub record IsPushedOver (from to part : ℕ) (acts : Acts) (s : Sight) (result :
   pub pushes : IsPush from to part (begun acts s) result (around t acts_behind messages faults asks)
 
 -- the same of a push of rows
-pub record AreRowsPushedOver (from to : ℕ) (place : Place) (acts : Acts) (s : Sight) (result : Result Outcome NoMemory) (t : Sight) : Type 0 where
+pub record AreRowsPushedOver (ring : Ring) (from to : ℕ) (place : Place) (acts : Acts) (s : Sight) (result : Result Outcome NoMemory) (t : Sight) : Type 0 where
   pub acts_behind : Acts
   pub messages : ℕ
   pub faults : ℕ
   pub asks : ℕ
-  pub pushes : rows.IsPush from to place (begun acts s) result (around t acts_behind messages faults asks)
+  pub pushes : rows.IsPush from to place ring (begun acts s) result (around t acts_behind messages faults asks)
 
 -- the same of an update of the containers of a ring
 pub record IsUpdateOver (ring : Ring) (device : ℕ) (acts : Acts) (s : Sight) (result : Result Outcome NoMemory) (t : Sight) : Type 0 where

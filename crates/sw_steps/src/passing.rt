@@ -39,19 +39,21 @@ pub fn push_over<D: ReplicaDoor + FaithfulDoor + Drop>(
 pub fn push_rows_over<D: ContainerDoor + FaithfulDoor + Drop>(
     alloc: Global,
     door: &mut Lossy<D>,
+    ring: &Ring,
     from: u8,
     to: u8,
     place: &Place,
     acts: Acts,
 ) -> Result<Outcome, NoMemory>
+    requires ring { IsRingOf ring.now (D.sight door.old.door).nodes }
     requires from { from < (D.sight door.old.door).nodes.devices }
     requires to { to < (D.sight door.old.door).nodes.devices }
     requires apart { from ≢ to }
     requires fits { (D.sight door.old.door).nodes.fits_place place.now ≡ true }
-    ensures { AreRowsPushedOver from to place.now acts (D.sight door.old.door) result (D.sight door.new.door) }
+    ensures { AreRowsPushedOver ring.now from to place.now acts (D.sight door.old.door) result (D.sight door.new.door) }
 {
     door.begin(acts);
-    push_rows(alloc, door, from, to, place)
+    push_rows(alloc, door, ring, from, to, place)
 }
 
 /// Updates the containers of the ring of what the records of a device are for, through such a door.

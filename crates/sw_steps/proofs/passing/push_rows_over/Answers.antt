@@ -16,7 +16,7 @@ returns g c =
       faults = now.faults;
       asks = now.asks;
       pushes =
-          subst (λ (s : Sight). IsPush c.args.from c.args.to c.args.place.now s c.push_rows.result
+          subst (λ (s : Sight). IsPush c.args.from c.args.to c.args.place.now c.args.ring.now s c.push_rows.result
           (around (see now.door) now.acts now.messages now.faults now.asks))
           (begun-as see c.args.door.now.door begun.door c.args.acts begun.acts begun.messages begun.faults begun.asks
           c.begin.ensures.door c.begin.ensures.acts c.begin.ensures.messages c.begin.ensures.faults c.begin.ensures.asks)
