@@ -1,4 +1,5 @@
 mod Decided
+pub mod Few
 mod Left
 mod Looks
 mod Names

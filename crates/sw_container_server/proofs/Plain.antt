@@ -1,5 +1,5 @@
 -- What a verb asks for is no step on shard ranges.
-use Rattle.std.proofs.Common.{◌≡◌, ℕ, true, List, [], ◌∷◌, ap, ◌∙◌, refl, inl, inr}
+use Rattle.std.proofs.Common.{◌≡◌, ℕ, true, List, [], ◌∷◌, refl, inl, inr}
 use Rattle.std.specs.Bool.{⊤}
 use Rattle.sw_container_steps.specs.Steps.{is_plain}
 use Rattle.sw_container_steps.specs.declared.cont_change.ContChange.{ContChange}

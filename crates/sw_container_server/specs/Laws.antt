@@ -1,6 +1,8 @@
 -- What is promised of the definitions of this server. (This project's own.)
-use Rattle.std.specs.Prelude.{◌≡◌, ℕ, true, Bool, List, Some, Result, ◌⊎◌}
+use Rattle.std.specs.Prelude.{◌≡◌, ⊤, ℕ, true, Bool, List, Some, Result, ◌⊎◌}
 use Rattle.sw_container_steps.specs.declared.cont_answer.ContAnswer.{ContAnswer}
+use Rattle.sw_container_steps.specs.declared.cont_change.ContChange.{ContChange}
+use Rattle.sw_container_steps.specs.declared.cont_change.ContChange.TheVariants as changes
 use Rattle.sw_container_steps.specs.declared.info.Info.{Info}
 use Rattle.sw_hashpath.specs.declared.place.Place.{Place}
 use Rattle.sw_listing.specs.declared.entry.Entry.{Entry}
@@ -14,11 +16,22 @@ use Rattle.sw_container_server.specs.Asking.{IsAsked}
 use Rattle.sw_container_server.specs.Replies.{IsListingReply}
 use Rattle.sw_container_server.specs.Serving.{IsAnswered, IsGivenUp, IsLeft}
 use Rattle.sw_container_server.specs.declared.asked.ContAsked.{ContAsked}
-use Rattle.sw_container_server.specs.declared.asked.ContAsked.TheVariants.{Refused}
+use Rattle.sw_container_server.specs.declared.asked.ContAsked.TheVariants.{Change, Refused}
 
 -- a request for containers asks for one thing
 abbrev pub AsksForOne : Type 0
 AsksForOne = (ring : Ring) (r : Request) (a b : ContAsked) → IsAsked ring r a → IsAsked ring r b → a ≡ b
+
+-- a creation, a deletion or one row: what a client may have a container take
+abbrev pub IsOfClient : ContChange → Type 0
+IsOfClient (changes.Create time) = ⊤
+IsOfClient (changes.Remove time) = ⊤
+IsOfClient (changes.MergeRow row) = ⊤
+IsOfClient change = ⊥
+
+-- no request for containers asks for another step: none merges several rows, is of shard ranges, or keeps how far other replicas have the rows
+abbrev pub AsksForFew : Type 0
+AsksForFew = (ring : Ring) (r : Request) (device : ℕ) (place : Place) (change : ContChange) → IsAsked ring r (Change device place change) → IsOfClient change
 
 -- what was told of a container and its entries has one reply
 abbrev pub HasOneReply : Type 0

@@ -1,12 +1,17 @@
 //! Laws of what is asked for, of the replies, and of what becomes of a request. Each function does nothing: its clause is the law.
 
-ghost use Rattle.sw_container_server.specs.Laws.{AsksForOne, HasOneAnswer, HasOneReply, LeavesHeld, LeavesObjects, RefusedChangesNothing};
+ghost use Rattle.sw_container_server.specs.Laws.{AsksForFew, AsksForOne, HasOneAnswer, HasOneReply, LeavesHeld, LeavesObjects, RefusedChangesNothing};
 
 use sw_peer::ContainerDoor;
 
 /// A request for containers asks for one thing.
 pub fn asks_for_one()
     ensures { AsksForOne }
+{}
+
+/// What a request for containers has one take is a creation, a deletion or one row.
+pub fn asks_for_few()
+    ensures { AsksForFew }
 {}
 
 /// What was told of a container and its entries has one reply.

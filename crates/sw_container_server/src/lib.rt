@@ -9,8 +9,8 @@
 //! (`specs/Replies.antt`). A GET asks for two steps, one after the other: another's step may come between them. A listing's text is written once and
 //! moved into the reply.
 //!
-//! Ranges of shards aren't known yet: a container answers for itself alone, and [`moved_reply`], which sends a client on with a row that another
-//! container has, is made for no answer yet. The next layer up routes requests to this server.
+//! A container that is split into shards answers for itself alone: a listing shows what is left of it at the device, and [`moved_reply`] sends a client on
+//! with a row whose name is left to a shard. The next layer up, `sw_nodes`, routes requests to this server.
 #![tactic(auto)]
 
 mod asked;

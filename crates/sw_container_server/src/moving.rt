@@ -8,8 +8,7 @@ use sw_metafile::push_escaped;
 use sw_object_server::field;
 use sw_outside::{Bytes, NoMemory};
 
-/// The reply that sends a client on with a row: 301, with the row's path in the container of this place, which has its names now. No container is split
-/// into others yet, so no step is answered so.
+/// The reply that sends a client on with a row: 301, with the row's path in the container of this place, a shard that has its names now.
 pub fn moved_reply(alloc: Global, shard: &Place, name: &[u8]) -> Result<Response, NoMemory>
     ensures { IfOk result (λ response. response ≡ moved_reply_of shard.now name.now) }
 {
