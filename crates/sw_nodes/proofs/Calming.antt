@@ -4,16 +4,10 @@ use Rattle.std.proofs.Common.{◌≡◌, ℕ, Bool, true, false, List, [], ◌�
 use Rattle.std.specs.Option.{option_map}
 use Rattle.std.specs.declared.alloc.Global.{Global}
 use Rattle.std.specs.declared.vec.Vec.{Vec}
-use Rattle.sw_container_steps.specs.Reads.{parcel_of}
 use Rattle.sw_container_steps.specs.declared.cont_answer.ContAnswer.{ContAnswer}
 use Rattle.sw_container_steps.specs.declared.cont_change.ContChange.{ContChange}
-use Rattle.sw_container_steps.specs.declared.cont_change.ContChange.TheVariants.{SetSync}
-use Rattle.sw_container_steps.specs.declared.syncing.Parcel.{Parcel}
-use Rattle.sw_cont_replicator.specs.Pushing as rows
 use Rattle.sw_hashpath.specs.declared.place.Place.{Place}
-use Rattle.sw_peer.specs.ContSights.{IsContMade, IsLooked}
-use Rattle.sw_peer.specs.declared.cont_event.ContEvent.TheVariants.{Parceled}
-use Rattle.sw_rows.specs.declared.row.Row.{Row}
+use Rattle.sw_peer.specs.ContSights.{IsContMade}
 use Rattle.sw_diskfile.specs.declared.file_name.FileName.{FileName}
 use Rattle.sw_diskfile.specs.declared.picking.Picked.{Picked}
 use Rattle.sw_hashpath.specs.declared.name.Name.{Name}
@@ -168,42 +162,9 @@ module _ (from to part : ℕ) where
   push-calm s (Ok outcome) t push = run-calm s t push.0 true push.1
   push-calm s (Err wanting) t push = run-calm s t push.0 false push.1
 
--- ---- the same of a push of rows
+-- ---- the same of a step at a container
 
 pub changed-calm : (link : Link) (device : ℕ) (place : Place) (change : ContChange) (s : Sight) (r : Result ContAnswer Lost) (t : Sight)
     → Calls (IsContMade link device place change) s link r t → IsCalm s t
 changed-calm link device place change s r t p =
     calm-calls (IsContMade link device place change) (λ a x b made. calm-trails a b _ _ refl made.trail) s link r t p
-
-parcel-calm : (from to : ℕ) (place : Place) (s : Sight) (r : Result (Result Parcel ContAnswer) Lost) (t : Sight)
-    → Calls (IsLooked Local from place (parcel_of to) (λ read. Parceled place to read)) s Local r t → IsCalm s t
-parcel-calm from to place s r t p =
-    calm-calls (IsLooked Local from place (parcel_of to) (λ read. Parceled place to read)) (λ a x b made. calm-trails a b _ _ refl made.trail) s Local r t p
-
-module _ (from to : ℕ) (place : Place) where
-  row-calm : (row : Row) (s : Sight) (o : Outcome) (t : Sight) (p : Outcome) (on : Bool) → rows.IsRowSent to place row s o t p on → IsCalm s t
-  row-calm row s o t p on is = changed-calm Sent to place _ s is.0 t is.1
-
-  point-calm : (top : ℕ) (s : Sight) (o : Outcome) (t : Sight) (p : Outcome) (kept on : Bool) → rows.IsPointKept from to place top s o t p kept on
-      → IsCalm s t
-  point-calm top s o t p kept on (inl left) = calm-same s t left.1
-  point-calm top s o t p kept on (inr none) = changed-calm Local from place (SetSync to top) s (Ok none.1.0) t none.1.1
-
-  sent-calm : (parcel : Parcel) (s : Sight) (o : Outcome) (t : Sight) (p : Outcome) (kept on : Bool) → rows.IsParcelSent from to place parcel s o t p kept on
-      → IsCalm s t
-  sent-calm parcel s o t p kept on (inl went) =
-      calm-join s went.0 t (turn-calm (rows.IsRowSent to place) row-calm parcel.rows s o went.0 went.1 true went.2)
-      (point-calm parcel.top went.0 went.1 t p kept on went.3)
-  sent-calm parcel s o t p kept on (inr stopped) = turn-calm (rows.IsRowSent to place) row-calm parcel.rows s o t p false stopped.0
-
-  read-calm : (got : Result Parcel ContAnswer) (s t : Sight) (p : Outcome) (kept on : Bool) → rows.IsReadNext from to place got s t p kept on → IsCalm s t
-  read-calm (Ok parcel) s t p kept on is = sent-calm parcel s nothing_yet t p kept on is
-  read-calm (Err answer) s t p kept on is = calm-same s t is.0
-
-  rows-run-calm : (s t : Sight) (p : Outcome) (kept on : Bool) → rows.IsRun from to place s t p kept on → IsCalm s t
-  rows-run-calm s t p kept on is =
-      calm-join s is.1 t (parcel-calm from to place s (Ok is.0) is.1 is.2) (read-calm is.0 is.1 t p kept on is.3)
-
-  pub rows-calm : (s : Sight) (result : Result Outcome NoMemory) (t : Sight) → rows.IsPush from to place s result t → IsCalm s t
-  rows-calm s (Ok outcome) t push = rows-run-calm s t push.0 push.1 true push.2
-  rows-calm s (Err wanting) t push = rows-run-calm s t push.0 false false push.1

@@ -20,8 +20,9 @@ use Rattle.sw_peer.specs.Sights.{Sight}
 use Rattle.sw_replica_server.specs.Targets.{is_replication_of}
 use Rattle.sw_ring.specs.declared.ring.Ring.{Ring}
 use Rattle.sw_volume.specs.Tree.{Folders}
-use Rattle.sw_listing_laws.proofs.Honesty.{honest-leaving}
+use Rattle.sw_machine.proofs.Honesty.{honest-leaving}
 use Rattle.sw_pass.specs.Rings.{replicas_in}
+use Rattle.sw_nodes.proofs.ContAsking.{LeavesPoints, asked-leaves}
 use Rattle.sw_nodes.proofs.Controlling.{on_true}
 use Rattle.sw_nodes.proofs.Keeping.{Keeps, cont_change-keeps, inform-keeps, keeps-join, keeps-same, list-keeps}
 use Rattle.sw_nodes.proofs.Restarting.{none-called, same-restarts}
@@ -37,28 +38,30 @@ module _ {D : Type 0} (sight : D → Sight) (ring : Ring) (request : Request) (o
   followed-keeps device place query (Ok info) mid response followed = list-keeps device place query mid followed.0 (sight new) followed.1.called
   followed-keeps device place query (Err answer) mid response followed = keeps-same mid (sight new) followed.0
 
-  served-keeps : (asked : ContAsked) (response : Response) → IsServed sight old new asked response → Keeps (sight old) (sight new)
-  served-keeps (asks.Refused status) response served = keeps-same (sight old) (sight new) (ap sight served.0)
-  served-keeps (asks.Change device place change) response served = cont_change-keeps device place change (sight old) served.0 (sight new) served.1.called
-  served-keeps (asks.Info device place) response served = inform-keeps device place (sight old) served.0 (sight new) served.1.called
-  served-keeps (asks.List device place query) response served =
+  served-keeps : (asked : ContAsked) (response : Response) → LeavesPoints asked → IsServed sight old new asked response → Keeps (sight old) (sight new)
+  served-keeps (asks.Refused status) response leaves served = keeps-same (sight old) (sight new) (ap sight served.0)
+  served-keeps (asks.Change device place change) response leaves served =
+      cont_change-keeps device place change leaves (sight old) served.0 (sight new) served.1.called
+  served-keeps (asks.Info device place) response leaves served = inform-keeps device place (sight old) served.0 (sight new) served.1.called
+  served-keeps (asks.List device place query) response leaves served =
       keeps-join (sight old) served.1 (sight new) (inform-keeps device place (sight old) served.0 served.1 served.2.called)
       (followed-keeps device place query served.0 served.1 response served.3)
 
-  left-keeps : (asked : ContAsked) → IsLeft (sight old) (sight new) asked → Keeps (sight old) (sight new)
-  left-keeps (asks.Refused status) left = absurd left
-  left-keeps (asks.Change device place change) left = cont_change-keeps device place change (sight old) left.0 (sight new) left.1.called
-  left-keeps (asks.Info device place) left = inform-keeps device place (sight old) (Ok left.0) (sight new) left.1.called
-  left-keeps (asks.List device place query) left =
+  left-keeps : (asked : ContAsked) → LeavesPoints asked → IsLeft (sight old) (sight new) asked → Keeps (sight old) (sight new)
+  left-keeps (asks.Refused status) leaves left = absurd left
+  left-keeps (asks.Change device place change) leaves left =
+      cont_change-keeps device place change leaves (sight old) left.0 (sight new) left.1.called
+  left-keeps (asks.Info device place) leaves left = inform-keeps device place (sight old) (Ok left.0) (sight new) left.1.called
+  left-keeps (asks.List device place query) leaves left =
       keeps-join (sight old) left.1 (sight new) (inform-keeps device place (sight old) (Ok left.0) left.1 left.3.called)
       (list-keeps device place query left.1 (Ok left.2) (sight new) left.4.called)
 
   pub answered-keeps : (response : Response) → IsAnswered sight old new ring request response → Keeps (sight old) (sight new)
-  answered-keeps response x = served-keeps x.0 response x.2
+  answered-keeps response x = served-keeps x.0 response (asked-leaves ring request x.0 x.1) x.2
 
   pub given_up-keeps : IsGivenUp sight old new ring request → Keeps (sight old) (sight new)
   given_up-keeps (inl same) = keeps-same (sight old) (sight new) (ap sight same)
-  given_up-keeps (inr x) = left-keeps x.0 x.2
+  given_up-keeps (inr x) = left-keeps x.0 (asked-leaves ring request x.0 x.1) x.2
 
 -- ---- a request to the nodes of a ring
 

@@ -12,7 +12,7 @@ use Rattle.sw_control.specs.declared.asking.Control.TheVariants as controls
 use Rattle.sw_control.specs.declared.replication.Replication.{Replication}
 use Rattle.sw_control.specs.declared.row_push.RowPush.{RowPush}
 use Rattle.sw_core.proofs.Anew.{restarts}
-use Rattle.sw_listing_laws.proofs.Honesty.{honest-leaving}
+use Rattle.sw_machine.proofs.Honesty.{honest-leaving}
 use Rattle.sw_machine.specs.Doors.{RunsOnLeaving}
 use Rattle.sw_core.specs.Listing.{is_failed}
 use Rattle.sw_core.specs.Worlds.{KeeperSeen, AllNodes, sight_of}
@@ -25,9 +25,10 @@ use Rattle.sw_steps.proofs.Running.{over-nodes, pushing_runs}
 use Rattle.sw_pass.specs.Rings.{replicas_in}
 use Rattle.sw_volume.specs.Tree.{Folders}
 use Rattle.sw_volume.specs.Volume.{raised_by}
-use Rattle.sw_nodes.proofs.Calming.{push-calm, rows-calm}
+use Rattle.sw_nodes.proofs.Calming.{push-calm}
 use Rattle.sw_nodes.proofs.Keeping.{listed-runs, restart-runs, runs-itself}
 use Rattle.sw_nodes.proofs.Readying.{ready-of}
+use Rattle.sw_nodes.proofs.RowCalming.{rows-calm}
 use Rattle.sw_nodes.proofs.Serving.{goes_on}
 use Rattle.sw_nodes.proofs.Restarting.{listed-lines, no-line, none-called, once-called, restart-lines, some_is}
 use Rattle.sw_nodes.specs.Restarts.{restarts_in}
@@ -122,20 +123,19 @@ module _ {V K : Type 0} (tells : V → Bool) (files : V → Folders) (faults : V
   -- the rows of a container were pushed
   may_push_rows : (ring : Ring) (w after : AllNodes V K) (request : Request) (moment : ℕ) (response : Response) (asked : RowPush)
       → is_control request.path ≡ true → IsControl ring request (controls.PushRows asked) → IsPlaced ring (controls.PushRows asked)
-      → AreRowsPushed tells files faults keeps asked w response after → MayAnswer tells files faults keeps ring w request moment response after
+      → AreRowsPushed tells files faults keeps ring asked w response after → MayAnswer tells files faults keeps ring w request moment response after
   may_push_rows ring w after request moment response asked is asks placed done = record {
     answers = on_true _ _ (is_control request.path) is (inl (controls.PushRows asked, asks, done));
-    nodes = rows-over-nodes asked.from asked.to asked.place asked.acts (see w) done.outcome (see after) placed.2 done.pushed;
-    runs = honest-leaving ring.secrets (replicas_in ring) (see w) (see after)
-        (row_pushes_run asked.from asked.to asked.place asked.acts (see w) done.outcome (see after) done.pushed placed.2 refl);
+    nodes = rows-over-nodes ring asked.from asked.to asked.place asked.acts (see w) done.outcome (see after) placed.2 done.pushed;
+    runs = row_pushes_run ring asked.from asked.to asked.place asked.acts (see w) done.outcome (see after) done.pushed placed.2 refl;
   }
 
   -- and leaves no line of a restart
-  row_push_lines : (w after : AllNodes V K) (asked : RowPush) (response : Response) → AreRowsPushed tells files faults keeps asked w response after
-      → restarts_in after.lines ≡ restarts_in w.lines + 0
-  row_push_lines w after asked response done =
+  row_push_lines : (ring : Ring) (w after : AllNodes V K) (asked : RowPush) (response : Response)
+      → AreRowsPushed tells files faults keeps ring asked w response after → restarts_in after.lines ≡ restarts_in w.lines + 0
+  row_push_lines ring w after asked response done =
       let calm : Some (restarts_in after.lines) ≡ Some (restarts_in w.lines) =
-      rows-calm asked.from asked.to asked.place _ done.outcome _ done.pushed.pushes in
+      rows-calm asked.from asked.to asked.place ring _ done.outcome _ done.pushed.pushes in
       let e : restarts_in after.lines ≡ restarts_in w.lines = some_is calm in
       omega (arith, e)
 
@@ -192,7 +192,7 @@ module _ {V K : Type 0} (tells : V → Bool) (files : V → Folders) (faults : V
 
     pub rows_were_pushed : (moment : ℕ) (response : Response) (asked : RowPush) → is_control request.path ≡ true
         → IsControl ring request (controls.PushRows asked) → IsPlaced ring (controls.PushRows asked)
-        → ring_now ≡ ring → stores_now ≡ stores → IsReady out ring w stores.now → AreRowsPushed tells files faults keeps asked w response after
+        → ring_now ≡ ring → stores_now ≡ stores → IsReady out ring w stores.now → AreRowsPushed tells files faults keeps ring asked w response after
         → NodesAnswer tells files faults keeps store_faults store_calls out ring ring_now w after stores stores_now request moment response
     rows_were_pushed moment response asked is asks placed ring_is stores_are ready done =
         let may = may_push_rows ring w after request moment response asked is asks placed done in
@@ -201,7 +201,7 @@ module _ {V K : Type 0} (tells : V → Bool) (files : V → Folders) (faults : V
           may = may;
           faults_are = ap (λ (s : MutBor S). store_faults s.now) stores_are;
           gained = 0;
-          gains = row_push_lines w after asked response done;
+          gains = row_push_lines ring w after asked response done;
           calls_are = none-called (2 ^ ring.lock_bits) (store_calls stores.now) (store_calls stores_now.now)
               (ap (λ (s : MutBor S). store_calls s.now) stores_are);
           same_stores = ap (λ (s : MutBor S). s.ghost_name) stores_are;
@@ -211,12 +211,12 @@ module _ {V K : Type 0} (tells : V → Bool) (files : V → Folders) (faults : V
         }
 
     pub row_push_ready : (asked : RowPush) (response : Response) → IsPlaced ring (controls.PushRows asked) → ring_now ≡ ring → stores_now ≡ stores
-        → IsReady out ring w stores.now → AreRowsPushed tells files faults keeps asked w response after → IsReady out ring_now after stores_now.now
+        → IsReady out ring w stores.now → AreRowsPushed tells files faults keeps ring asked w response after → IsReady out ring_now after stores_now.now
     row_push_ready asked response placed ring_is stores_are ready done =
         subst (λ (r : Ring). IsReady out r after stores_now.now) (sym ring_is)
         (subst (λ (s : MutBor S). IsReady out ring after s.now) (sym stores_are)
         (goes_on tells files faults keeps out ring w after stores.now ready
-        (rows-over-nodes asked.from asked.to asked.place asked.acts (see w) done.outcome (see after) placed.2 done.pushed)))
+        (rows-over-nodes ring asked.from asked.to asked.place asked.acts (see w) done.outcome (see after) placed.2 done.pushed)))
 
     pub push_ready : (asked : Replication) (response : Response) → IsControl ring request (controls.Replicate asked) → ring_now ≡ ring → stores_now ≡ stores
         → IsReady out ring w stores.now → IsReplicated tells files faults keeps asked w response after → IsReady out ring_now after stores_now.now

@@ -15,7 +15,7 @@ use Rattle.sw_listing.specs.declared.query.Query.{Query}
 use Rattle.sw_machine.proofs.Doors.{container-changes, device-listings, files-reads, hashes-reads, infos, listings, object-changes, object-reads, restarts}
 use Rattle.sw_machine.proofs.Doors.{shardings}
 use Rattle.sw_machine.proofs.Going.{leaving-join, leaving-same}
-use Rattle.sw_machine.specs.Doors.{GoesOn, GoesOnBy, LeaveRecords, RunsOnLeaving, leaves_records}
+use Rattle.sw_machine.specs.Doors.{GoesOn, GoesOnBy, LeaveRecords, RunsOnLeaving, leaves_points, leaves_records}
 use Rattle.sw_machine.specs.Machine.{Machine, RunLine}
 use Rattle.sw_object_steps.specs.Recorded.{is_write}
 use Rattle.sw_object_steps.specs.declared.answer.Answer.{Answer}
@@ -129,13 +129,14 @@ files-keeps device part suffix = call-keeps (IsFilesRead Local device part suffi
   runs = λ alone m stands. by-leaving s t m _ _ (λ added. refl) ((files-reads device part suffix).one Local s x t m stands alone made);
 })
 
-pub cont_change-keeps : (device : ℕ) (place : Place) (change : ContChange) (s : Sight) (answer : ContAnswer) (t : Sight)
+pub cont_change-keeps : (device : ℕ) (place : Place) (change : ContChange) → leaves_points change ≡ true → (s : Sight) (answer : ContAnswer) (t : Sight)
     → Calls (IsContMade Local device place change) s Local (Ok answer) t → Keeps s t
-cont_change-keeps device place change = call-keeps (IsContMade Local device place change) (λ s x t made. record {
+cont_change-keeps device place change leaves = call-keeps (IsContMade Local device place change) (λ s x t made. record {
   nodes = made.moves.nodes;
   alone = made.moves.alone;
   calm = calm-trails s t _ _ refl made.trail;
-  runs = λ alone m stands. by-leaving s t m _ _ (λ added. refl) ((container-changes device place change).one Local s x t m stands alone (λ added is. cc) made);
+  runs = λ alone m stands.
+      by-leaving s t m _ _ (λ added. leaves) ((container-changes device place change).one Local s x t m stands alone (λ added is. cc) made);
 })
 
 pub inform-keeps : (device : ℕ) (place : Place) (s : Sight) (told : Result Info ContAnswer) (t : Sight)

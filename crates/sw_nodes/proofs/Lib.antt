@@ -1,6 +1,8 @@
 pub mod Asking
 pub mod Calming
+pub mod RowCalming
 pub mod Comparing
+pub mod ContAsking
 pub mod Contained
 pub mod Controlling
 pub mod Exchanging

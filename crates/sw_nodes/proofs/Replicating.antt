@@ -11,7 +11,7 @@ use Rattle.sw_replica_server.specs.Targets.{is_replication_of}
 use Rattle.sw_ring.specs.declared.ring.Ring.{Ring}
 use Rattle.sw_volume.specs.Tree.{Folders}
 use Rattle.sw_container_server.specs.Targets.{is_for_containers}
-use Rattle.sw_listing_laws.proofs.Honesty.{honest-leaving}
+use Rattle.sw_machine.proofs.Honesty.{honest-leaving}
 use Rattle.sw_pass.specs.Rings.{replicas_in}
 use Rattle.sw_nodes.proofs.Comparing.{answered-keeps, given_up-keeps}
 use Rattle.sw_nodes.proofs.Controlling.{on_true}

@@ -16,7 +16,7 @@ use Rattle.sw_ring.specs.Faults.{has_repeat}
 use Rattle.sw_ring.specs.Rows.{AreGood, is_good}
 use Rattle.sw_ring.specs.declared.ring.Ring.{Ring}
 use Rattle.sw_volume.specs.Tree.{Folders}
-use Rattle.sw_listing_laws.proofs.Honesty.{honest-leaving}
+use Rattle.sw_machine.proofs.Honesty.{honest-leaving}
 use Rattle.sw_pass.specs.Rings.{replicas_in}
 use Rattle.sw_nodes.proofs.Readying.{ready-of}
 use Rattle.sw_nodes.proofs.Restarting.{none-called, same-restarts}

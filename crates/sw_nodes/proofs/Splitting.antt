@@ -6,7 +6,7 @@ use Rattle.sw_control.specs.declared.cleaving.Cleaving.{Cleaving}
 use Rattle.sw_control.specs.declared.shard_creation.ShardCreation.{ShardCreation}
 use Rattle.sw_control.specs.declared.shards_read.ShardsRead.{ShardsRead}
 use Rattle.sw_core.specs.Worlds.{KeeperSeen, AllNodes}
-use Rattle.sw_listing_laws.proofs.Honesty.{honest-leaving}
+use Rattle.sw_machine.proofs.Honesty.{honest-leaving}
 use Rattle.sw_message.specs.declared.request.Request.{Request}
 use Rattle.sw_message.specs.declared.response.Response.{Response}
 use Rattle.sw_pass.specs.Rings.{replicas_in}
@@ -27,6 +27,10 @@ use Rattle.sw_nodes.specs.Server.{AreShardsCreated, AreShardsTold, IsCleft, MayA
 not-hidden : (ring : Ring) (request : Request) (asked : Cleaving) → IsControl ring request (controls.Cleave asked) → is_hidden asked.place ≡ false
 not-hidden ring request asked asks = asks.3.place.shown
 
+-- nor is one whose shards may be created
+not-split : (ring : Ring) (request : Request) (asked : ShardCreation) → IsControl ring request (controls.CreateShards asked) → is_hidden asked.place ≡ false
+not-split ring request asked asks = asks.4.place.shown
+
 module _ {V K : Type 0} (tells : V → Bool) (files : V → Folders) (faults : V → ℕ) (keeps : KeeperSeen K) where
   abbrev seen : AllNodes V K → Sight
   seen w = see tells files faults keeps w
@@ -36,9 +40,10 @@ module _ {V K : Type 0} (tells : V → Bool) (files : V → Folders) (faults : V
       → AreShardsCreated tells files faults keeps ring asked w response after → MayAnswer tells files faults keeps ring w request moment response after
   may_create ring w after request moment response asked is asks done = record {
     answers = on_true _ _ (is_control request.path) is (inl (controls.CreateShards asked, asks, done));
-    nodes = creation-over-nodes ring asked.device asked.place asked.per_shard asked.time asked.acts (seen w) done.outcome (seen after) done.created;
-    runs = honest-leaving ring.secrets (replicas_in ring) (seen w) (seen after)
-        (creations_run ring asked.device asked.place asked.per_shard asked.time asked.acts (seen w) done.outcome (seen after) done.created refl);
+    nodes = creation-over-nodes ring asked.device asked.place asked.per_shard asked.time asked.acts (seen w) done.outcome (seen after)
+        (not-split ring request asked asks) done.created;
+    runs = creations_run ring asked.device asked.place asked.per_shard asked.time asked.acts (seen w) done.outcome (seen after) done.created
+        (not-split ring request asked asks) refl;
   }
 
   may_cleave : (ring : Ring) (w after : AllNodes V K) (request : Request) (moment : ℕ) (response : Response) (asked : Cleaving)
@@ -49,8 +54,7 @@ module _ {V K : Type 0} (tells : V → Bool) (files : V → Folders) (faults : V
       record {
         answers = on_true _ _ (is_control request.path) is (inl (controls.Cleave asked, asks, done));
         nodes = cleave-over-nodes ring asked.device asked.place asked.acts (seen w) done.outcome (seen after) shown done.cleft;
-        runs = honest-leaving ring.secrets (replicas_in ring) (seen w) (seen after)
-            (cleaves_run ring asked.device asked.place asked.acts (seen w) done.outcome (seen after) done.cleft shown refl);
+        runs = cleaves_run ring asked.device asked.place asked.acts (seen w) done.outcome (seen after) done.cleft shown refl;
       }
 
   told-keeps : (w after : AllNodes V K) (response : Response) (asked : ShardsRead) → AreShardsTold tells files faults keeps asked w response after
@@ -82,11 +86,13 @@ module _ {V K : Type 0} (tells : V → Bool) (files : V → Folders) (faults : V
         (may_create ring w after request moment response asked is asks done)
         (creation-calm asked.device asked.place ring asked.per_shard asked.time _ done.outcome _ done.created.creates) ring_is stores_are ready
 
-    pub creation_ready : (response : Response) (asked : ShardCreation) → ring_now ≡ ring → stores_now ≡ stores → IsReady out ring w stores.now
-        → AreShardsCreated tells files faults keeps ring asked w response after → IsReady out ring_now after stores_now.now
-    creation_ready response asked ring_is stores_are ready done =
+    pub creation_ready : (response : Response) (asked : ShardCreation) → IsControl ring request (controls.CreateShards asked) → ring_now ≡ ring
+        → stores_now ≡ stores → IsReady out ring w stores.now → AreShardsCreated tells files faults keeps ring asked w response after
+        → IsReady out ring_now after stores_now.now
+    creation_ready response asked asks ring_is stores_are ready done =
         ready-again tells files faults keeps store_faults store_calls out ring ring_now w after stores stores_now request ring_is stores_are ready
-        (creation-over-nodes ring asked.device asked.place asked.per_shard asked.time asked.acts (seen w) done.outcome (seen after) done.created)
+        (creation-over-nodes ring asked.device asked.place asked.per_shard asked.time asked.acts (seen w) done.outcome (seen after)
+        (not-split ring request asked asks) done.created)
 
     pub was_cleft : (moment : ℕ) (response : Response) (asked : Cleaving) → is_control request.path ≡ true → IsControl ring request (controls.Cleave asked)
         → ring_now ≡ ring → stores_now ≡ stores → IsReady out ring w stores.now → IsCleft tells files faults keeps ring asked w response after

@@ -1,5 +1,5 @@
 -- No step at a record or a container tells of a restart: so no update does, and no read of records.
-use Rattle.std.proofs.Common.{◌≡◌, ℕ, ◌^◌, Bool, true, false, List, [], ◌∷◌, ap, inl, inr, refl, Option, Some, None, Result, Ok, Err}
+use Rattle.std.proofs.Common.{ℕ, ◌^◌, Bool, true, false, List, [], ◌∷◌, ap, inl, inr, refl, Option, Some, None, Result, Ok, Err}
 use Rattle.std.specs.List.{range_with_len}
 use Rattle.std.specs.declared.alloc.Global.{Global}
 use Rattle.std.specs.declared.vec.Vec.{Vec}
@@ -9,20 +9,24 @@ use Rattle.sw_object_steps.specs.declared.change.Change.TheVariants.{DropRecord,
 use Rattle.sw_object_steps.specs.declared.dir_fault.DirFault.{DirFault}
 use Rattle.sw_outside.specs.declared.errors.NoMemory.{NoMemory}
 use Rattle.sw_pass.specs.Outcomes.{nothing_yet, sending}
-use Rattle.sw_pass.specs.Turns.{InTurn}
 use Rattle.sw_pass.specs.declared.outcome.Outcome.{Outcome}
 use Rattle.sw_peer.specs.Sights.{Calls, IsBaseRead, IsRecordsRead, Sight}
 use Rattle.sw_peer.specs.declared.link.Link.TheVariants.{Local, Sent}
 use Rattle.sw_peer.specs.declared.link.Lost.{Lost}
 use Rattle.sw_pending.specs.declared.filed.Filed.{Filed}
+use Rattle.sw_redirect.specs.Hearing.{heard_of}
+use Rattle.sw_redirect.specs.Sending.{Course, course}
+use Rattle.sw_redirect.specs.declared.heard.Heard.{Heard}
+use Rattle.sw_redirect.specs.declared.heard.Heard.TheVariants.{Acknowledged, Redirected, Refused}
 use Rattle.sw_ring.specs.declared.ring.Ring.{Ring}
 use Rattle.sw_rows.specs.declared.row.Row.{Row}
 use Rattle.sw_updater.specs.Reading.{AreRead, ArePending}
-use Rattle.sw_updater.specs.Updating.{Course, IsAfterBase, IsAfterDrop, IsDropCounted, IsDropped, IsGoneOver, IsHeard, IsMarkCounted, IsMarked, IsReadAgain}
-use Rattle.sw_updater.specs.Updating.{IsRowTold, IsSettled, IsTold, IsUpdate, IsUpdated, course, to_tell}
+use Rattle.sw_updater.specs.Updating.{IsAfterBase, IsAfterDrop, IsDropCounted, IsDropped, IsGoneOver, IsHeard, IsHeardAs, IsMarkCounted, IsMarked}
+use Rattle.sw_updater.specs.Updating.{IsMarkedBehind, IsReadAgain, IsRowTold, IsSettled, IsTold, IsUpdate, IsUpdated, to_tell}
 use Rattle.sw_object_steps.specs.declared.answer.Answer.{Answer}
 use Rattle.sw_object_steps.specs.declared.answer.Answer.TheVariants as answers
 use Rattle.sw_nodes.proofs.Calming.{IsCalm, calm-calls, calm-join, calm-same, calm-trails, changed-calm, made-calm, turn-calm}
+use Rattle.sw_nodes.proofs.RowCalming.{IsCalmer, calmer-same, sent-on-calm, turn-calmer}
 
 records-calm : (device stripe : ℕ) (s : Sight) (r : Result (Result (Vec Filed Global) DirFault) Lost) (t : Sight)
     → Calls (IsRecordsRead Local device stripe) s Local r t → IsCalm s t
@@ -46,22 +50,6 @@ pending-calm ring device s (Ok (Ok ordered)) t is = stripes-calm device (range_w
 pending-calm ring device s (Ok (Err fault)) t is = stripes-calm device (range_with_len 0 (2 ^ ring.lock_bits)) s (Err fault) t is
 pending-calm ring device s (Err wanting) t is = stripes-calm device (range_with_len 0 (2 ^ ring.lock_bits)) s (Ok is.0) t is.1
 
--- what is known of the nodes is as calm as before
-abbrev IsCalmer : Course → Course → Type 0
-IsCalmer c d = IsCalm c.sight d.sight
-
-calmer-same : (c d : Course) → d ≡ c → IsCalmer c d
-calmer-same c d same = calm-same c.sight d.sight (ap (λ (x : Course). x.sight) same)
-
--- several things, one after the other
-turn-calmer : {A : Type 0} (one : A → Course → Outcome → Course → Outcome → Bool → Type 0)
-    → ((x : A) (c : Course) (o : Outcome) (d : Course) (p : Outcome) (on : Bool) → one x c o d p on → IsCalmer c d)
-    → (xs : List A) (c : Course) (o : Outcome) (d : Course) (p : Outcome) (on : Bool) → InTurn one xs c o d p on → IsCalmer c d
-turn-calmer {A} one each [] c o d p on is = calmer-same c d is.0
-turn-calmer {A} one each (x ∷ xs) c o d p on (inl went) =
-    calm-join c.sight went.0.sight d.sight (each x c o went.0 went.1 true went.2) (turn-calmer one each xs went.0 went.1 d p on went.3)
-turn-calmer {A} one each (x ∷ xs) c o d p on (inr stopped) = each x c o d p false stopped.0
-
 module _ (device : ℕ) (filed : Filed) where
   mark-counted : (answer : Answer) (t : Sight) (missed : Bool) (o : Outcome) (d : Course) (p : Outcome) (on : Bool)
       → IsMarkCounted device filed answer t missed o d p on → IsCalm t d.sight
@@ -83,17 +71,31 @@ module _ (device : ℕ) (filed : Filed) where
       (mark-counted is.0 is.1 c.missed o d p on is.3)
   marked-calm to c o d p on (inr wants) = calmer-same c d wants.0
 
-  heard-calm : (to : ℕ) (answer : Result ContAnswer Lost) (c : Course) (o : Outcome) (d : Course) (p : Outcome) (on : Bool)
-      → IsHeard device filed to answer c o d p on → IsCalmer c d
-  heard-calm to (Ok answer) c o d p on (inl is) = marked-calm to c o d p on is.1
-  heard-calm to (Ok answer) c o d p on (inr is) = calm-same c.sight d.sight (ap (λ (x : Course). x.sight) is.1)
-  heard-calm to (Err lost) c o d p on is = calm-same c.sight d.sight (ap (λ (x : Course). x.sight) is.0)
+  behind-calm : (to : ℕ) (e : Course) (missed : Bool) (o : Outcome) (d : Course) (p : Outcome) (on : Bool) → IsMarkedBehind device filed to e missed o d p on
+      → IsCalmer e d
+  behind-calm to e missed o d p on (inl is) = marked-calm to (course e.sight missed) o d p on is.1
+  behind-calm to e missed o d p on (inr is) = calm-same e.sight d.sight (ap (λ (x : Course). x.sight) is.1)
 
-  told-calm : (place : Place) (row : Row) (to : ℕ) (c : Course) (o : Outcome) (d : Course) (p : Outcome) (on : Bool)
-      → IsTold device filed place row to c o d p on → IsCalmer c d
-  told-calm place row to c o d p on is =
+  heard-as-calm : (ring : Ring) (row : Row) (to : ℕ) (heard : Heard) (c : Course) (o : Outcome) (d : Course) (p : Outcome) (on : Bool)
+      → IsHeardAs device filed ring row to heard c o d p on → IsCalmer c d
+  heard-as-calm ring row to Acknowledged c o d p on is = marked-calm to c o d p on is
+  heard-as-calm ring row to (Redirected shard) c o d p on (inl is) =
+      calm-join c.sight is.0.sight d.sight (sent-on-calm ring shard row c.sight o is.0 is.1 true is.2) (behind-calm to is.0 c.missed is.1 d p on is.3)
+  heard-as-calm ring row to (Redirected shard) c o d p on (inr is) =
+      calm-join c.sight is.0.sight d.sight (sent-on-calm ring shard row c.sight o is.0 p false is.1)
+      (calm-same is.0.sight d.sight (ap (λ (x : Course). x.sight) is.2))
+  heard-as-calm ring row to (Refused hindrance) c o d p on is = calm-same c.sight d.sight (ap (λ (x : Course). x.sight) is.0)
+
+  heard-calm : (ring : Ring) (place : Place) (row : Row) (to : ℕ) (answer : Result ContAnswer Lost) (c : Course) (o : Outcome) (d : Course) (p : Outcome)
+      (on : Bool) → IsHeard device filed ring place row to answer c o d p on → IsCalmer c d
+  heard-calm ring place row to (Ok answer) c o d p on is = heard-as-calm ring row to (heard_of place answer) c o d p on is
+  heard-calm ring place row to (Err lost) c o d p on is = calm-same c.sight d.sight (ap (λ (x : Course). x.sight) is.0)
+
+  told-calm : (ring : Ring) (place : Place) (row : Row) (to : ℕ) (c : Course) (o : Outcome) (d : Course) (p : Outcome) (on : Bool)
+      → IsTold device filed ring place row to c o d p on → IsCalmer c d
+  told-calm ring place row to c o d p on is =
       calm-join c.sight is.1 d.sight (changed-calm Sent to place _ c.sight is.0 is.1 is.2)
-      (heard-calm to is.0 (course is.1 c.missed) (sending o) d p on is.3)
+      (heard-calm ring place row to is.0 (course is.1 c.missed) (sending o) d p on is.3)
 
   drop-counted : (answer : Answer) (t : Sight) (missed : Bool) (o : Outcome) (d : Course) (p : Outcome) (dropped on : Bool)
       → IsDropCounted device filed answer t missed o d p dropped on → IsCalm t d.sight
@@ -116,45 +118,45 @@ module _ (device : ℕ) (filed : Filed) where
       (drop-counted is.0 is.1 c.missed o d p dropped on is.3)
   dropped-calm all c o d p dropped on (inr is) = calmer-same c d is.0.0
 
-  module _ (place : Place) (all : List ℕ) where
-    row-told-calm : (row : Row) (c : Course) (o : Outcome) (d : Course) (p : Outcome) (on : Bool) → IsRowTold device filed place all row c o d p on
+  module _ (ring : Ring) (place : Place) (all : List ℕ) where
+    row-told-calm : (row : Row) (c : Course) (o : Outcome) (d : Course) (p : Outcome) (on : Bool) → IsRowTold device filed ring place all row c o d p on
         → IsCalmer c d
     row-told-calm row c o d p on (inl is) =
         calm-join c.sight is.0.sight d.sight
-        (turn-calmer (IsTold device filed place row) (told-calm place row) (to_tell filed.done all) c o is.0 is.1 true is.2)
+        (turn-calmer (IsTold device filed ring place row) (told-calm ring place row) (to_tell filed.done all) c o is.0 is.1 true is.2)
         (dropped-calm all is.0 is.1 d p is.3.0 on is.3.1)
     row-told-calm row c o d p on (inr is) =
-        turn-calmer (IsTold device filed place row) (told-calm place row) (to_tell filed.done all) c o d p false is.0
+        turn-calmer (IsTold device filed ring place row) (told-calm ring place row) (to_tell filed.done all) c o d p false is.0
 
     again-calm : (base : Result (Option Row) DirFault) (c : Course) (o : Outcome) (d : Course) (p : Outcome) (on : Bool)
-        → IsReadAgain device filed place all base c o d p on → IsCalmer c d
+        → IsReadAgain device filed ring place all base c o d p on → IsCalmer c d
     again-calm (Ok (Some row)) c o d p on is = row-told-calm row c o d p on is
     again-calm (Ok None) c o d p on is = calmer-same c d is.0
     again-calm (Err fault) c o d p on is = calm-same c.sight d.sight (ap (λ (x : Course). x.sight) is.0)
 
     after-drop-calm : (dropped missed : Bool) (c : Course) (o : Outcome) (d : Course) (p : Outcome) (on : Bool)
-        → IsAfterDrop device filed place all dropped missed c o d p on → IsCalmer c d
+        → IsAfterDrop device filed ring place all dropped missed c o d p on → IsCalmer c d
     after-drop-calm true missed c o d p on is = calmer-same c d is.0
     after-drop-calm false true c o d p on is = calmer-same c d is.0
     after-drop-calm false false c o d p on is =
         calm-join c.sight is.1 d.sight (base-calm device filed c.sight (Ok is.0) is.1 is.2) (again-calm is.0 (course is.1 c.missed) o d p on is.3)
 
     after-base-calm : (base : Result (Option Row) DirFault) (c : Course) (o : Outcome) (d : Course) (p : Outcome) (on : Bool)
-        → IsAfterBase device filed place all base c o d p on → IsCalmer c d
+        → IsAfterBase device filed ring place all base c o d p on → IsCalmer c d
     after-base-calm (Ok (Some row)) c o d p on is = row-told-calm row c o d p on is
     after-base-calm (Ok None) c o d p on (inl is) =
         calm-join c.sight is.0.sight d.sight (dropped-calm all c o is.0 is.1 is.2 true is.3) (after-drop-calm is.2 is.0.missed is.0 is.1 d p on is.4)
     after-base-calm (Ok None) c o d p on (inr is) = dropped-calm all c o d p false false is.0
     after-base-calm (Err fault) c o d p on is = calm-same c.sight d.sight (ap (λ (x : Course). x.sight) is.0)
 
-    settled-calm : (s : Sight) (o : Outcome) (d : Course) (p : Outcome) (on : Bool) → IsSettled device filed place all s o d p on → IsCalm s d.sight
+    settled-calm : (s : Sight) (o : Outcome) (d : Course) (p : Outcome) (on : Bool) → IsSettled device filed ring place all s o d p on → IsCalm s d.sight
     settled-calm s o d p on is =
         calm-join s is.1 d.sight (base-calm device filed s (Ok is.0) is.1 is.2) (after-base-calm is.0 (course is.1 false) o d p on is.3)
 
 module _ (ring : Ring) (device : ℕ) where
   updated-calm : (filed : Filed) (s : Sight) (o : Outcome) (t : Sight) (p : Outcome) (on : Bool) → IsUpdated ring device filed s o t p on → IsCalm s t
   updated-calm filed s o t p on (inl is) =
-      calm-join s is.2.sight t (settled-calm device filed is.0 is.1 s o is.2 is.3 on is.6) (calm-same is.2.sight t is.7)
+      calm-join s is.2.sight t (settled-calm device filed ring is.0 is.1 s o is.2 is.3 on is.6) (calm-same is.2.sight t is.7)
   updated-calm filed s o t p on (inr wants) = calm-same s t wants.0
 
   gone-over-calm : (got : Result (List Filed) DirFault) (s t : Sight) (p : Outcome) (on : Bool) → IsGoneOver ring device got s t p on → IsCalm s t

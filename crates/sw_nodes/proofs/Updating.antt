@@ -11,7 +11,7 @@ use Rattle.sw_core.specs.Worlds.{KeeperSeen, AllNodes, is_hashed_place, sight_of
 use Rattle.sw_hashdir.proofs.Stored.{hashed-is}
 use Rattle.sw_hashdir.specs.Steps.{IsHashed}
 use Rattle.sw_hashpath.specs.declared.secrets.Secrets.{Secrets}
-use Rattle.sw_listing_laws.proofs.Honesty.{honest-leaving}
+use Rattle.sw_machine.proofs.Honesty.{honest-leaving}
 use Rattle.sw_message.specs.declared.request.Request.{Request}
 use Rattle.sw_message.specs.declared.response.Response.{Response}
 use Rattle.sw_object_steps.specs.declared.dir_fault.DirFault.{DirFault}

@@ -32,7 +32,7 @@ use Rattle.sw_control.specs.declared.row_push.RowPush.{RowPush}
 use Rattle.sw_control.specs.declared.shard_creation.ShardCreation.{ShardCreation}
 use Rattle.sw_control.specs.declared.shards_read.ShardsRead.{ShardsRead}
 use Rattle.sw_control.specs.declared.update.Update.{Update}
-use Rattle.sw_listing_laws.specs.Honest.{RunsHonestly}
+use Rattle.sw_machine.specs.Honest.{RunsHonestly}
 use Rattle.sw_core.specs.Listing.{AreCalm, ListsFiles, is_failed}
 use Rattle.sw_core.specs.Worlds.{KeeperSeen, AllNodes, IsSameWorld, Lifts, SetsDown, sight_of}
 use Rattle.sw_object_steps.specs.declared.dir_fault.DirFault.{DirFault}
@@ -108,9 +108,9 @@ module _ {V K : Type 0} (tells : V → Bool) (files : V → Folders) (faults : V
     pub reply : IsPassReply outcome response
 
   -- The rows of a container were pushed, and what came of it replied. A push that wanted memory was made as far as it came
-  pub record AreRowsPushed (asked : RowPush) (w : AllNodes V K) (response : Response) (after : AllNodes V K) : Type 0 where
+  pub record AreRowsPushed (ring : Ring) (asked : RowPush) (w : AllNodes V K) (response : Response) (after : AllNodes V K) : Type 0 where
     pub outcome : Result Outcome NoMemory
-    pub pushed : AreRowsPushedOver asked.from asked.to asked.place asked.acts (sight_of tells files faults keeps w) outcome
+    pub pushed : AreRowsPushedOver ring asked.from asked.to asked.place asked.acts (sight_of tells files faults keeps w) outcome
         (sight_of tells files faults keeps after)
     pub reply : IsPassReply outcome response
 
@@ -153,7 +153,7 @@ module _ {V K : Type 0} (tells : V → Bool) (files : V → Folders) (faults : V
   IsControlDone ring w (controls.Pending device) response after = ArePendingTold ring device w response after
   IsControlDone ring w (controls.Restart device) response after = IsRestarted device w after × (response ≡ text_reply [])
   IsControlDone ring w (controls.Replicate asked) response after = IsReplicated asked w response after
-  IsControlDone ring w (controls.PushRows asked) response after = AreRowsPushed asked w response after
+  IsControlDone ring w (controls.PushRows asked) response after = AreRowsPushed ring asked w response after
   IsControlDone ring w (controls.Update asked) response after = IsUpdated ring asked w response after
   IsControlDone ring w (controls.CreateShards asked) response after = AreShardsCreated ring asked w response after
   IsControlDone ring w (controls.Cleave asked) response after = IsCleft ring asked w response after

@@ -227,13 +227,14 @@ impl<S: Stores> Nodes<'_, S> {
     fn push_rows(&mut self, alloc: Global, asked: &RowPush) -> Response
         requires placed { IsPlaced self.old.ring.now (controls.PushRows asked.now) }
         requires ready { IsReady S.out self.old.ring.now self.old.network.door self.old.stores.now }
-        ensures pushed { AreRowsPushed S.V.tells S.V.holds S.V.faults (keeper_seen S.K.tells S.K.holds S.K.faults) asked.now self.old.network.door result
-            self.new.network.door }
+        ensures pushed { AreRowsPushed S.V.tells S.V.holds S.V.faults (keeper_seen S.K.tells S.K.holds S.K.faults) self.old.ring.now asked.now
+            self.old.network.door result self.new.network.door }
         ensures same { (self.new.ring ≡ self.old.ring) × (self.new.stores ≡ self.old.stores) }
     {
         match push_rows_over(
             alloc,
             &mut self.network,
+            self.ring,
             asked.from,
             asked.to,
             &asked.place,

@@ -114,6 +114,7 @@ returns-in-Ok-CreateShards-clause-ready g c =
     c.create_shards.new.self.ring.now c.args.self.now.network.door c.create_shards.new.self.network.door c.args.self.now.stores c.create_shards.new.self.stores
     c.args.request.now
     c.create_shards.result c.in-Ok-CreateShards.asked
+    (subst (IsControl c.args.self.now.ring.now c.args.request.now) c.in-Ok-CreateShards.field-0-is c.in-Ok-CreateShards.ensures.exact)
     (ap (λ r. r.now) c.create_shards.ensures.same.0) c.create_shards.ensures.same.1 c.requires.ready c.create_shards.ensures.created
 
 pub returns-in-Ok-Cleave-clause-served : goal.returns-in-Ok-Cleave-clause-served
