@@ -3,6 +3,7 @@ mod AnsweredRuns
 mod Composing
 mod Connecting
 mod Found
+mod Holding
 mod Listing
 mod Mapped
 mod OpeningLemmas

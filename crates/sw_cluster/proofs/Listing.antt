@@ -2,7 +2,8 @@
 use Rattle.std.proofs.Common.{List, [], ◌∷◌, ◌++◌, length, refl, sym, subst, append_assoc}
 use Rattle.std.proofs.lemmas.List.{append-nil}
 use Rattle.sw_listing_laws.proofs.Listed.{listings-exact}
-use Rattle.sw_listing_laws.specs.Honest.{AreHonest, Cluster, IsHonest, IsNamedLine, IsPlain, RunsSoundly}
+use Rattle.sw_machine.specs.Honest.{AreHonest, IsHonest}
+use Rattle.sw_listing_laws.specs.Plain.{Cluster, IsNamedLine, IsPlain, RunsSoundly}
 use Rattle.sw_listing_laws.specs.Laws.{ArePlain, IsNew}
 use Rattle.sw_machine.specs.Machine.{Came, Machine, RunLine, Runs, Steps, Went, machine_of}
 use Rattle.sw_core.specs.Worlds.{nodes_of}

@@ -27,12 +27,13 @@ use Rattle.sw_nodes.specs.Restarts.{AreCalled, restarts_in}
 use Rattle.sw_nodes.proofs.Keeping.{runs-itself}
 use Rattle.sw_nodes.proofs.Readying.{ready-of}
 use Rattle.sw_nodes.proofs.Restarting.{called-on, none-called, out-called, whole-called}
-use Rattle.sw_listing_laws.proofs.Honesty.{honest-join, honest-leaving}
-use Rattle.sw_listing_laws.specs.Honest.{AreHonest, RunsHonestly}
+use Rattle.sw_machine.proofs.Honesty.{honest-join, honest-leaving}
+use Rattle.sw_machine.specs.Honest.{AreHonest, RunsHonestly}
 use Rattle.sw_machine.specs.Doors.{GoesOn}
 use Rattle.sw_pass.specs.Rings.{replicas_in}
 use Rattle.sw_machine.specs.Machine.{RunLine, Runs, came_in, machine_of}
 use Rattle.sw_core.specs.Worlds.{AllNodes, AreContainers, IsWorld, KeeperSeen, Lifts, SlotTellsOn, first_of, nodes_of, opened, shown, sight_of, without_lines}
+use Rattle.sw_cluster.proofs.Holding.{holds-on}
 use Rattle.sw_cluster.proofs.Listing.{lists-exactly}
 use Rattle.sw_cluster.proofs.Mapped.{ends-mapped}
 use Rattle.sw_cluster.specs.Ending.{Ends, IsRunOver, IsTrail, ReadsInTurn, status_by}
@@ -91,6 +92,7 @@ module _ {V K : Type 0} (tells : V → Bool) (files : V → Folders) (faults : V
       run = ran;
       honest = honest;
       lists = lists-exactly ring (see began) lines run.after ran honest;
+      holds = holds-on ring (see began) lines run.after ran honest;
       stored = stored tells files faults keeps ring began w is whole nodes lines run.after ran rests resting told_on run.stands.objects;
       kept = kept tells files faults keeps ring began w is whole nodes lines run.after ran rests resting told_on run.stands.containers;
     }

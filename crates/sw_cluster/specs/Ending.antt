@@ -12,7 +12,7 @@ use Rattle.sw_session.specs.declared.session.SessionFault.TheVariants as faults
 use Rattle.sw_hashpath.specs.declared.place.Place.{Place}
 use Rattle.sw_object_steps.specs.Journals.{Hash}
 use Rattle.sw_ring.specs.declared.ring.Ring.{Ring}
-use Rattle.sw_listing_laws.specs.Honest.{AreHonest}
+use Rattle.sw_machine.specs.Honest.{AreHonest}
 use Rattle.sw_machine.specs.Machine.{Machine, RunLine, Runs, came_in, machine_of, writes_at}
 use Rattle.sw_pass.specs.Rings.{replicas_in}
 use Rattle.sw_state.specs.States.{state_of, writes_of}
@@ -32,6 +32,7 @@ use Rattle.sw_nodes.specs.Restarts.{AreCalled}
 use Rattle.sw_nodes.specs.Server.{MayAnswer, MayHalt}
 use Rattle.sw_core.specs.declared.trail.Trail.{Trail}
 use Rattle.sw_cluster.specs.Limits.{run_bytes}
+use Rattle.sw_cluster.specs.Holding.{HoldsOn}
 use Rattle.sw_cluster.specs.Listing.{ListsExactly}
 use Rattle.sw_cluster.specs.Statuses as statuses
 use Rattle.sw_cluster.specs.Told.{Counts, Input, IsSilent, IsUnread, Output, given_before, given_now, read_of, written_of}
@@ -90,9 +91,10 @@ module _ {V K : Type 0} (tells : V → Bool) (files : V → Folders) (faults : V
     pub counts : (machine.containers.half.seen (place_lock ring.lock_bits ring.power device place)).faults ≡ keeps.faults part.1
 
   -- The trail tells what happened: its steps are those that came in a run of the machine from what the nodes began with, so each is answered by
-  -- what had reached its device before, and what came in a message had been sent. The run is honest: what was marked in a record had been heard, and what was
-  -- dropped looked at all devices of its container. So where it began with nothing each listing in it of a container of which no record is pending, and that
-  -- isn't split into shards at the device, is exactly its live objects. In the end the files stand for what reached, and the keepers have the machine's tables.
+  -- what had reached its device before, and what came in a message had been sent. The run is honest: what devices keep of others they were told. So where it
+  -- began with nothing each listing in it of a container of which no record is pending, and that isn't split into shards at the device, is exactly its live
+  -- objects; and no row that a replica holds is lost, also while its container is split. In the end the files stand for what reached, and the keepers have the
+  -- machine's tables.
   pub record IsTrail (ring : Ring) (began after : AllNodes V K) (rests : ℕ → ℕ → Option (V × K)) (steps : List Line) : Type 0 where
     pub lines : List RunLine
     pub came : came_in lines ≡ steps
@@ -100,6 +102,7 @@ module _ {V K : Type 0} (tells : V → Bool) (files : V → Folders) (faults : V
     pub run : Runs (nodes_of (length ring.devices) ring.lock_bits ring.power ring.secrets) (machine_of (sight_of tells files faults keeps began)) lines machine
     pub honest : AreHonest ring.secrets (replicas_in ring) [] lines
     pub lists : ListsExactly ring (sight_of tells files faults keeps began) lines machine run
+    pub holds : HoldsOn ring (sight_of tells files faults keeps began) lines machine
     pub stored : (device : ℕ) (hash : Hash) → device < length ring.devices → IsStored ring began machine rests device hash
     pub kept : (device : ℕ) (place : Place) → device < length ring.devices → IsKept ring began machine rests device place
 

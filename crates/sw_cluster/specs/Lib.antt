@@ -2,6 +2,7 @@ pub mod Answered
 pub mod Composing
 pub mod Connections
 pub mod Ending
+pub mod Holding
 pub mod Leaving
 pub mod Limits
 pub mod Listing

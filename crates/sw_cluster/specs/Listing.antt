@@ -7,7 +7,7 @@ use Rattle.sw_hashpath.specs.declared.place.Place.{Place}
 use Rattle.sw_listing.specs.Listing.{listing}
 use Rattle.sw_listing.specs.declared.entry.Entry.{Entry}
 use Rattle.sw_listing.specs.declared.query.Query.{Query}
-use Rattle.sw_listing_laws.specs.Honest.{Cluster}
+use Rattle.sw_listing_laws.specs.Plain.{Cluster}
 use Rattle.sw_listing_laws.specs.Laws.{ArePlain, AreLiveRows, DoAgree, IsNew, IsSettled}
 use Rattle.sw_machine.specs.Machine.{Came, Machine, RunLine, Runs, Went, machine_of}
 use Rattle.sw_object_steps.specs.Journals.{Hash}
