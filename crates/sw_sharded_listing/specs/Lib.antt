@@ -1,0 +1,4 @@
+pub mod Parts
+pub mod Across
+pub mod Counts
+pub mod Laws
