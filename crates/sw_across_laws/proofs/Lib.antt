@@ -1,0 +1,13 @@
+pub mod Tiled
+pub mod Order
+pub mod Once
+pub mod Parts
+pub mod Names
+pub mod Bases
+pub mod Rows
+pub mod Holding
+pub mod Live
+pub mod Exact
+pub mod Reading
+pub mod Across
+pub mod Unsplit

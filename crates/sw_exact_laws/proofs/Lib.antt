@@ -1,0 +1,5 @@
+pub mod Tiling
+pub mod Standing
+pub mod Lines
+pub mod Running
+pub mod Showing

@@ -1,0 +1,9 @@
+pub mod Coming
+pub mod Lines
+pub mod Lists
+pub mod Origins
+pub mod Running
+pub mod Saying
+pub mod Sending
+pub mod Soundly
+pub mod Turning
