@@ -10,8 +10,9 @@ SERVE_WEIGHT_LIMIT = ENTRY_LIMIT * BODY_LIMIT
 GREATEST_TIME, GREATEST_U64 = 999_999_999_999_999, 2**64 - 1
 EMPTY_MD5 = hashlib.md5(b"").hexdigest()
 TEXT_TYPE, JSON_TYPE = b"text/plain; charset=utf-8", b"application/json; charset=utf-8"
-REASONS = {200: "OK", 201: "Created", 202: "Accepted", 204: "No Content", 400: "Bad Request", 404: "Not Found", 405: "Method Not Allowed", 409: "Conflict",
-           411: "Length Required", 412: "Precondition Failed", 413: "Payload Too Large", 422: "Unprocessable Entity", 503: "Service Unavailable"}
+REASONS = {200: "OK", 201: "Created", 202: "Accepted", 204: "No Content", 301: "Moved Permanently", 400: "Bad Request", 404: "Not Found",
+           405: "Method Not Allowed", 409: "Conflict", 411: "Length Required", 412: "Precondition Failed", 413: "Payload Too Large",
+           422: "Unprocessable Entity", 503: "Service Unavailable"}
 KEPT_HEADS = {b"cache-control", b"content-disposition", b"content-encoding", b"content-language", b"expires", b"x-robots-tag"}
 ITEM_PREFIX = b"x-object-meta-"
 LINES = {1: "read fault", 2: "usage", 4: "write fault", 5: "store fault", 7: "session too long", 8: "bad input"}
@@ -23,6 +24,14 @@ class Refused(Exception):
     def __init__(self, status, *fields):
         super().__init__(status)
         self.status, self.fields = status, fields
+
+
+class Redirected(Refused):
+    """The reply to a row whose name is left to a shard."""
+
+    def __init__(self, shard, name):
+        super().__init__(301, (b"Location", escaped(b"/" + b"/".join((*shard, name)))))
+        self.shard = shard
 
 
 class BadInput(Exception):

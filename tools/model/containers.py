@@ -1,7 +1,8 @@
 """The container server, with its queries and listings."""
 import re
 
-from .common import EMPTY_MD5, JSON_TYPE, TEXT_TYPE, Refused, is_digits, is_utf8, json_date, json_text, percent_decoded, plain_number
+from .common import (EMPTY_MD5, JSON_TYPE, TEXT_TYPE, Redirected, Refused, is_digits, is_utf8, json_date, json_text, percent_decoded,
+                     plain_number)
 from .nodes import Row
 from .objects import located, stands_at, time_of
 from .requests import reply
@@ -63,38 +64,57 @@ def row_of(request, name):
     return Row(name, when, int(size), kind, etag.decode().lower(), False)
 
 
-def merge_row(nodes, device, place, digest, row):
-    container, path = nodes.place(device, *place), b"/" + b"/".join(place)
-    made = None
-    if container.is_absent():
-        if row.deleted or not place[0].startswith(b"."):
-            raise Refused(404)
-        made = max(row.time, container.delete_time or 0)
+def creation_by(container, place, rows):
+    """The time at which the first live row makes an absent container of a hidden account."""
+    first = next((it for it in rows if not it.deleted), None)
+    if first is None or not place[0].startswith(b"."):
+        raise Refused(404)
+    return max(first.time, container.delete_time or 0)
+
+
+def changes(container, row):
     old = container.rows.get(row.name)
-    changes = old is None or (old.time, old.deleted) < (row.time, row.deleted)
-    nodes.journal(device, "container", digest, (made is not None) + changes)
+    return old is None or (old.time, old.deleted) < (row.time, row.deleted)
+
+
+def merge_rows(nodes, device, place, rows):
+    """Puts in those rows, each of another name, that count more than what stands: all in one step, or none."""
+    container, path = nodes.place(device, *place), b"/" + b"/".join(place)
+    made = creation_by(container, place, rows) if container.is_absent() else None
+    for row in rows:
+        shard = container.shard_of(row.name)
+        if shard is not None:
+            raise Redirected(shard, row.name)
+    news = [it for it in rows if changes(container, it)]
+    nodes.journal(device, "container", nodes.ring.hash(*place), (made is not None) + len(news))
     if made is not None:
         container.put_time = made
         nodes.tell(b"create", device, path, made)
-    if changes:
+    for row in news:
         container.put(row)
         nodes.tell(b"row", device, path + b"/" + row.name, row.time)
+
+
+def create(nodes, device, place, when):
+    """Creates a container, or raises the time of its creation. Whether it was absent."""
+    container = nodes.place(device, *place)
+    absent = container.is_absent()
+    if absent and container.delete_time is not None and when < container.delete_time:
+        raise Refused(409, stands_at(container.delete_time))
+    if absent or when > container.put_time:
+        nodes.journal(device, "container", nodes.ring.hash(*place), 1)
+        container.put_time = when
+        nodes.tell(b"create", device, b"/" + b"/".join(place), when)
+    return absent
 
 
 def change_container(nodes, request, device, place, digest):
     container, when, path = nodes.place(device, *place), time_of(request), b"/" + b"/".join(place)
     if request.method == b"PUT":
-        absent = container.is_absent()
-        if absent and container.delete_time is not None and when < container.delete_time:
-            raise Refused(409, stands_at(container.delete_time))
-        if absent or when > container.put_time:
-            nodes.journal(device, "container", digest, 1)
-            container.put_time = when
-            nodes.tell(b"create", device, path, when)
-        return reply(201 if absent else 202)
+        return reply(201 if create(nodes, device, place, when) else 202)
     if container.is_absent():
         raise Refused(404)
-    if container.live():
+    if container.split or container.live():
         raise Refused(409)
     if when <= container.put_time:
         raise Refused(409, stands_at(container.put_time))
@@ -130,7 +150,7 @@ def answer_container(nodes, request, segments):
     if device not in nodes.ring.container[nodes.ring.partition(digest)]:
         raise Refused(404)
     if is_row:
-        merge_row(nodes, device, place, digest, row_of(request, obj))
+        merge_rows(nodes, device, place, [row_of(request, obj)])
         return reply(201 if request.method == b"PUT" else 204)
     if request.method in (b"PUT", b"DELETE"):
         return change_container(nodes, request, device, place, digest)

@@ -1,9 +1,11 @@
 """Control requests, and passes with messages that are lost or come twice."""
-from .common import TEXT_TYPE, Refused, is_digits, plain_number
-from .containers import merge_row
+from .common import TEXT_TYPE, Redirected, Refused, is_digits, plain_number
+from .containers import merge_rows
 from .nodes import State
+from .objects import time_of
 from .requests import reply
 from .rings import is_bad_name
+from .shards import cleave, create_shards, shards_text
 
 
 class Messages:
@@ -16,7 +18,7 @@ class Messages:
             raise Refused(400)
         self.named = {key: int(it) for key, it in values.items() if it is not None}
         self.count = self.lost = self.asked = self.sent = self.left = 0
-        self.kept, self.is_refused = None, False
+        self.kept = self.later = None
 
     def keep(self, status):
         """The first answer that hindered the pass is told."""
@@ -35,9 +37,9 @@ class Messages:
             return None
         return answer
 
-    def outcome(self):
-        done = int(self.left == 0 and not self.is_refused)
-        return f"done={done} lost={self.lost} kept={self.kept or '-'} later=- asked={self.asked} sent={self.sent} left={self.left}\n".encode()
+    def outcome(self, done):
+        first = f"done={int(done)} lost={self.lost} kept={self.kept or '-'} later={self.later or '-'}"
+        return f"{first} asked={self.asked} sent={self.sent} left={self.left}\n".encode()
 
 
 def transfer(nodes, to, write):
@@ -53,7 +55,7 @@ def push(nodes, messages, source, to, part):
     theirs = messages.send(lambda: nodes.suffix_hashes(to, part), True)
     if theirs is None:
         messages.left = 1
-        return
+        return False
     for suffix in (it for it in ours if theirs.get(it) != ours[it]):
         told = messages.send(lambda suffix=suffix: {digest: nodes.state(to, digest).copy() for digest, _ in nodes.lines(to, part, suffix)}, True)
         if told is None:
@@ -66,35 +68,48 @@ def push(nodes, messages, source, to, part):
                 status = messages.send(lambda write=write: transfer(nodes, to, write), False)
                 messages.left += status not in (201, 409)
                 messages.keep(None if status == 409 else status)
+    return messages.left == 0
 
 
-def row_status(nodes, to, place, row):
+def row_answer(nodes, to, place, row):
+    """The status of a row that a pass sends, and the shard that its name is left to."""
     try:
-        merge_row(nodes, to, place, nodes.ring.hash(*place), row)
-        return 201
+        merge_rows(nodes, to, place, [row])
+        return 201, None
+    except Redirected as redirected:
+        return 301, redirected.shard
     except Refused as refused:
-        return refused.status
+        return refused.status, None
+
+
+def is_acknowledged(nodes, messages, to, place, row):
+    """Sends a row, and sends it on where its name is left to a shard: to each device of that, whatever those before answered. Whether each took it.
+    A shard leaves no name to another one."""
+    status, shard = messages.send(lambda: row_answer(nodes, to, place, row), False) or (None, None)
+    if status == 301 and not place[0].startswith(b"."):
+        return all([is_acknowledged(nodes, messages, it, shard, row) for it in nodes.replicas(shard)])
+    messages.keep(409 if status == 301 else status)
+    return status == 201
 
 
 def push_rows(nodes, messages, source, to, place):
     container = nodes.place(source, *place)
     if container.is_absent():
         messages.kept, messages.left = 404, 1
-        return
+        return False
     top = container.top
     for row in container.rows_above(container.syncs.get(to, 0)):
-        status = messages.send(lambda row=row: row_status(nodes, to, place, row), False)
-        messages.left += status != 201
-        messages.keep(status)
+        messages.left += not is_acknowledged(nodes, messages, to, place, row)
     if messages.left or container.syncs.get(to, -1) >= top:
-        return
+        return messages.left == 0
     try:
         nodes.journal(source, "container", nodes.ring.hash(*place), 1)
     except Refused as refused:
-        messages.kept, messages.is_refused = refused.status, True
-        return
+        messages.kept = refused.status
+        return False
     container.syncs[to] = top
     nodes.tell(b"sync", source, b"/" + b"/".join(place))
+    return True
 
 
 def change_record(nodes, messages, device, record, kind):
@@ -112,11 +127,9 @@ def is_settled(nodes, messages, device, path, record):
     """Tells the container of a record's name, at each device that wasn't told, what stands; and drops the record where all were told, or nothing stands
     that they would have to be told. Whether nothing was missed for it."""
     place, row, is_missed = record.name[:2], nodes.base_row(device, record), False
-    devices = nodes.ring.container[nodes.ring.partition(nodes.ring.hash(*place))]
+    devices = nodes.replicas(place)
     for to in [it for it in devices if row and it not in record.done]:
-        status = messages.send(lambda to=to: row_status(nodes, to, place, row), False)
-        messages.keep(status)
-        if status == 201 and change_record(nodes, messages, device, record, b"mark"):
+        if is_acknowledged(nodes, messages, to, place, row) and change_record(nodes, messages, device, record, b"mark"):
             record.done.add(to)
         else:
             is_missed = True
@@ -130,6 +143,39 @@ def is_settled(nodes, messages, device, path, record):
 def update(nodes, messages, device):
     for path, record in nodes.pending(device):
         messages.left += not is_settled(nodes, messages, device, path, record)
+    return messages.left == 0
+
+
+def place_of(segments):
+    if is_bad_name(*segments):
+        raise Refused(400)
+    return tuple(segments)
+
+
+def cut_place_of(segments):
+    """A container that may be cut and cleaved."""
+    place = place_of(segments)
+    if place[0].startswith(b"."):
+        raise Refused(400)
+    return place
+
+
+def answer_split(nodes, request, segments):
+    """The text that answers a request on shard ranges, or none where it is no such request."""
+    words, device = (request.method, segments[1], len(segments)), nodes.ring.device(segments[2])
+    if device is None:
+        raise Refused(400)
+    if words == (b"GET", b"shards", 5):
+        return shards_text(nodes, device, place_of(segments[3:]))
+    if words == (b"POST", b"cleave", 5):
+        place, messages = cut_place_of(segments[3:]), Messages(request)
+        return messages.outcome(cleave(nodes, messages, device, place))
+    if words == (b"POST", b"ranges", 6):
+        place, names, when, messages = cut_place_of(segments[3:5]), segments[5], time_of(request), Messages(request)
+        if not is_digits(names, 1, 9) or int(names) == 0 or len(place[0]) > 248 or len(place[1]) > 192:
+            raise Refused(400)
+        return messages.outcome(create_shards(nodes, messages, device, place, int(names), when))
+    return None
 
 
 def answer_control(nodes, request, segments):
@@ -143,8 +189,7 @@ def answer_control(nodes, request, segments):
         body = nodes.pending_text(nodes.ring.device(segments[2]))
     elif words == (b"POST", b"update") and len(segments) == 3 and nodes.ring.device(segments[2]) is not None:
         messages = Messages(request)
-        update(nodes, messages, nodes.ring.device(segments[2]))
-        body = messages.outcome()
+        body = messages.outcome(update(nodes, messages, nodes.ring.device(segments[2])))
     elif words == (b"POST", b"restart") and len(segments) == 3 and nodes.ring.device(segments[2]) is not None:
         nodes.restart(nodes.ring.device(segments[2]))
         body = b""
@@ -153,15 +198,15 @@ def answer_control(nodes, request, segments):
         if None in (source, to, part) or source == to or part >= 2**nodes.ring.power:
             raise Refused(400)
         messages = Messages(request)
-        push(nodes, messages, source, to, part)
-        body = messages.outcome()
+        body = messages.outcome(push(nodes, messages, source, to, part))
     elif words == (b"POST", b"rows") and len(segments) == 6:
-        source, to, place = nodes.ring.device(segments[2]), nodes.ring.device(segments[3]), segments[4:]
-        if None in (source, to) or source == to or is_bad_name(*place):
+        source, to, place = nodes.ring.device(segments[2]), nodes.ring.device(segments[3]), place_of(segments[4:])
+        if None in (source, to) or source == to:
             raise Refused(400)
         messages = Messages(request)
-        push_rows(nodes, messages, source, to, tuple(place))
-        body = messages.outcome()
+        body = messages.outcome(push_rows(nodes, messages, source, to, place))
+    elif len(segments) in (5, 6):
+        body = answer_split(nodes, request, segments)
     if body is None:
         raise Refused(400)
     return reply(200, [(b"Content-Type", TEXT_TYPE)], body)

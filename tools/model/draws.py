@@ -4,7 +4,7 @@ import hashlib
 import json
 import re
 
-from .common import escaped, percent_decoded
+from .common import escaped, normal, percent_decoded, read_time
 from .rings import Ring, suffix_of
 
 ACCOUNTS = [b"a", b"a", b"a", b"b", b".a", "\u00e9".encode()]
@@ -30,6 +30,9 @@ SPARE = [(b"Host", b"h"), (b"X-Container-Host", b"1.2.3.4:6201"), (b"Range", b"b
          (b"Content-MD5", b"x")]
 MESSAGES = [b"1", b"2", b"3", b"4", b"5", b"02", b"999999999"]
 BAD_MESSAGES = [b"0", b"", b"x", b"1234567890", b"000", b"+1"]
+SHARD_TIMES = [b"6", b"6", b"7.5", b"20", b"0", b"9999999999.99999"]
+SHARD_NAMES = [b"1", b"1", b"2", b"2", b"2", b"3", b"01", b"999999999"]
+BAD_SHARD_NAMES = [b"0", b"00", b"", b"x", b"-1", b"+1", b"1234567890", b"1.0", b"1/2", b"2%20"]
 KEPT = [b"Content-Encoding", b"Content-Disposition", b"Content-Language", b"Cache-Control", b"Expires", b"X-Robots-Tag"]
 QUERY_TEXTS = [b"", b"o", b"p", b"p/", b"p/a", b"p0", "p/\U0010ffff".encode(), b"pp", b"p//", b"q", b"q/", b"/", b"a", b"x", "\u00fc".encode(),
                "\uffff".encode(), b"\xff", b"\xc3", b"%", b"\"", b" ", b"\x7f"]
@@ -54,10 +57,17 @@ BAD_CHUNKS = [b"\r\n", b"g\r\nabc\r\n0\r\n\r\n", b"3\nabc\r\n0\r\n\r\n", b"3\r\n
               b"4000001\r\nabc\r\n0\r\n\r\n", b"3\r\nabc\r\n0\r\n\r", b"3\r\nabc0\r\n\r\n"]
 
 
-# How often requests are for objects, for containers and rows, for replicas, for control, and odd ones: scripts of all, of objects, of rows, of pushes.
-WEIGHTS = [[50, 28, 6, 15, 0.6], [80, 5, 5, 9, 1], [5, 90, 2, 3, 0.3], [45, 5, 6, 45, 0.3]]
+# How often requests are for objects, for containers and rows, for replicas, for control, odd ones, and for shards: scripts of all, of objects, of rows, of
+# pushes, of containers that are split.
+SPLITTING = [18, 26, 1, 22, 0.2, 33]
+WEIGHTS = [[50, 28, 6, 15, 0.6, 2], [80, 5, 5, 9, 1, 0], [5, 90, 2, 3, 0.3, 1], [45, 5, 6, 45, 0.3, 1], SPLITTING, SPLITTING]
 # The same of what `serve` is asked, which makes no push.
-SERVE_WEIGHTS = [[40, 28, 6, 2, 0.5], [80, 5, 6, 2, 1], [5, 90, 2, 2, 0.3]]
+SERVE_WEIGHTS = [[40, 28, 6, 2, 0.5, 1], [80, 5, 6, 2, 1, 0], [5, 90, 2, 2, 0.3, 0]]
+
+
+def plain(line, *fields):
+    """The head of a request whose spelling isn't drawn."""
+    return b"".join(it + b"\n" for it in (line + b" HTTP/1.1", *fields, b""))
 
 
 class Draw:
@@ -75,6 +85,11 @@ class Draw:
         self.weights = self.one(SERVE_WEIGHTS if serves else WEIGHTS)
         self.times = self.random.sample(TIMES, self.one([3, 5, len(TIMES)]))
         self.devices = self.random.sample(self.ring.devices, min(2, len(self.ring.devices)))
+        self.cuts, self.splits = [], self.weights is SPLITTING
+        if self.splits:
+            self.accounts, self.containers = [self.one([b"a", b"a", "\u00e9".encode()])], self.containers[:1]
+            self.objects = self.random.sample(sorted(set(OBJECTS)), self.one([2, 4, 5, 5, 6, 8]))
+            self.devices = self.keepers(b"%d" % self.ring.partition(self.ring.hash(self.accounts[0], self.containers[0])))
 
     def one(self, items):
         return self.random.choice(items)
@@ -252,10 +267,16 @@ class Draw:
         return b"?" + self.one([b"&", b"&", b"&&"]).join(pairs) + self.one([b"", b"", b"&", b"?", b"%", b"%4"]) if pairs or self.chance(10) else b""
 
     def container_request(self):
-        account, container = self.spelled(self.account()), self.spelled(self.container())
+        return self.request_at(self.account(), self.container())
+
+    def keepers(self, part):
+        """The devices that keep the containers of a partition."""
+        return [self.ring.devices[it] for it in (self.ring.container[int(part)] if part.isdigit() and int(part) < len(self.ring.container) else [0])]
+
+    def request_at(self, account, container):
+        account, container = self.spelled(account), self.spelled(container)
         part = self.part([account, container])
-        rows = self.ring.container[int(part)] if part.isdigit() and int(part) < len(self.ring.container) else [0]
-        device = self.ring.devices[self.one(rows)] if self.chance(93) else self.device()
+        device = self.one(self.keepers(part)) if self.chance(93) else self.device()
         target, fields = b"/" + b"/".join([device, part, account, container]), self.expectation()
         is_row = self.chance(50)
         if is_row:
@@ -295,27 +316,119 @@ class Draw:
 
     def control_request(self):
         device, fields = self.device(), []
-        kind = self.one(["replicate"] * 6 + ["rows"] * 6 + ["update"] * 6 + ["trail", "files", "pending", "restart", "other"])
+        kind = self.one(["replicate"] * (1 if self.splits else 6) + ["rows"] * 6 + ["update"] * 6 + ["trail", "files", "pending", "restart", "other"])
         if kind in ("replicate", "rows", "update"):
             other = self.one(self.devices + [self.device()])
             part = self.mostly([self.used_part()], [b"00", b"16", b"x", b"", b"%31", b"0", b"1"], 92)
             if kind == "rows":
-                names = [self.one(self.accounts), self.one(self.containers)]
+                names = self.shard_place() if self.cuts and self.chance(15) else [self.one(self.accounts), self.one(self.containers)]
                 part = self.mostly([b"/".join(map(escaped, names))], [b"a", b"/c", b"a/", b"a/c/o", b"a%2Fc", b"a/%00", b"a/%2F", b"%FF/c"], 94)
             method, target = b"POST", b"/.swc/" + kind.encode() + b"/" + device + (b"/" + other + b"/" + part if kind != "update" else b"")
-            number = self.one(MESSAGES)
-            for name in (b"X-Swc-Lose", b"X-Swc-Lose-Reply", b"X-Swc-Repeat"):
-                if self.chance(25):
-                    fields.append((name, self.mostly([number], MESSAGES + BAD_MESSAGES, 80)))
+            fields = self.fates(18 if self.splits else 25)
         elif kind == "other":
             others = [b"", b"/", b"/trail/", b"/files", b"/files/%s/x" % device, b"/x", b"/pending/%s" % device, b"/trail", b"/tra%69l?x",
                       b"/restart/%s" % device, b"/files/%s" % device, b"/replicate/%s" % device,
-                      b"/rows/%s" % device, b"/pending", b"/pending/%s/x" % device, b"/update", b"/update/%s" % device, b"/update/%s/%s" % (device, device)]
+                      b"/rows/%s" % device, b"/pending", b"/pending/%s/x" % device, b"/update", b"/update/%s" % device, b"/update/%s/%s" % (device, device),
+                      b"/shards", b"/shards/%s/a" % device, b"/shards/%s/a/c" % device, b"/shards/%s/a/c/1" % device, b"/ranges/%s/a/c" % device,
+                      b"/ranges/%s/a/c/1" % device, b"/cleave/%s/a" % device, b"/cleave/%s/a/c" % device, b"/cleave/%s/a/c/1" % device]
             method, target = self.one([b"GET", b"POST", b"PUT", b"HEAD"]), self.one([b"/.swc", b"/.swc", b"/%2Eswc"]) + self.one(others)
         else:
             method = self.mostly([b"POST" if kind == "restart" else b"GET"], [b"PUT", b"HEAD"], 96)
             target = b"/.swc/" + kind.encode() + (b"" if kind == "trail" else b"/" + device)
         return self.head(method, target, fields + self.expectation())
+
+    def fates(self, percent):
+        """Fields that name a message which fails or comes twice."""
+        number, fields = self.one(MESSAGES), []
+        for name in (b"X-Swc-Lose", b"X-Swc-Lose-Reply", b"X-Swc-Repeat"):
+            if self.chance(percent):
+                fields.append((name, self.mostly([number], MESSAGES + BAD_MESSAGES, 80)))
+        return fields
+
+    def cut_place(self):
+        """A container that is to be split."""
+        shown = [it for it in self.accounts if not it.startswith(b".")] or self.accounts
+        return [self.mostly(shown, ACCOUNTS + BAD_NAMES, 97), self.mostly(self.containers, CONTAINERS + BAD_NAMES, 97)]
+
+    def shard_place(self):
+        """A shard that there may be."""
+        return self.shard_of(self.one(self.cuts), self.one([0, 0, 0, 1, 1, 2, 3]))
+
+    @staticmethod
+    def shard_of(cut, index):
+        account, container, when = cut
+        return [b".shards_" + account, b"%s-%s-%s-%d" % (container, hashlib.md5(container).hexdigest().encode(), normal(when), index)]
+
+    def without_a_shard(self, place):
+        """A shard is deleted at one of its devices, with all of its rows."""
+        part = b"%d" % self.ring.partition(self.ring.hash(*place))
+        path = b"/".join([b"DELETE ", self.one(self.keepers(part)), part, *map(escaped, place)])
+        rows = [plain(path + b"/" + escaped(it), b"X-Timestamp: 300", b"X-Swc-Server: container") for it in self.objects]
+        return b"".join(rows) + plain(path, b"X-Timestamp: " + self.one([b"8", b"21", b"400"]))
+
+    def row(self, method, device, place, name, *fields):
+        part = b"%d" % self.ring.partition(self.ring.hash(*place))
+        return plain(b"/".join([method + b" ", device, part, *map(escaped, (*place, name))]), b"X-Swc-Server: container", *fields)
+
+    def told_deletions(self, place):
+        """Names are deleted, which an update and a push of rows tell."""
+        found = []
+        for name in self.random.sample(self.objects, min(len(self.objects), self.one([0, 1, 2]))):
+            device, to, when = self.one(self.devices), self.one(self.devices), b"X-Timestamp: " + self.one([b"9", b"500"])
+            part = b"%d" % self.ring.partition(self.ring.hash(*place, name))
+            found.append(plain(b"/".join([b"DELETE ", device, part, *map(escaped, (*place, name))]), when) + plain(b"POST /.swc/update/" + device))
+            found.append(self.row(b"DELETE", device, place, name, when))
+            found.append(plain(b"/".join([b"POST /.swc/rows", device, to, *map(escaped, place)])))
+        return b"".join(found)
+
+    def cleaving(self, place, *fields):
+        device = self.keepers(b"%d" % self.ring.partition(self.ring.hash(*place)))[0]
+        return plain(b"/".join([b"POST /.swc/cleave", device, *map(escaped, place)]), *fields)
+
+    def torn_cleavings(self, place):
+        """Of a cleaving one device of the shard hears nothing, and of the next, behind a further row, maybe the other one."""
+        device = self.keepers(b"%d" % self.ring.partition(self.ring.hash(*place)))[0]
+        torn = [self.cleaving(place, self.one([b"X-Swc-Lose", b"X-Swc-Lose-Reply"]) + b": %d" % self.one([1, 2])) for _ in range(2)]
+        when = b"X-Timestamp: %d" % self.random.randint(30, 40)
+        told = (when, b"X-Size: 4", b"X-Content-Type: u", b"X-Etag: " + DIGESTS[0])
+        row = self.row(self.one([b"PUT", b"PUT", b"DELETE"]), device, place, self.one(self.objects), *told)
+        return torn[0] + row + torn[1] + self.one([b"", self.cleaving(place)])
+
+    def stale_shard(self, place):
+        """A creation of shards doesn't come to its end, and one of them is deleted before the next."""
+        device = self.keepers(b"%d" % self.ring.partition(self.ring.hash(*place)))[0]
+        asked = b"/".join([b"POST /.swc/ranges", device, *map(escaped, place), b"1"])
+        self.cuts.append((*place, 600_000))
+        lost = plain(asked, b"X-Timestamp: 6", b"X-Swc-Lose: %d" % self.one([2, 3, 4]))
+        return lost + self.without_a_shard(self.shard_of(self.cuts[-1], 0)) + plain(asked, b"X-Timestamp: " + self.one([b"6", b"6", b"9"]))
+
+    def split_request(self, kind):
+        place = self.shard_place() if self.cuts and self.chance(4) else self.cut_place()
+        if kind == "ranges" and self.chance(5):
+            place = [self.one([b"a", b"y" * 248, b"y" * 249]), self.one([b"c", b"y" * 192, b"y" * 193])]
+        known = self.keepers(b"%d" % self.ring.partition(self.ring.hash(*place)))
+        device = self.mostly(known[:1] * 2 + known, [self.device()], 95)
+        target, fields = b"/.swc/" + kind.encode() + b"/" + b"/".join([device, *map(self.spelled, place)]), self.fates(12)
+        if kind == "ranges":
+            target += b"/" + self.mostly(SHARD_NAMES, BAD_SHARD_NAMES, 94)
+            when = self.mostly(SHARD_TIMES, BAD_TIMES, 96)
+            fields += [(b"X-Timestamp", when)] if self.chance(98) else []
+            self.cuts += [(*place, read_time(when))] if read_time(when) is not None else []
+        method = self.mostly([b"GET" if kind == "shards" else b"POST"], [b"GET", b"POST", b"PUT", b"HEAD"], 97)
+        return self.head(method, target + self.one([b"", b"", b"", b"?x", b"/"] if self.chance(10) else [b""]), fields + self.expectation())
+
+    def shard_request(self):
+        """A request that splits a container, or is of a shard; or several that are rarely drawn one after the other."""
+        behind = ["shard"] * 8 + ["gone"] * 2 + ["told", "torn", "torn"] if self.cuts else ["ranges"] * 120
+        kind = self.one(["ranges"] * 4 + ["cleave"] * 20 + ["shards"] * 4 + behind)
+        if kind in ("ranges", "cleave", "shards"):
+            return self.split_request(kind)
+        if kind == "shard":
+            return self.request_at(*self.shard_place())
+        place = [self.accounts[0], self.containers[0]]
+        if kind == "gone":
+            return self.without_a_shard(self.shard_place()) + self.one([self.cleaving, self.told_deletions])(place)
+        return (self.told_deletions if kind == "told" else self.torn_cleavings)(place)
 
     def odd_request(self):
         """Heads at their limits, and targets of no server."""
@@ -340,7 +453,7 @@ class Draw:
         return start + b"A: b\r\n" * self.one([127, 128, 128, 129]) + b"\r\n"
 
     def request(self):
-        kinds = [self.object_request, self.container_request, self.replicas_request, self.control_request, self.odd_request]
+        kinds = [self.object_request, self.container_request, self.replicas_request, self.control_request, self.odd_request, self.shard_request]
         draw = self.random.choices(kinds, self.weights)[0]
         skipped = self.one([b"\r\n", b"\n", b"\r", b"\r\n\r\n"]) if self.chance(8) else b""
         return skipped + draw()
@@ -365,20 +478,36 @@ class Draw:
 
     def beginning(self):
         """The containers that are drawn from, at each device of their rows, so that most of what follows finds one."""
-        found = []
-        for names in [(account, container) for account in self.accounts for container in self.containers if self.chance(80)]:
+        found, often = [], (98, 95) if self.splits else (80, 90)
+        for names in [(account, container) for account in self.accounts for container in self.containers if self.chance(often[0])]:
             part = self.ring.partition(self.ring.hash(*names))
             path = b"".join(b"/" + b"".join(b"%%%02X" % it for it in name) for name in names)
-            devices = [self.ring.devices[it] for it in self.ring.container[part] if self.chance(90)]
+            devices = [self.ring.devices[it] for it in self.ring.container[part] if self.chance(often[1])]
             found += [b"PUT /%s/%d%s HTTP/1.1\nX-Timestamp: 1\n\n" % (it, part, path) for it in devices]
+            for name in self.objects if self.splits and self.chance(92) else []:
+                told = (b"X-Timestamp: " + self.one([b"5", b"5", b"6", b"9", b"25"]), b"X-Size: 3", b"X-Content-Type: t", b"X-Etag: " + DIGESTS[0])
+                method = self.mostly([b"PUT"], [b"DELETE"], 90)
+                found += [self.row(method, it, names, name, *told) for it in self.one([devices, devices, devices[:1]])]
+        return found
+
+    def ending(self):
+        """What is told in the end of all that stands."""
+        found = [b"GET /.swc/trail HTTP/1.1\r\n\r\n"]
+        found += [b"GET /.swc/%s/%s HTTP/1.1\r\n\r\n" % (kind, it) for kind in (b"files", b"pending") for it in self.ring.devices]
+        cuts = self.cuts[:3] if self.splits else []
+        for place in dict.fromkeys(it[:2] for it in cuts):
+            found += [b"GET /.swc/shards/%s/%s HTTP/1.1\r\n\r\n" % (it, b"/".join(map(escaped, place))) for it in self.ring.devices]
+        for place in dict.fromkeys(tuple(self.shard_of(cut, index)) for cut in cuts for index in range(3)):
+            part, path = b"%d" % self.ring.partition(self.ring.hash(*place)), b"/".join(map(escaped, place))
+            found += [b"GET /%s/%s/%s?format=json HTTP/1.1\r\n\r\n" % (it, part, path) for it in self.keepers(part)]
         return found
 
     def pieces(self, count):
         found = [] if self.serves else self.beginning()
+        if self.splits and self.chance(80):
+            found.append(self.stale_shard([self.accounts[0], self.containers[0]]) if self.chance(12) else self.split_request("ranges"))
         found += [self.request() for _ in range(count)]
-        tell = [b"GET /.swc/%s/%s HTTP/1.1\r\n\r\n" % (kind, it) for kind in (b"files", b"pending") for it in self.ring.devices]
-        shown = [] if self.serves else [b"GET /.swc/trail HTTP/1.1\r\n\r\n"] + tell
-        return found + shown + ([self.bad_tail()] if self.chance(40) else [self.one([b"", b"", b"\r\n", b"\r"])])
+        return found + ([] if self.serves else self.ending()) + ([self.bad_tail()] if self.chance(40) else [self.one([b"", b"", b"\r\n", b"\r"])])
 
 
 ODD_VALUES = [0, 1, 2, 3, 4, 5, 16, 17, 2**32, 2**64 - 1, 2**64, 10**400, -1, 1.0, 1e5, "1", "", "x", None, True, [], {}, [[]], [[0]], "sda", "\u00e9",

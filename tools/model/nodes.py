@@ -62,11 +62,12 @@ class Row:
 
 
 class Container:
-    """Its times; its rows, with their numbers and the greatest one given out; and up to which number other devices have them all."""
+    """Its times; its rows, with their numbers and the greatest one given out; up to which number other devices have them all; and how it is split."""
 
     def __init__(self):
         self.put_time, self.delete_time, self.rows = None, None, {}
         self.numbers, self.top, self.syncs = {}, 0, {}
+        self.split = None
 
     def put(self, row):
         self.top += 1
@@ -78,17 +79,25 @@ class Container:
     def is_absent(self):
         return self.put_time is None or (self.delete_time is not None and self.delete_time > self.put_time)
 
+    def shard_of(self, name):
+        """The shard that a name is left to, or none."""
+        return self.split.shard_of(name) if self.split else None
+
+    def own(self):
+        """The rows that aren't left to shards."""
+        return [it for it in self.rows.values() if self.shard_of(it.name) is None]
+
     def live(self):
-        return [it for it in self.rows.values() if not it.deleted]
+        return [it for it in self.own() if not it.deleted]
 
     def told(self):
         return [(b"X-Container-Object-Count", b"%d" % len(self.live())),
                 (b"X-Container-Bytes-Used", b"%d" % min(sum(it.size for it in self.live()), GREATEST_U64)),
-                (b"X-Timestamp", normal(self.put_time)), (b"X-Backend-Sharding-State", b"unsharded")]
+                (b"X-Timestamp", normal(self.put_time)), (b"X-Backend-Sharding-State", self.split.told() if self.split else b"unsharded")]
 
     def hash(self):
         total = 0
-        for it in self.rows.values():
+        for it in self.own():
             total ^= int.from_bytes(hashlib.md5(it.name + b"-" + normal(it.time)).digest(), "big")
         return b"%032x" % total
 
@@ -186,3 +195,7 @@ class Nodes:
 
     def place(self, device, account, container):
         return self.containers.setdefault((device, account, container), Container())
+
+    def replicas(self, place):
+        """The devices that keep a container, in the ring's order."""
+        return self.ring.container[self.ring.partition(self.ring.hash(*place))]
