@@ -6,8 +6,7 @@
 //!
 //! What is promised: the three are exactly the definitions' queries, and want memory only for texts that aren't empty;
 //! [`laws`] say that entries listed so, range after range, are the listing of all rows, whatever the query, and that a
-//! listing depends on the live rows alone. Nothing in the program uses this yet: the next layer, which asks each shard of a
-//! container for its listing, isn't there.
+//! listing depends on the live rows alone. The next layer, `sw_sharded_listing`, asks each shard of a container so.
 #![tactic(auto)]
 
 pub mod laws;

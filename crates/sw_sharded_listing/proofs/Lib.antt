@@ -6,3 +6,9 @@ pub mod Reading
 pub mod Turning
 pub mod Whole
 pub mod Asked
+pub mod Looks
+pub mod Steps
+pub mod Leaving
+pub mod Refusing
+pub mod Lines
+pub mod OneReading

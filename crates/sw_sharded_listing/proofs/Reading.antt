@@ -23,10 +23,10 @@ use Rattle.sw_sharded_listing.specs.Parts.{Part}
 
 -- ---- one step
 
-abbrev IsOk : {A : Type 0} → A → Result A ContAnswer → Type 0
+abbrev pub IsOk : {A : Type 0} → A → Result A ContAnswer → Type 0
 IsOk x r = Ok x ≡ r
 
-ok-is : {A : Type 0} (x y : A) → IsOk x (Ok y) → x ≡ y
+pub ok-is : {A : Type 0} (x y : A) → IsOk x (Ok y) → x ≡ y
 ok-is x y same = cc
 
 module _ {A : Type 0} (told : Tables → A) where

@@ -1,4 +1,6 @@
-pub mod Parts
 pub mod Across
 pub mod Counts
 pub mod Laws
+pub mod Nodes
+pub mod Parts
+pub mod Reads

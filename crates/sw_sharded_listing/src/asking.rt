@@ -1,7 +1,7 @@
 ghost use Rattle.std.specs.Prelude.{◌≡◌, ◌<◌, ◌≤◌, ◌++◌, true, length, IfOk, OnErr, OnOk};
-ghost use Rattle.sw_pass.specs.Rings.{IsRingOf};
 ghost use Rattle.sw_shard_listing.specs.Ranges.{after_entries};
 ghost use Rattle.sw_sharded_listing.specs.Across.{AreAllListed, IsPartAdded, IsPartListed, are_some};
+ghost use Rattle.sw_sharded_listing.specs.Nodes.{AreNodesFor};
 ghost use Rattle.sw_sharded_listing.specs.Parts.{are_places, parts_in};
 
 use crate::parts::{Part, Split};
@@ -20,7 +20,7 @@ pub(crate) fn list_parts<D: ContainerDoor>(
     query: &Query,
 ) -> Result<Entries, ContAnswer>
     requires device { split.now.device < (D.sight door.old).nodes.devices }
-    requires ring { IsRingOf split.now.ring (D.sight door.old).nodes }
+    requires nodes { AreNodesFor split.now.ring (D.sight door.old).nodes }
     requires fits { (D.sight door.old).nodes.fits_place split.now.place ≡ true }
     requires replica { split.now.replica < split.now.ring.replicas }
     requires placed { are_places split.now.ring.secrets split.now.served ≡ true }

@@ -1,6 +1,6 @@
 ghost use Rattle.std.specs.Prelude.{◌≡◌, ◌<◌, true, Ok};
-ghost use Rattle.sw_pass.specs.Rings.{IsRingOf};
 ghost use Rattle.sw_sharded_listing.specs.Counts.{AreCounted, IsCountedAcross, IsCountedNext, IsSiteAdded, sites_of, with_info};
+ghost use Rattle.sw_sharded_listing.specs.Nodes.{AreNodesFor};
 ghost use Rattle.sw_sharded_listing.specs.Parts.{are_places};
 
 use crate::serving::{are_places, replica_at, served_of};
@@ -27,7 +27,7 @@ pub fn count_across<D: ContainerDoor>(
     replica: u8,
 ) -> Result<(u64, u64), ContAnswer>
     requires device { device < (D.sight door.old).nodes.devices }
-    requires ring { IsRingOf ring.now (D.sight door.old).nodes }
+    requires nodes { AreNodesFor ring.now (D.sight door.old).nodes }
     requires fits { (D.sight door.old).nodes.fits_place place.now ≡ true }
     requires replica { replica < ring.now.replicas }
     ensures counts { IsCountedAcross ring.now device place.now replica (D.sight door.old) result (D.sight door.new) }
@@ -52,7 +52,7 @@ fn count_over<D: ContainerDoor>(
     replica: u8,
 ) -> Result<(u64, u64), ContAnswer>
     requires device { device < (D.sight door.old).nodes.devices }
-    requires ring { IsRingOf ring.now (D.sight door.old).nodes }
+    requires nodes { AreNodesFor ring.now (D.sight door.old).nodes }
     requires fits { (D.sight door.old).nodes.fits_place place.now ≡ true }
     requires replica { replica < ring.now.replicas }
     ensures counts { IsCountedNext ring.now device place.now replica (Ok sharding.now) (D.sight door.old) result (D.sight door.new) }
@@ -77,7 +77,7 @@ fn count_all<D: ContainerDoor>(
     replica: u8,
 ) -> Result<(u64, u64), ContAnswer>
     requires device { device < (D.sight door.old).nodes.devices }
-    requires ring { IsRingOf ring.now (D.sight door.old).nodes }
+    requires nodes { AreNodesFor ring.now (D.sight door.old).nodes }
     requires fits { (D.sight door.old).nodes.fits_place place.now ≡ true }
     requires replica { replica < ring.now.replicas }
     requires placed { are_places ring.now.secrets served.now ≡ true }

@@ -9,7 +9,9 @@
 //! `specs/Counts` the calls. [`laws`] say that the entries are the listing of all rows that were read, each within the range of its part, that parts stand in
 //! the direction of a listing, and that a container that isn't split is listed as one listing of it would be.
 //!
-//! The next layer up is the container server, `sw_container_server`, which will answer listings and counts by these; nothing in the program uses them yet.
+//! They also say what is left of the nodes, by what a listing is refused, and that a trail tells what was answered (`specs/Reads`).
+//!
+//! The next layer up is the container server, `sw_container_server`, which answers requests for a container that is split by these.
 #![tactic(auto)]
 
 mod asking;

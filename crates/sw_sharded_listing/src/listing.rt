@@ -1,6 +1,6 @@
 ghost use Rattle.std.specs.Prelude.{◌≡◌, ◌<◌, true, Ok};
-ghost use Rattle.sw_pass.specs.Rings.{IsRingOf};
 ghost use Rattle.sw_sharded_listing.specs.Across.{IsListedAcross, IsListedNext};
+ghost use Rattle.sw_sharded_listing.specs.Nodes.{AreNodesFor};
 
 use crate::asking::list_parts;
 use crate::parts::Split;
@@ -29,7 +29,7 @@ pub fn list_across<D: ContainerDoor>(
     replica: u8,
 ) -> Result<Entries, ContAnswer>
     requires device { device < (D.sight door.old).nodes.devices }
-    requires ring { IsRingOf ring.now (D.sight door.old).nodes }
+    requires nodes { AreNodesFor ring.now (D.sight door.old).nodes }
     requires fits { (D.sight door.old).nodes.fits_place place.now ≡ true }
     requires replica { replica < ring.now.replicas }
     ensures lists { IsListedAcross ring.now device place.now query.now replica (D.sight door.old) result (D.sight door.new) }
@@ -55,7 +55,7 @@ fn list_over<D: ContainerDoor>(
     replica: u8,
 ) -> Result<Entries, ContAnswer>
     requires device { device < (D.sight door.old).nodes.devices }
-    requires ring { IsRingOf ring.now (D.sight door.old).nodes }
+    requires nodes { AreNodesFor ring.now (D.sight door.old).nodes }
     requires fits { (D.sight door.old).nodes.fits_place place.now ≡ true }
     requires replica { replica < ring.now.replicas }
     ensures lists { IsListedNext ring.now device place.now query.now replica (Ok sharding.now) (D.sight door.old) result (D.sight door.new) }

@@ -2,7 +2,7 @@ use Rattle.std.proofs.Common.{◌≡◌, ◌∙◌, List, map, refl, subst, sym,
 use Rattle.std.proofs.lemmas.List.{drop_all}
 use Rattle.sw_peer.specs.Sights.{Sight}
 use Rattle.sw_shard_range.specs.declared.range.Range.{Range}
-use Rattle.sw_sharded_listing.proofs.Places.{fits-of, place-at}
+use Rattle.sw_sharded_listing.proofs.Places.{place-at}
 use Rattle.sw_sharded_listing.proofs.Summing.{counted-err, counted-ok, shards-ended, shards-more}
 use Rattle.sw_sharded_listing.specs.Counts.{AreCounted, Count, shard_site, sites_of}
 use Rattle.sw_sharded_listing.proofs.counting.count_all.Goals as goal
@@ -27,7 +27,7 @@ pub count_at-requires-in-loop-range-clause-fits : goal.count_at-requires-in-loop
 count_at-requires-in-loop-range-clause-fits g c =
     let s = g.D.Door.sight in
     subst (λ (n : _). n.fits_place c.range-item.result.shard ≡ true) (sym c.loop-range.invariant.nodes)
-    (fits-of c.args.ring.now (s c.args.door.now).nodes c.range-item.result.shard c.requires.ring
+    (c.requires.nodes.placed c.range-item.result.shard
     (place-at c.args.ring.now.secrets c.args.served.now c.loop-range.range-index c.range-item.result c.requires.placed c.loop-range-test.true
     c.range-item.is))
 
