@@ -25,8 +25,10 @@ use Rattle.sw_sharded_listing.proofs.Reading.{AreAllRead, all, no-answer, read-o
 use Rattle.sw_sharded_listing.specs.Across.{AreAllListed, IsListedNext, IsShardingRead}
 use Rattle.sw_sharded_listing.specs.Laws.{IsReadAt, segments_of}
 use Rattle.sw_sharded_listing.specs.Parts.{Part, are_places, parts_of, replica_at, served_in}
+use Rattle.sw_across_laws.proofs.Doors.{door-kept}
 use Rattle.sw_across_laws.proofs.Exact.{across-exact}
-use Rattle.sw_across_laws.proofs.Reading.{IsAt, all-alone, all-there, door-at, read-at, read-there}
+use Rattle.sw_across_laws.proofs.Keeping.{keeps-read}
+use Rattle.sw_across_laws.proofs.Reading.{all-alone, all-there, read-there}
 use Rattle.sw_across_laws.specs.Laws.{HasReplica, IsDoorTo, ListingsAcrossAreExact}
 use Rattle.sw_across_laws.specs.Picked.{ArePicked}
 use Rattle.sw_across_laws.specs.Showable.{AreNamed, IsShowable}
@@ -71,7 +73,7 @@ module _ (c : Cluster) (root : Place → Place) (m : Machine) (place : Place) (c
   exact t mid first listed =
       r.2
       ∙ (ap (λ (ts : List Tables). listed_in_turn (begun query) (segments_of ps ts))
-      (all-there c m ps r.0 mid new (read-at c m device place t old mid first at later) r.1 alone)
+      (all-there c m ring ps r.0 mid new (door-kept c m ring old mid door (keeps-read device place t old mid first)) r.1 alone)
       ∙ across-exact c root m place can named same device among t there (replica_at ring replica) picked rows are query)
     where
       ps : List Part
@@ -80,14 +82,11 @@ module _ (c : Cluster) (root : Place → Place) (m : Machine) (place : Place) (c
       r : AreAllRead (begun query) ps mid entries new
       r = all-read ps mid listed.1
 
-      at : IsAt c m old
-      at = door-at c m ring old door
-
       later : mid.alone ≡ true
-      later = all-alone c m ps r.0 mid new r.1 alone
+      later = all-alone ps r.0 mid new r.1 alone
 
       there : m.containers.half.holds device place ≡ Some t
-      there = read-there c m device place t old mid first at later
+      there = read-there c m ring device place t old mid first door later
 
       picked : ArePicked c (replica_at ring replica) t
       picked = all-kept c ring replica door.keepers has (served_in t.ranges t.cursor) listed.0

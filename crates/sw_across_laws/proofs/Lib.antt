@@ -8,6 +8,9 @@ pub mod Rows
 pub mod Holding
 pub mod Live
 pub mod Exact
+pub mod Single
+pub mod Keeping
+pub mod Doors
 pub mod Reading
 pub mod Across
 pub mod Unsplit

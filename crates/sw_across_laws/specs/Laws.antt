@@ -9,9 +9,7 @@ use Rattle.sw_listing.specs.declared.entry.Entry.{Entry}
 use Rattle.sw_listing.specs.declared.query.Query.{Query}
 use Rattle.sw_listing_laws.specs.Laws.{AreLiveRows, DoAgree}
 use Rattle.sw_listing_laws.specs.Plain.{Cluster}
-use Rattle.sw_machine.specs.Doors.{StandsFor}
 use Rattle.sw_machine.specs.Machine.{Machine}
-use Rattle.sw_machine.specs.Sides.{TellsAt}
 use Rattle.sw_pass.specs.Rings.{is_place, replicas_in}
 use Rattle.sw_peer.specs.Sights.{Sight, cont_lock}
 use Rattle.sw_point_laws.specs.Laws.{ground_of, ledger_of}
@@ -57,12 +55,13 @@ ShardsAreUnsplit = (replicas : Place → List ℕ) (m : Machine) → PointsHold 
 
 -- ---- what a listing across answers
 
--- the door is to the nodes of the cluster, which keep containers by this ring, and stands for the machine; each container lock tells its contents
+-- The door is to the nodes of the cluster, which keep containers by this ring, and each container lock tells its contents. Where nobody else changes the nodes,
+-- the devices hold what the machine says. What became known of locks since, as by reads, may be more
 pub record IsDoorTo (c : Cluster) (m : Machine) (ring : Ring) (s : Sight) : Type 0 where
   pub nodes : s.nodes ≡ c.nodes
   pub keepers : (place : Place) → c.replicas place ≡ replicas_in ring place
-  pub stands : StandsFor s m
-  pub tell : (device : ℕ) (place : Place) → TellsAt (cont_lock c.nodes) m.containers device place
+  pub tell : (device : ℕ) (place : Place) → (s.containers.seen (cont_lock c.nodes device place)).told ≡ true
+  pub holds : s.alone ≡ true → (device : ℕ) (place : Place) → s.containers.holds device place ≡ m.containers.half.holds device place
 
 -- each container has a replica of this number
 abbrev pub HasReplica : Ring → ℕ → Type 0

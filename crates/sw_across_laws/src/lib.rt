@@ -7,8 +7,7 @@
 //!
 //! What is asked for so holds after runs: rows that were acknowledged are held, and where points hold no shard is split itself (`sw_point_laws`); only rows of
 //! writes come (`sw_listing_laws`). Names of objects have to be text without a byte 0, as those are that requests have. That listings over ranges add up is a
-//! law of `sw_shard_listing`. The next layer up are the listings of the container server, `sw_container_server`, which the program will answer by
-//! `sw_sharded_listing`; nothing in the program uses these laws yet.
+//! law of `sw_shard_listing`. The next layer up, `sw_exact_laws`, says so of what whole runs leave.
 #![tactic(auto)]
 
 pub mod laws;

@@ -47,7 +47,7 @@ module _ (c : Cluster) (root : Place → Place) (m : Machine) (lines : List RunL
   tiled =
       stay-tiled c.nodes c.nodes.secrets c.replicas lines [] m after bare.new.containers_tell (nothing-tiled m bare.none bare.new.no_messages) steps honest
 
-  named : AreTexts after → AreNamed c after
+  pub named : AreTexts after → AreNamed c after
   named texts d n known =
       ((listings.ends c lines [] m ledgers.begun after (begins c m bare.new) run).accounts.objects.known.named d n known, texts d n known)
 

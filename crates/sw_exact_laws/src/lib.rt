@@ -7,7 +7,7 @@
 //! came again or was restarted before.
 //!
 //! What is asked besides: two puts of one name and time have one content, names of objects are text without a byte 0, and each container has a replica of the
-//! number that is asked of shards. Nothing in the program uses this law yet.
+//! number that is asked of shards. The next layer up, `sw_account_laws`, lets a run begin with what earlier ones left.
 #![tactic(auto)]
 
 pub mod laws;
