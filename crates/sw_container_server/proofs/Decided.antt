@@ -11,8 +11,7 @@ use Rattle.sw_object_server.specs.Tests.{IsDecided}
 use Rattle.sw_ring.proofs.Repeats.{one_place}
 use Rattle.sw_ring.specs.declared.ring.Ring.{Ring}
 use Rattle.sw_container_server.specs.Asking.{AsksFor, IsAskedBy, asked_at}
-use Rattle.sw_container_server.specs.Places.{IsKeeper, IsPlace, is_partition_of, name_fault, part_of, place_in}
-use Rattle.sw_container_server.proofs.Names.{hashed}
+use Rattle.sw_container_server.specs.Places.{IsKeeper, is_partition_of, name_fault, part_of, place_in}
 use Rattle.sw_container_server.specs.Verdicts.{IsVerdict, Yields, verb_tests}
 use Rattle.sw_container_server.specs.declared.asked.ContAsked.{ContAsked}
 use Rattle.sw_container_server.specs.declared.asked.ContAsked.TheVariants as asks
@@ -84,7 +83,7 @@ module _ (ring : Ring) (t : Target) (r : Request) (verb : Verb) where
                   here,
                   inl (
                     (device, known, keeper),
-                    moved (asked_at device (place_in ring t)) (λ status. refl) (Yields t.object r verb) (AsksFor ring t r verb)
+                    moved (asked_at device (place_in ring t)) (λ status. refl) (Yields ring t.object r verb) (AsksFor ring t r verb)
                         (λ v yields. (device, v, known, yields, refl)) (verb_tests ring r verb) verdict is,
                   ),
                 ),
@@ -114,11 +113,3 @@ module _ (ring : Ring) (t : Target) (r : Request) (verb : Verb) where
               (for-verdict (at-partition true here)
               (subst (λ (p : Place). IsKeeper ring (part_of ring p) device) place_is (subst (λ (n : ℕ). IsKeeper ring n device) part_is keeper))
               verdict is)
-
-          -- the device keeps its partition
-          pub placed : IsKeeper ring part device → IsPlace ring device place
-          placed keeper = record {
-            known = slice_get_within ring.devices device t.device known;
-            keeps = subst (λ (n : ℕ). IsKeeper ring n device) part_is keeper;
-            hashed = hashed ring verb t place good place_is;
-          }

@@ -21,23 +21,23 @@ use Rattle.sw_container_server.specs.declared.verdict.Verdict.{Verdict}
 abbrev IsFew : ContAsked → Type 0
 IsFew (asks.Refused status) = ⊤
 IsFew (asks.Change device place change) = IsOfClient change
-IsFew (asks.Info device place) = ⊤
-IsFew (asks.List device place query) = ⊤
+IsFew (asks.Info device place replica) = ⊤
+IsFew (asks.List device place query replica) = ⊤
 
-module _ (device : ℕ) (place : Place) where
+module _ (ring : Ring) (device : ℕ) (place : Place) where
   abbrev Yielded : Verdict → Type 0
   Yielded verdict = IsFew (asked_at device place verdict)
 
-  yielded : (name : List ℕ) (r : Request) (verb : Verb) (verdict : Verdict) → Yields name r verb verdict → Yielded verdict
+  yielded : (name : List ℕ) (r : Request) (verb : Verb) (verdict : Verdict) → Yields ring name r verb verdict → Yielded verdict
   yielded name r verbs.Put verdict y = subst Yielded (sym y.2) tt
   yielded name r verbs.Delete verdict y = subst Yielded (sym y.2) tt
-  yielded name r verbs.Get verdict y = subst Yielded (sym y.2) tt
-  yielded name r verbs.Head verdict y = subst Yielded (sym y) tt
+  yielded name r verbs.Get verdict y = subst Yielded (sym y.4) tt
+  yielded name r verbs.Head verdict y = subst Yielded (sym y.2) tt
   yielded name r verbs.PutRow verdict y = subst Yielded (sym y.2) tt
   yielded name r verbs.DeleteRow verdict y = subst Yielded (sym y.2) tt
 
 asked-for : (ring : Ring) (t : Target) (r : Request) (verb : Verb) (asked : ContAsked) → AsksFor ring t r verb asked → IsFew asked
-asked-for ring t r verb asked is = subst IsFew (sym is.4) (yielded is.0 (place_in ring t) t.object r verb is.1 is.3)
+asked-for ring t r verb asked is = subst IsFew (sym is.4) (yielded ring is.0 (place_in ring t) t.object r verb is.1 is.3)
 
 decided : (ring : Ring) (t : Target) (r : Request) (verb : Verb) (left : List (ℕ × Type 0)) (asked : ContAsked)
     → IsDecided left asks.Refused (AsksFor ring t r verb) asked → IsFew asked

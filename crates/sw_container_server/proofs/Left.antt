@@ -1,36 +1,31 @@
 -- What a request leaves: a step whose reply found no memory changed nothing, and no request touches an object.
-use Rattle.std.proofs.Common.{◌≡◌, ◌≢◌, ◌==◌, ℕ, Bool, true, false, List, [], refl, sym, ap, ◌∙◌, subst, inl, inr, Option, Result, Ok, Err}
+use Rattle.std.proofs.Common.{◌≡◌, ◌≢◌, ◌==◌, ℕ, Bool, true, false, List, [], refl, sym, ap, ◌∙◌, subst, inl, inr, Option, Ok}
 use Rattle.std.proofs.Common.{true≢false}
 use Rattle.std.specs.List.{fold}
 use Rattle.std.proofs.lemmas.Bool.{eqb-false, eqb-true}
 use Rattle.sw_container_steps.proofs.Placing.{place-same, place-self}
 use Rattle.sw_container_steps.specs.Entries.{entered, is_same_place}
-use Rattle.sw_container_steps.specs.Reads.{info_of, listing_of}
 use Rattle.sw_container_steps.specs.Rules.{ContJournal, cont_ending, cont_rules}
 use Rattle.sw_container_steps.specs.declared.cont_answer.ContAnswer.{ContAnswer}
 use Rattle.sw_container_steps.specs.declared.cont_answer.ContAnswer.TheVariants as answers
 use Rattle.sw_container_steps.specs.declared.cont_change.ContChange.{ContChange}
 use Rattle.sw_container_steps.specs.declared.cont_entry.ContEntry.{ContEntry}
-use Rattle.sw_container_steps.specs.declared.info.Info.{Info}
 use Rattle.sw_hashpath.specs.declared.place.Place.{Place}
-use Rattle.sw_listing.specs.declared.entry.Entry.{Entry}
-use Rattle.sw_listing.specs.declared.query.Query.{Query}
 use Rattle.sw_message.specs.declared.response.Response.{Response}
-use Rattle.sw_object_server.specs.Serving.{IsStepped}
 use Rattle.sw_peer.proofs.Calls.{calls-moves}
 use Rattle.sw_peer.proofs.ContCalls.{cont-made-step}
-use Rattle.sw_peer.specs.ContSights.{ContMoves, HoldsTables, IsContMade, IsIn, IsLooked}
+use Rattle.sw_peer.specs.ContSights.{ContMoves, IsContMade, IsIn}
 use Rattle.sw_peer.specs.Sights.{Sight, cont_lock}
-use Rattle.sw_peer.specs.declared.cont_event.ContEvent.{ContEvent}
-use Rattle.sw_peer.specs.declared.cont_event.ContEvent.TheVariants.{Informed, Listed}
 use Rattle.sw_peer.specs.declared.link.Link.TheVariants.{Local}
+use Rattle.sw_ring.specs.declared.ring.Ring.{Ring}
+use Rattle.sw_sharded_listing.proofs.Looks.{came}
 use Rattle.sw_keeper.specs.declared.tables.Tables.{Tables}
 use Rattle.sw_step.specs.Rules.{Ending, Refuses}
 use Rattle.sw_step.specs.Steps.{Answers, EndsSeen, EndsUnseen}
-use Rattle.sw_container_server.proofs.Looks.{came, look-moves}
+use Rattle.sw_container_server.proofs.ReadsLeave.{followed-leaves, listing-leaves, told-leaves}
 use Rattle.sw_container_server.specs.Laws.{LeavesHeld, LeavesObjects}
 use Rattle.sw_container_server.specs.Replies.{shows_time}
-use Rattle.sw_container_server.specs.Serving.{IsChanged, IsFollowed, IsInformed, IsLeft, IsListed, IsServed}
+use Rattle.sw_container_server.specs.Serving.{IsChanged, IsLeft, IsServed}
 use Rattle.sw_container_server.specs.declared.asked.ContAsked.{ContAsked}
 use Rattle.sw_container_server.specs.declared.asked.ContAsked.TheVariants as asks
 
@@ -101,42 +96,17 @@ change-keeps device place change old a mid p shows alone d other told = by (d ==
     by true false is_device is_place = p.moves.containers.others alone d other (λ at. place-other other place is_place at.1)
     by false same_place is_device is_place = p.moves.containers.others alone d other (λ at. eqb-false d device is_device at.0)
 
--- ---- reads
-
--- where the later is alone the earlier was, and they hold the same
-record KeepsAll (s t : Sight) : Type 0 where
-  alone : t.alone ≡ true → s.alone ≡ true
-  held : HoldsTables s t
-
-all-trans : (a b c : Sight) → KeepsAll a b → KeepsAll b c → KeepsAll a c
-all-trans a b c p q = record { alone = λ x. p.alone (q.alone x); held = λ x d place. q.held x d place ∙ p.held (q.alone x) d place }
-
-module _ {A : Type 0} (device : ℕ) (place : Place) (reading : Option Tables → ℕ → Result A ContAnswer) (event : Result A ContAnswer → ContEvent) where
-  look-keeps : (s : Sight) (got : Result A ContAnswer) (t : Sight) → IsStepped (IsLooked Local device place reading event) s got t → KeepsAll s t
-  look-keeps s got t p =
-      let comes = came (IsLooked Local device place reading event) s got t p in
-      record {
-        alone = (look-moves device place reading event s got t p).alone;
-        held = λ alone d other. ap (λ (x : Sight). x.containers.holds d other) (comes.2).same
-            ∙ (comes.1).holds_all (sym (ap (λ (x : Sight). x.alone) (comes.2).same) ∙ alone) d other;
-      }
-
-info-keeps : (device : ℕ) (place : Place) (s : Sight) (told : Result Info ContAnswer) (t : Sight) → IsInformed device place s told t → KeepsAll s t
-info-keeps device place = look-keeps device place info_of (λ told. Informed place told)
-
-listing-keeps : (device : ℕ) (place : Place) (query : Query) (s : Sight) (listed : Result (List Entry) ContAnswer) (t : Sight)
-    → IsListed device place query s listed t → KeepsAll s t
-listing-keeps device place query = look-keeps device place (listing_of query) (λ listed. Listed place query listed)
+-- ---- what a request leaves
 
 pub leaves_held : LeavesHeld
-leaves_held old new (asks.Refused status) p = absurd p
-leaves_held old new (asks.Change device place change) p =
-    let comes = came (IsContMade Local device place change) old p.0 new p.1 in
+leaves_held ring old new (asks.Refused status) p = absurd p
+leaves_held ring old new (asks.Change device place change) p =
+    let comes = came (IsContMade Local device place change) old p.0 new p.1.called in
     subst (λ (x : Sight). Keeps old x) (sym (comes.2).same) (change-keeps device place change old p.0 comes.0 comes.1 p.2)
-leaves_held old new (asks.Info device place) p = λ alone d other told. (info-keeps device place old (Ok p.0) new p.1).held alone d other
-leaves_held old new (asks.List device place query) p =
-    λ alone d other told. (all-trans old p.1 new (info-keeps device place old (Ok p.0) p.1 p.3) (listing-keeps device place query p.1 (Ok p.2) new p.4)).held
-    alone d other
+leaves_held ring old new (asks.Info device place replica) p =
+    λ alone d other told. (told-leaves ring device place replica old (Ok p.0) new p.1).holds_all alone d other
+leaves_held ring old new (asks.List device place query replica) p =
+    λ alone d other told. (listing-leaves ring device place replica query old new p).holds_all alone d other
 
 -- ---- objects
 
@@ -146,33 +116,23 @@ change-objects device place change s answer t p =
     (calls-moves (ContMoves (IsIn device place)) (IsContMade Local device place change) (cont-made-step Local device place change) s Local (Ok answer) t
     p.called).objects
 
-info-objects : (device : ℕ) (place : Place) (s : Sight) (told : Result Info ContAnswer) (t : Sight) → IsInformed device place s told t → t.objects ≡ s.objects
-info-objects device place s told t p = (look-moves device place info_of (λ told. Informed place told) s told t p).objects
-
-listing-objects : (device : ℕ) (place : Place) (query : Query) (s : Sight) (listed : Result (List Entry) ContAnswer) (t : Sight)
-    → IsListed device place query s listed t → t.objects ≡ s.objects
-listing-objects device place query s listed t p = (look-moves device place (listing_of query) (λ listed. Listed place query listed) s listed t p).objects
-
-followed-objects : (device : ℕ) (place : Place) (query : Query) (mid new : Sight) (told : Result Info ContAnswer) (response : Response)
-    → IsFollowed mid new device place query told response → new.objects ≡ mid.objects
-followed-objects device place query mid new (Ok info) response p = listing-objects device place query mid p.0 new p.1
-followed-objects device place query mid new (Err answer) response p = ap (λ (x : Sight). x.objects) p.0
-
-module _ {D : Type 0} (sight : D → Sight) where
-  served-objects : (old new : D) (asked : ContAsked) (response : Response) → IsServed sight old new asked response → (sight new).objects ≡ (sight old).objects
+module _ {D : Type 0} (sight : D → Sight) (ring : Ring) where
+  served-objects : (old new : D) (asked : ContAsked) (response : Response) → IsServed sight ring old new asked response
+      → (sight new).objects ≡ (sight old).objects
   served-objects old new (asks.Refused status) response p = ap (λ (x : D). (sight x).objects) p.0
   served-objects old new (asks.Change device place change) response p = change-objects device place change (sight old) p.0 (sight new) p.1
-  served-objects old new (asks.Info device place) response p = info-objects device place (sight old) p.0 (sight new) p.1
-  served-objects old new (asks.List device place query) response p =
-      followed-objects device place query p.1 (sight new) p.0 response p.3 ∙ info-objects device place (sight old) p.0 p.1 p.2
+  served-objects old new (asks.Info device place replica) response p = (told-leaves ring device place replica (sight old) p.0 (sight new) p.1).objects
+  served-objects old new (asks.List device place query replica) response p =
+      (followed-leaves ring device place replica query p.1 (sight new) p.0 response p.3).objects
+      ∙ (told-leaves ring device place replica (sight old) p.0 p.1 p.2).objects
 
-left-objects : (old new : Sight) (asked : ContAsked) → IsLeft old new asked → new.objects ≡ old.objects
-left-objects old new (asks.Refused status) p = absurd p
-left-objects old new (asks.Change device place change) p = change-objects device place change old p.0 new p.1
-left-objects old new (asks.Info device place) p = info-objects device place old (Ok p.0) new p.1
-left-objects old new (asks.List device place query) p = listing-objects device place query p.1 (Ok p.2) new p.4 ∙ info-objects device place old (Ok p.0) p.1 p.3
+left-objects : (ring : Ring) (old new : Sight) (asked : ContAsked) → IsLeft ring old new asked → new.objects ≡ old.objects
+left-objects ring old new (asks.Refused status) p = absurd p
+left-objects ring old new (asks.Change device place change) p = change-objects device place change old p.0 new p.1
+left-objects ring old new (asks.Info device place replica) p = (told-leaves ring device place replica old (Ok p.0) new p.1).objects
+left-objects ring old new (asks.List device place query replica) p = (listing-leaves ring device place replica query old new p).objects
 
 pub leaves_objects : {D : Type 0} (sight : D → Sight) → LeavesObjects sight
-leaves_objects {D} sight old new ring r response (inl p) = served-objects sight old new p.0 response p.2
+leaves_objects {D} sight old new ring r response (inl p) = served-objects sight ring old new p.0 response p.2
 leaves_objects {D} sight old new ring r response (inr (inl p)) = ap (λ (x : D). (sight x).objects) p
-leaves_objects {D} sight old new ring r response (inr (inr p)) = left-objects (sight old) (sight new) p.0 p.2
+leaves_objects {D} sight old new ring r response (inr (inr p)) = left-objects ring (sight old) (sight new) p.0 p.2

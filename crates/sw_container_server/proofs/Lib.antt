@@ -1,10 +1,16 @@
+pub mod AtKeepers
 mod Decided
 pub mod Few
 mod Left
-mod Looks
+pub mod Looks
 mod Names
 mod OneAnswer
-mod OneAsking
+pub mod OneAsking
+mod OneListing
 mod OneReply
+mod OneStep
 mod Plain
+mod ReadsLeave
+mod Replicas
 mod RowTypes
+mod Told

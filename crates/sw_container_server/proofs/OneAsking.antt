@@ -18,6 +18,7 @@ use Rattle.sw_ring.specs.declared.ring.Ring.{Ring}
 use Rattle.sw_rows.specs.declared.row.Row.{Row}
 use Rattle.sw_timestamp.proofs.TimeTextLemmas.{reads_as_one}
 use Rattle.sw_timestamp.specs.TimeText.{IsTimeText}
+use Rattle.sw_container_server.proofs.Replicas.{one-replica}
 use Rattle.sw_container_server.specs.Asking.{AsksFor, IsAskedBy, IsAskedWith, asked_at, tests}
 use Rattle.sw_container_server.specs.Laws.{AsksForOne}
 use Rattle.sw_container_server.specs.Places.{place_in}
@@ -95,22 +96,26 @@ one-query query a b p q =
 
 -- ---- what is asked for
 
-one-yield : (name : List ℕ) (r : Request) (verb : Verb) → IsOne (Yields name r verb)
-one-yield name r verbs.Put x y p q =
+one-yield : (ring : Ring) (name : List ℕ) (r : Request) (verb : Verb) → IsOne (Yields ring name r verb)
+one-yield ring name r verbs.Put x y p q =
     p.2 ∙ (ap (λ (time : ℕ). verdicts.Change (changes.Create time)) (one-time r.fields p.0 q.0 p.1 q.1) ∙ sym q.2)
-one-yield name r verbs.Delete x y p q =
+one-yield ring name r verbs.Delete x y p q =
     p.2 ∙ (ap (λ (time : ℕ). verdicts.Change (changes.Remove time)) (one-time r.fields p.0 q.0 p.1 q.1) ∙ sym q.2)
-one-yield name r verbs.Get x y p q = p.2 ∙ (ap (λ (query : Query). verdicts.List query) (one-query r.query p.0 q.0 p.1 q.1) ∙ sym q.2)
-one-yield name r verbs.Head x y p q = p ∙ sym q
-one-yield name r verbs.PutRow x y p q =
+one-yield ring name r verbs.Get x y p q =
+    p.4
+    ∙ (ap (λ (query : Query). verdicts.List query p.1) (one-query r.query p.0 q.0 p.2 q.2)
+    ∙ (ap (λ (replica : ℕ). verdicts.List q.0 replica) (one-replica ring r.fields p.1 q.1 p.3 q.3) ∙ sym q.4))
+one-yield ring name r verbs.Head x y p q =
+    p.2 ∙ (ap (λ (replica : ℕ). verdicts.Info replica) (one-replica ring r.fields p.0 q.0 p.1 q.1) ∙ sym q.2)
+one-yield ring name r verbs.PutRow x y p q =
     p.2 ∙ (ap (λ (row : Row). verdicts.Change (changes.MergeRow row)) (one-row name r.fields p.0 q.0 p.1 q.1) ∙ sym q.2)
-one-yield name r verbs.DeleteRow x y p q =
+one-yield ring name r verbs.DeleteRow x y p q =
     p.2 ∙ (ap (λ (row : Row). verdicts.Change (changes.MergeRow row)) (one-deleted-row name r.fields p.0 q.0 p.1 q.1) ∙ sym q.2)
 
 one-asks : (ring : Ring) (t : Target) (r : Request) (verb : Verb) → IsOne (AsksFor ring t r verb)
 one-asks ring t r verb x y p q =
     let devices : p.0 ≡ q.0 = one_place t.device ring.devices p.0 q.0 ring.distinct_names p.2 q.2 in
-    let yields : p.1 ≡ q.1 = one-yield t.object r verb p.1 q.1 p.3 q.3 in
+    let yields : p.1 ≡ q.1 = one-yield ring t.object r verb p.1 q.1 p.3 q.3 in
     p.4 ∙ (ap (λ (device : ℕ). asked_at device (place_in ring t) p.1) devices
     ∙ (ap (λ (verdict : Verdict). asked_at q.0 (place_in ring t) verdict) yields ∙ sym q.4))
 

@@ -2,7 +2,7 @@
 -- refusals is this project's own.)
 --
 -- `Verdicts.antt` has the tests of each verb, and what it asks for where all are passed.
-use Rattle.std.specs.Prelude.{◌≡◌, ⊤, ℕ, true, List, ◌∷◌, Option, None, Some, Contains}
+use Rattle.std.specs.Prelude.{◌≡◌, ⊤, ℕ, ◌<◌, true, List, ◌∷◌, Option, None, Some, Contains}
 use Rattle.sw_container_steps.specs.Steps.{is_plain}
 use Rattle.sw_hashpath.specs.declared.place.Place.{Place}
 use Rattle.sw_message.specs.declared.request.Request.{Request}
@@ -52,13 +52,13 @@ tests ring t r verb =
 abbrev pub asked_at : ℕ → Place → Verdict → ContAsked
 asked_at device place (verdicts.Refused status) = asks.Refused status
 asked_at device place (verdicts.Change change) = asks.Change device place change
-asked_at device place verdicts.Info = asks.Info device place
-asked_at device place (verdicts.List query) = asks.List device place query
+asked_at device place (verdicts.Info replica) = asks.Info device place replica
+asked_at device place (verdicts.List query replica) = asks.List device place query replica
 
 -- what its verb asks for, at its device and place
 abbrev pub AsksFor : Ring → Target → Request → Verb → ContAsked → Type 0
 AsksFor ring t r verb asked =
-    (device : ℕ) × (verdict : Verdict) × IsDevice ring t.device (Some device) × Yields t.object r verb verdict
+    (device : ℕ) × (verdict : Verdict) × IsDevice ring t.device (Some device) × Yields ring t.object r verb verdict
     × (asked ≡ asked_at device (place_in ring t) verdict)
 
 -- the first test that fails decides: the request is refused with its status. Where none fails, it asks for what its verb does
@@ -74,9 +74,9 @@ IsAskedWith ring r (Some verb) asked = IsAskedBy ring (target_of r.path) r verb 
 abbrev pub IsAsked : Ring → Request → ContAsked → Type 0
 IsAsked ring r asked = IsAskedWith ring r (verb_of (is_row r.path) r.method) asked
 
--- what is asked for has such a place, and is no step on shard ranges
+-- what is asked for has such a place, and is no step on shard ranges; and shards have a replica of the number that is asked for
 abbrev pub IsPlaced : Ring → ContAsked → Type 0
 IsPlaced ring (asks.Refused status) = ⊤
 IsPlaced ring (asks.Change device place change) = IsPlace ring device place × (is_plain change ≡ true)
-IsPlaced ring (asks.Info device place) = IsPlace ring device place
-IsPlaced ring (asks.List device place query) = IsPlace ring device place
+IsPlaced ring (asks.Info device place replica) = IsPlace ring device place × (replica < ring.replicas)
+IsPlaced ring (asks.List device place query replica) = IsPlace ring device place × (replica < ring.replicas)

@@ -1,4 +1,5 @@
 pub mod Asking
+pub mod Counting
 pub mod Laws
 pub mod Places
 pub mod Replies

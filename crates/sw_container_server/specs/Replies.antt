@@ -71,6 +71,24 @@ shows_time answers.JournalFull = false
 shows_time answers.Failed = false
 shows_time answers.NoMemory = false
 
+-- whether memory was wanted
+abbrev pub is_starved : ContAnswer → Bool
+is_starved (answers.New front) = false
+is_starved (answers.There front) = false
+is_starved (answers.Done front) = false
+is_starved answers.Absent = false
+is_starved (answers.Stale time) = false
+is_starved (answers.NotEmpty count) = false
+is_starved answers.HasRanges = false
+is_starved answers.NoRanges = false
+is_starved (answers.Redirect shard) = false
+is_starved (answers.StillOpen cursor) = false
+is_starved (answers.Later number) = false
+is_starved (answers.NotAcked lagging) = false
+is_starved answers.JournalFull = false
+is_starved answers.Failed = false
+is_starved answers.NoMemory = true
+
 -- ---- rows that another container has
 
 -- the path of a row in the container of a place

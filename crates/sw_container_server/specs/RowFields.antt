@@ -1,7 +1,7 @@
 -- What single fields of a request for containers say. (OpenStack Swift's object server tells a container server of an object by `X-Size`,
 -- `X-Content-Type` and `X-Etag`. The grammars of the first and the last, and `X-Swc-Shard-Replica`, are this project's own. Of a field that stands
 -- several times the last one counts.)
-use Rattle.std.specs.Prelude.{◌≡◌, ℕ, ◌<◌, List, codes, decimal, Option, IfSome}
+use Rattle.std.specs.Prelude.{◌≡◌, ℕ, ◌<◌, List, codes, decimal, Option, None, Some}
 use Rattle.std.specs.Option.{option_and_then}
 use Rattle.std.specs.Result.{result_ok}
 use Rattle.hex.specs.Hex.{decode_sized}
@@ -27,10 +27,19 @@ etag_in text = result_ok (decode_sized text 16)
 abbrev pub etag_of : List Field → Option (List ℕ)
 etag_of fields = option_and_then etag_in (field_value_of (codes "x-etag") fields)
 
--- the text is a decimal number below this one
-abbrev pub IsNumberBelow : ℕ → List ℕ → Type 0
-IsNumberBelow count text = (number : ℕ) × (number < count) × (text ≡ decimal number)
+-- the text is this number in decimal, which is below the count
+abbrev pub IsNumberBelow : ℕ → ℕ → List ℕ → Type 0
+IsNumberBelow count number text = (number < count) × (text ≡ decimal number)
 
--- the replica of shards that the fields ask for, where they ask for one, is one of the ring's
+-- the text, where one is given, asks for this replica; none asks for the first
+abbrev pub AsksReplicaBy : Ring → Option (List ℕ) → ℕ → Type 0
+AsksReplicaBy ring None replica = replica ≡ 0
+AsksReplicaBy ring (Some text) replica = IsNumberBelow ring.replicas replica text
+
+-- the fields ask for this replica of shards, which is one of the ring's
+abbrev pub AsksReplica : Ring → List Field → ℕ → Type 0
+AsksReplica ring fields = AsksReplicaBy ring (field_value_of (codes "x-swc-shard-replica") fields)
+
+-- they ask for one
 abbrev pub IsReplica : Ring → List Field → Type 0
-IsReplica ring fields = IfSome (field_value_of (codes "x-swc-shard-replica") fields) (IsNumberBelow ring.replicas)
+IsReplica ring fields = (replica : ℕ) × AsksReplica ring fields replica

@@ -14,7 +14,7 @@ use Rattle.sw_message.specs.declared.request.Request.{Request}
 use Rattle.sw_object_server.specs.Tests.{IsDecided}
 use Rattle.sw_ring.specs.declared.ring.Ring.{Ring}
 use Rattle.sw_rows.specs.declared.row.Row.{Row}
-use Rattle.sw_container_server.specs.RowFields.{IsReplica, etag_of, size_of, type_of}
+use Rattle.sw_container_server.specs.RowFields.{AsksReplica, IsReplica, etag_of, size_of, type_of}
 use Rattle.sw_container_server.specs.declared.verb.Verb.{Verb}
 use Rattle.sw_container_server.specs.declared.verb.Verb.TheVariants as verbs
 use Rattle.sw_container_server.specs.declared.verdict.Verdict.{Verdict}
@@ -111,20 +111,21 @@ PutsRow name r verdict = (row : Row) × IsRowOf name r.fields row × (verdict �
 abbrev pub DeletesRow : List ℕ → Request → Verdict → Type 0
 DeletesRow name r verdict = (row : Row) × IsDeletedRowOf name r.fields row × (verdict ≡ verdicts.Change (changes.MergeRow row))
 
-abbrev pub Lists : Request → Verdict → Type 0
-Lists r verdict = (query : Query) × ReadsAs r.query query × (verdict ≡ verdicts.List query)
+abbrev pub Lists : Ring → Request → Verdict → Type 0
+Lists ring r verdict =
+    (query : Query) × (replica : ℕ) × ReadsAs r.query query × AsksReplica ring r.fields replica × (verdict ≡ verdicts.List query replica)
 
-abbrev pub Informs : Verdict → Type 0
-Informs verdict = verdict ≡ verdicts.Info
+abbrev pub Informs : Ring → Request → Verdict → Type 0
+Informs ring r verdict = (replica : ℕ) × AsksReplica ring r.fields replica × (verdict ≡ verdicts.Info replica)
 
 -- what a verb asks for that passes its tests; the name is that of the row, where it is one of a row's
-abbrev pub Yields : List ℕ → Request → Verb → Verdict → Type 0
-Yields name r verbs.Put verdict = Creates r verdict
-Yields name r verbs.Delete verdict = Removes r verdict
-Yields name r verbs.Get verdict = Lists r verdict
-Yields name r verbs.Head verdict = Informs verdict
-Yields name r verbs.PutRow verdict = PutsRow name r verdict
-Yields name r verbs.DeleteRow verdict = DeletesRow name r verdict
+abbrev pub Yields : Ring → List ℕ → Request → Verb → Verdict → Type 0
+Yields ring name r verbs.Put verdict = Creates r verdict
+Yields ring name r verbs.Delete verdict = Removes r verdict
+Yields ring name r verbs.Get verdict = Lists ring r verdict
+Yields ring name r verbs.Head verdict = Informs ring r verdict
+Yields ring name r verbs.PutRow verdict = PutsRow name r verdict
+Yields ring name r verbs.DeleteRow verdict = DeletesRow name r verdict
 
 -- ---- verdicts: the first test that fails decides
 
@@ -135,10 +136,10 @@ abbrev pub IsRemovalRead : Request → Verdict → Type 0
 IsRemovalRead r = IsDecided (time_tests r) verdicts.Refused (Removes r)
 
 abbrev pub IsListRead : Ring → Request → Verdict → Type 0
-IsListRead ring r = IsDecided (list_tests ring r) verdicts.Refused (Lists r)
+IsListRead ring r = IsDecided (list_tests ring r) verdicts.Refused (Lists ring r)
 
 abbrev pub IsInfoRead : Ring → Request → Verdict → Type 0
-IsInfoRead ring r = IsDecided (read_tests ring r) verdicts.Refused Informs
+IsInfoRead ring r = IsDecided (read_tests ring r) verdicts.Refused (Informs ring r)
 
 abbrev pub IsRowRead : List ℕ → Request → Verdict → Type 0
 IsRowRead name r = IsDecided (row_tests r) verdicts.Refused (PutsRow name r)
@@ -147,4 +148,4 @@ abbrev pub IsDeletedRowRead : List ℕ → Request → Verdict → Type 0
 IsDeletedRowRead name r = IsDecided (time_tests r) verdicts.Refused (DeletesRow name r)
 
 abbrev pub IsVerdict : Ring → List ℕ → Request → Verb → Verdict → Type 0
-IsVerdict ring name r verb = IsDecided (verb_tests ring r verb) verdicts.Refused (Yields name r verb)
+IsVerdict ring name r verb = IsDecided (verb_tests ring r verb) verdicts.Refused (Yields ring name r verb)

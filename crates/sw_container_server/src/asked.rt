@@ -13,15 +13,17 @@ pub enum ContAsked {
         place: Place,
         change: ContChange,
     },
-    /// What is told of that container.
+    /// What is told of that container: of one that is split with the counts of its shards, each at the device of this number among those that keep it.
     Info {
         device: u8,
         place: Place,
+        replica: u8,
     },
     /// The same, and then the entries that answer the query.
     List {
         device: u8,
         place: Place,
         query: Query,
+        replica: u8,
     },
 }

@@ -1,7 +1,8 @@
-ghost use Rattle.std.specs.Prelude.{◌≡◌, ◌<◌, ℕ, true, false, IfSome};
+ghost use Rattle.std.specs.Prelude.{◌≡◌, ◌<◌, ℕ, None, IfSome};
 ghost use Rattle.std.specs.Option.{option_copied};
 ghost use Rattle.sw_fields.specs.Fields.{is_type as is_type_text};
-ghost use Rattle.sw_container_server.specs.RowFields.{IsNumberBelow, IsReplica, etag_in as etag_in_text, etag_of as etag_of_fields, size_of as size_of_fields};
+ghost use Rattle.sw_container_server.specs.RowFields.{AsksReplica, IsNumberBelow, IsReplica, etag_in as etag_in_text};
+ghost use Rattle.sw_container_server.specs.RowFields.{etag_of as etag_of_fields, size_of as size_of_fields};
 ghost use Rattle.sw_container_server.specs.RowFields.{type_of as type_of_fields};
 
 use hex::FromHex;
@@ -47,26 +48,26 @@ fn etag_in(text: &[u8]) -> Option<[u8; 16]>
     <[u8; 16] as FromHex>::from_hex(text).ok()
 }
 
-/// Whether X-Swc-Shard-Replica, where it is given, is the number of a replica.
-pub(crate) fn asks_replica(ring: &Ring, fields: &FieldList) -> bool
-    ensures yes { result ≡ true → IsReplica ring.now fields.now }
-    ensures no { result ≡ false → ¬ (IsReplica ring.now fields.now) }
+/// The number of the replica of shards that X-Swc-Shard-Replica asks for; 0 where it isn't given. There is none where it is no number of a replica.
+pub(crate) fn replica_of(ring: &Ring, fields: &FieldList) -> Option<u8>
+    ensures some { IfSome result (AsksReplica ring.now fields.now) }
+    ensures none { result ≡ None → ¬ (IsReplica ring.now fields.now) }
 {
     match fields.value_of(b"x-swc-shard-replica") {
-        Some(text) => is_number_below(ring.replicas, text),
-        None => true,
+        Some(text) => number_below(ring.replicas, text),
+        None => Some(0),
     }
 }
 
-/// Whether a text is a decimal number below this one, without leading zeros.
-fn is_number_below(count: u8, text: &[u8]) -> bool
-    ensures yes { result ≡ true → IsNumberBelow count text.now }
-    ensures no { result ≡ false → ¬ (IsNumberBelow count text.now) }
+/// The number below this one that a text is in decimal, without leading zeros.
+fn number_below(count: u8, text: &[u8]) -> Option<u8>
+    ensures some { IfSome result (λ number. IsNumberBelow count number text.now) }
+    ensures none { result ≡ None → (number : ℕ) → ¬ (IsNumberBelow count number text.now) }
 {
     for number in 0..count {
         if has_number(text, u32::from(number)) {
-            return true;
+            return Some(number);
         }
     }
-    false
+    None
 }

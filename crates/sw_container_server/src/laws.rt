@@ -1,6 +1,7 @@
 //! Laws of what is asked for, of the replies, and of what becomes of a request. Each function does nothing: its clause is the law.
 
-ghost use Rattle.sw_container_server.specs.Laws.{AsksForFew, AsksForOne, HasOneAnswer, HasOneReply, LeavesHeld, LeavesObjects, RefusedChangesNothing};
+ghost use Rattle.sw_container_server.specs.Laws.{AsksAtKeepers, AsksForFew, AsksForOne, HasOneAnswer, HasOneReply};
+ghost use Rattle.sw_container_server.specs.Laws.{LeavesHeld, LeavesObjects, RefusedChangesNothing};
 
 use sw_peer::ContainerDoor;
 
@@ -37,4 +38,9 @@ pub fn leaves_held()
 /// A request for containers leaves the objects what they were.
 pub fn leaves_objects<D: ContainerDoor>()
     ensures { LeavesObjects D.sight }
+{}
+
+/// A request lists a container at a device that keeps it, and asks a replica of shards that there is.
+pub fn asks_at_keepers()
+    ensures { AsksAtKeepers }
 {}

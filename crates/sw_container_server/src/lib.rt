@@ -9,8 +9,9 @@
 //! (`specs/Replies.antt`). A GET asks for two steps, one after the other: another's step may come between them. A listing's text is written once and
 //! moved into the reply.
 //!
-//! A container that is split into shards answers for itself alone: a listing shows what is left of it at the device, and [`moved_reply`] sends a client on
-//! with a row whose name is left to a shard. The next layer up, `sw_nodes`, routes requests to this server.
+//! Of a container that is split into shards the shards are asked too (`sw_sharded_listing`): counts are those of all of them, and a listing is put together
+//! from theirs, at the replica of each that `X-Swc-Shard-Replica` names, or the first. One that doesn't answer refuses the request: nothing partial is
+//! shown. [`moved_reply`] sends a client on with a row whose name is left to a shard. The next layer up, `sw_nodes`, routes requests to this server.
 #![tactic(auto)]
 
 mod asked;

@@ -47,8 +47,7 @@ fn read_target(
     target: Target,
     request: &Request,
 ) -> Result<ContAsked, NoMemory>
-    ensures asked { IfOk result (IsAskedBy ring.now target request.now verb) }
-    ensures placed { IfOk result (IsPlaced ring.now) }
+    ensures { IfOk result (IsAskedBy ring.now target request.now verb) }
 {
     match place_of(alloc, ring, verb, &target)? {
         Some(place) => read_place(alloc, ring, verb, target, place, request),
@@ -67,8 +66,7 @@ fn read_place(
 ) -> Result<ContAsked, NoMemory>
     requires good { name_fault verb target ≡ None }
     requires place { place ≡ place_in ring.now target }
-    ensures asked { IfOk result (IsAskedBy ring.now target request.now verb) }
-    ensures placed { IfOk result (IsPlaced ring.now) }
+    ensures { IfOk result (IsAskedBy ring.now target request.now verb) }
 {
     let Some(device) = ring.device(target.device.as_slice()) else {
         return Ok(ContAsked::Refused(404));
@@ -87,11 +85,16 @@ fn read_place(
             place,
             change,
         }),
-        Verdict::Info => Ok(ContAsked::Info { device, place }),
-        Verdict::List(query) => Ok(ContAsked::List {
+        Verdict::Info { replica } => Ok(ContAsked::Info {
+            device,
+            place,
+            replica,
+        }),
+        Verdict::List { query, replica } => Ok(ContAsked::List {
             device,
             place,
             query,
+            replica,
         }),
     }
 }

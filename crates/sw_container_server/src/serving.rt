@@ -16,7 +16,8 @@ use sw_peer::ContainerDoor;
 use sw_ring::Ring;
 
 /// Answers one request for containers: calls the door for the step that it asks for, and replies to what that is answered; or refuses it, and leaves
-/// the door as it was. A GET has two steps: where it was told of its container, the listing is read behind that.
+/// the door as it was. A GET has several steps: where it was told of its container, the listing is read behind that. Of a container that is split its shards
+/// are asked too, for their counts and for their entries.
 ///
 /// The door reaches a node for each device of the ring, and places hashed with the ring's secrets fit it. After [`NoMemory`] the door wasn't
 /// called, or was called for exactly what is asked for, which changed nothing: a step that was made is always replied to.
@@ -39,11 +40,16 @@ pub fn answer<D: ContainerDoor>(
             place,
             change,
         } => make(alloc, door, device, &place, &change),
-        ContAsked::Info { device, place } => tell(alloc, door, device, &place),
+        ContAsked::Info {
+            device,
+            place,
+            replica,
+        } => tell(alloc, door, ring, device, &place, replica),
         ContAsked::List {
             device,
             place,
             query,
-        } => list(alloc, door, device, &place, &query),
+            replica,
+        } => list(alloc, door, ring, device, &place, &query, replica),
     }
 }

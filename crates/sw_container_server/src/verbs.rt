@@ -3,7 +3,7 @@ ghost use Rattle.std.specs.Str.{is_utf8 as is_utf8_text};
 ghost use Rattle.sw_container_server.specs.Targets.{names_row};
 ghost use Rattle.sw_container_server.specs.Verdicts.{IsCreationRead, IsInfoRead, IsListRead, IsRemovalRead, IsVerdict, bad_query_status};
 
-use crate::fields::asks_replica;
+use crate::fields::replica_of;
 use crate::rows::{read_deleted_row, read_row};
 use crate::verb::Verb;
 use crate::verdict::Verdict;
@@ -58,13 +58,10 @@ fn read_list(alloc: Global, ring: &Ring, request: &Request) -> Result<Verdict, N
     ensures { IfOk result (IsListRead ring.now request.now) }
 {
     match Query::read(alloc, request.query.as_slice()) {
-        Ok(query) => {
-            if asks_replica(ring, &request.fields) {
-                Ok(Verdict::List(query))
-            } else {
-                Ok(Verdict::Refused(400))
-            }
-        }
+        Ok(query) => match replica_of(ring, &request.fields) {
+            Some(replica) => Ok(Verdict::List { query, replica }),
+            None => Ok(Verdict::Refused(400)),
+        },
         Err(BadQuery::NoMemory) => Err(NoMemory),
         Err(bad) => Ok(Verdict::Refused(query_status(bad))),
     }
@@ -84,9 +81,8 @@ fn query_status(bad: BadQuery) -> u16
 fn read_info(ring: &Ring, request: &Request) -> Verdict
     ensures { IsInfoRead ring.now request.now result }
 {
-    if asks_replica(ring, &request.fields) {
-        Verdict::Info
-    } else {
-        Verdict::Refused(400)
+    match replica_of(ring, &request.fields) {
+        Some(replica) => Verdict::Info { replica },
+        None => Verdict::Refused(400),
     }
 }

@@ -8,8 +8,8 @@ pub(crate) enum Verdict {
     Refused(u16),
     /// The container is to be changed so.
     Change(ContChange),
-    /// It is to be told of.
-    Info,
+    /// It is to be told of, with the counts of its shards: each is asked at the replica of this number.
+    Info { replica: u8 },
     /// It is to be told of and listed.
-    List(Query),
+    List { query: Query, replica: u8 },
 }

@@ -429,3 +429,41 @@ fn each_verb_asks_for_its_step(rt: HostRuntime) -> Result<(), Fail> {
     }
     Ok(())
 }
+
+/// The replica of shards that one of these requests asks for, or the status that refuses it.
+fn replica_of(asked: &Option<ContAsked>) -> u16 {
+    match asked {
+        Some(ContAsked::Info { replica, .. }) => u16::from(*replica),
+        Some(ContAsked::List { replica, .. }) => u16::from(*replica),
+        _ => status_of(asked),
+    }
+}
+
+const FIRST: (&[u8], &[u8]) = (b"X-Swc-Shard-Replica", b"0");
+
+const SECOND: (&[u8], &[u8]) = (b"X-Swc-Shard-Replica", b"1");
+
+const ZERO_BEFORE: (&[u8], &[u8]) = (b"X-Swc-Shard-Replica", b"01");
+
+#[test]
+fn the_replica_of_shards_is_that_of_its_field(rt: HostRuntime) -> Result<(), Fail> {
+    let alloc = rt.alloc();
+    let ring = ring(alloc)?;
+    let table: [(Asking, u16); 10] = [
+        ((b"HEAD", b"/sdb/0/a/c", b"", &[]), 0),
+        ((b"GET", b"/sdb/0/a/c", b"", &[]), 0),
+        ((b"HEAD", b"/sdb/0/a/c", b"", &[FIRST]), 0),
+        ((b"GET", b"/sdb/0/a/c", b"", &[FIRST]), 0),
+        ((b"HEAD", b"/sdb/0/a/c", b"", &[SECOND]), 1),
+        ((b"GET", b"/sdb/0/a/c", b"", &[SECOND]), 1),
+        ((b"HEAD", b"/sdb/0/a/c", b"", &[REPLICA]), 400),
+        ((b"GET", b"/sdb/0/a/c", b"", &[REPLICA]), 400),
+        ((b"HEAD", b"/sdb/0/a/c", b"", &[ZERO_BEFORE]), 400),
+        ((b"GET", b"/sdb/0/a/c", b"", &[ZERO_BEFORE]), 400),
+    ];
+    for (asking, wanted) in table {
+        let asked = asked(alloc, &ring, &asking)?;
+        assert_eq!(rt; replica_of(&asked), wanted);
+    }
+    Ok(())
+}
