@@ -1,5 +1,6 @@
 -- The ledger goes on with what comes to a device: a step at an object, or what leaves all objects as they are.
-use Rattle.std.proofs.Common.{◌≡◌, ℕ, List, Some, sym, subst}
+use Rattle.std.proofs.Common.{◌≡◌, ℕ, List, [], Some, refl, sym, ◌∙◌, subst}
+use Rattle.std.proofs.lemmas.List.{append-nil}
 use Rattle.std.specs.Bool.{⊤}
 use Rattle.sw_hashpath.specs.declared.name.Name.{Name}
 use Rattle.sw_hashpath.specs.declared.place.Place.{Place}
@@ -8,8 +9,9 @@ use Rattle.sw_listing_laws.proofs.Coming.{Stays, restart-stays, stays-same}
 use Rattle.sw_listing_laws.proofs.Going.{Goes, goes-nowhere, goes-on}
 use Rattle.sw_listing_laws.proofs.Grounds.{ground}
 use Rattle.sw_listing_laws.proofs.Making.{turns}
-use Rattle.sw_listing_laws.proofs.Objects.{ObjNext}
+use Rattle.sw_listing_laws.proofs.Objects.{ObjNext, asked-same}
 use Rattle.sw_listing_laws.proofs.Stepping.{IsFair, stepped}
+use Rattle.sw_listing_laws.specs.Asking.{is_asked, is_asked_event}
 use Rattle.sw_listing_laws.specs.Plain.{Cluster, IsNamed, IsNamedEvent, IsNamedStep}
 use Rattle.sw_machine.specs.Honest.{IsHonestEvent, IsHonestStep}
 use Rattle.sw_machine.specs.Machine.{Came, Comes, KnownWrite, Machine, ObjMakes, ObjReadsPart, RunLine}
@@ -26,11 +28,12 @@ use Rattle.sw_peer.specs.declared.link.Link.{Link}
 use Rattle.sw_peer.specs.declared.part_read.PartRead.{PartRead}
 use Rattle.sw_peer.specs.declared.part_read.PartRead.TheVariants.{Base, Files, Hashes, Records, Write as ReadWrite}
 use Rattle.sw_pending.specs.Records.{key_of}
-use Rattle.sw_pending_laws.specs.Ledger.{Ledger}
+use Rattle.sw_pending_laws.specs.Ledger.{Ledger, Reach}
 use Rattle.sw_rows.specs.Rows.{Listed as RowList}
+use Rattle.sw_rows.specs.declared.row.Row.{Row}
 use Rattle.sw_state.specs.Bases.{base_at}
 use Rattle.sw_state.specs.declared.base.Base.{Base as BaseOf}
-use Rattle.sw_held_laws.proofs.Accounts.{AreAcknowledged, IsAccount, LineNext}
+use Rattle.sw_held_laws.proofs.Accounts.{AreTaken, IsAccount, LineNext}
 use Rattle.sw_held_laws.proofs.Hearing.{can-hear, heard, heard-goes, heard-rows}
 
 -- a write that is received has reached some device, by the ledger
@@ -38,14 +41,15 @@ abbrev pub IsReceived : Ledger → Event → Type 0
 IsReceived l (Changed name (Receive write) answer) = (b : BaseOf) → base_at write.time write.kind ≡ Some b → HasReached l name.hash b
 IsReceived l event = ⊤
 
-module _ (c : Cluster) (done : List RunLine) (m : Machine) (l : Ledger) (account : IsAccount c done m l) (after : Machine)
-    (tell : (d : ℕ) (h : Hash) → TellsAt c.nodes.lock after.objects d h) (device : ℕ) (link : Link) (added : List ObjEntry) where
+module _ (c : Cluster) (kept : ℕ → Place → Row → Type 0) (done : List RunLine) (m : Machine) (l : Ledger) (account : IsAccount c kept done m l)
+    (after : Machine) (tell : (d : ℕ) (h : Hash) → TellsAt c.nodes.lock after.objects d h) (device : ℕ) (link : Link)
+    (added : List ObjEntry) where
   abbrev line : Event → RunLine
   line event = Came (record { device = device; link = link; event = event; added = added })
 
   -- ---- all objects stay
 
-  quiet : (event : Event) → Stays m.objects after.objects → LineNext c done after l (line event)
+  quiet : (event : Event) → Stays m.objects after.objects → LineNext c kept done m after l (line event)
   quiet event stays = record {
     next = l;
     goes = goes-nowhere (ground c) l;
@@ -56,6 +60,11 @@ module _ (c : Cluster) (done : List RunLine) (m : Machine) (l : Ledger) (account
     };
     rows = account.rows;
     says = tt;
+    tells = record {
+      news = [];
+      known = stays.known ∙ sym (append-nil m.objects.known);
+      asked = λ before so. asked-same c (is_asked_event event) before l.asked so;
+    };
   }
 
   read-part : (read : PartRead) → ObjReadsPart c.nodes m.objects device read added after.objects → Stays m.objects after.objects
@@ -69,43 +78,49 @@ module _ (c : Cluster) (done : List RunLine) (m : Machine) (l : Ledger) (account
 
   module _ (name : Name) (named : IsNamed c name) (answer : Answer) where
     -- over a ledger that has the same of objects
-    over : (change : Change) (mid : Ledger) → Goes (ground c) l mid → ObjAccounts c m.objects mid.records mid.reached → AreAcknowledged c done mid.tables
-        → ObjMakes c.nodes m.objects device name change answer added after.objects → IsFair c mid device name change
-        → LineNext c done after l (line (Changed name change answer))
-    over change mid goes objects rows makes fair = record {
+    over : (change : Change) (mid : Ledger) → Goes (ground c) l mid → ObjAccounts c m.objects mid.records mid.reached → AreTaken c kept done mid.tables
+        → mid.asked ≡ l.asked → ObjMakes c.nodes m.objects device name change answer added after.objects → IsFair c mid device name change
+        → LineNext c kept done m after l (line (Changed name change answer))
+    over change mid goes objects rows same makes fair = record {
       next = n.next;
       goes = goes-on (ground c) l mid n.next goes n.goes;
       objects = n.accounts;
-      rows = subst (λ (t : ℕ → Place → RowList). AreAcknowledged c done t) (sym n.tables) rows;
+      rows = subst (λ (t : ℕ → Place → RowList). AreTaken c kept done t) (sym n.tables) rows;
       says = tt;
+      tells = record {
+        news = n.news;
+        known = n.known;
+        asked = λ before so. n.asked before (subst (λ (xs : List Reach). IsKnown c before xs) (sym same) so);
+      };
     }
       where
-        n : ObjNext c mid after.objects
+        n : ObjNext c m.objects mid (is_asked change) after.objects
         n =
             stepped c m.objects mid objects device name named after.objects tell change
             (turns c.nodes m.objects device name change answer added after.objects makes (objects.tell device name.hash)) fair
 
     pub changes : (change : Change) → ObjMakes c.nodes m.objects device name change answer added after.objects → IsNamedStep c change
         → IsHonestStep c.nodes.secrets c.replicas done device change → IsReceived l (Changed name change answer)
-        → LineNext c done after l (line (Changed name change answer))
+        → LineNext c kept done m after l (line (Changed name change answer))
     changes (Put time content none_match) makes names honest received =
-        over (Put time content none_match) l (goes-nowhere (ground c) l) account.objects account.rows makes tt
-    changes (Post time heads) makes names honest received = over (Post time heads) l (goes-nowhere (ground c) l) account.objects account.rows makes tt
+        over (Put time content none_match) l (goes-nowhere (ground c) l) account.objects account.rows refl makes tt
+    changes (Post time heads) makes names honest received = over (Post time heads) l (goes-nowhere (ground c) l) account.objects account.rows refl makes tt
     changes (Delete time if_delete_at) makes names honest received =
-        over (Delete time if_delete_at) l (goes-nowhere (ground c) l) account.objects account.rows makes tt
+        over (Delete time if_delete_at) l (goes-nowhere (ground c) l) account.objects account.rows refl makes tt
     changes (Receive write) makes names honest received =
-        over (Receive write) l (goes-nowhere (ground c) l) account.objects account.rows makes received
+        over (Receive write) l (goes-nowhere (ground c) l) account.objects account.rows refl makes received
     changes (MarkRecord filed to) makes names honest received =
-        over (MarkRecord filed to) (heard c done m l account device (key_of filed) to honest)
-        (heard-goes c done m l account device (key_of filed) to honest) account.objects
-        (heard-rows c done m l account device (key_of filed) to honest) makes (can-hear c done m l account device (key_of filed) to honest)
+        over (MarkRecord filed to) (heard c kept done m l account device (key_of filed) to honest)
+        (heard-goes c kept done m l account device (key_of filed) to honest) account.objects
+        (heard-rows c kept done m l account device (key_of filed) to honest) refl makes
+        (can-hear c kept done m l account device (key_of filed) to honest)
     changes (DropRecord filed all) makes names honest received =
-        over (DropRecord filed all) l (goes-nowhere (ground c) l) account.objects account.rows makes (names, honest)
+        over (DropRecord filed all) l (goes-nowhere (ground c) l) account.objects account.rows refl makes (names, honest)
 
   -- ---- each event
 
   pub came : (event : Event) → Comes c.nodes m device event added after → IsHonestEvent c.nodes.secrets c.replicas done link device event
-      → IsNamedEvent c event → IsReceived l event → LineNext c done after l (line event)
+      → IsNamedEvent c event → IsReceived l event → LineNext c kept done m after l (line event)
   came (Changed name change answer) step honest named received =
       changes name named.0 answer change step.0 named.1 honest received
   came (Read name got) step honest named received = quiet (Read name got) (record { holds = step.0.holds; known = step.0.known })

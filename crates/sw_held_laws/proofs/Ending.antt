@@ -1,17 +1,17 @@
--- The law, from what the ledger has at the end of a run.
-use Rattle.std.proofs.Common.{◌≡◌, ℕ, Bool, true, List, [], ◌∷◌, ◌++◌, Option, None, Some, ◌⊎◌, inl, inr, refl, sym, ◌∙◌, ap, subst}
+-- The laws, from what the ledger has at the end of a run.
+use Rattle.std.proofs.Common.{◌≡◌, ℕ, Bool, true, List, [], ◌∷◌, ◌++◌, Option, None, Some, ◌⊎◌, inl, inr, refl, sym, ◌∙◌, subst}
 use Rattle.std.specs.List.{Contains}
 use Rattle.std.proofs.lemmas.Bool.{both_ways}
 use Rattle.sw_hashpath.specs.Places.{IsPlaceOf}
 use Rattle.sw_hashpath.specs.declared.name.Name.{Name}
 use Rattle.sw_hashpath.specs.declared.place.Place.{Place}
 use Rattle.sw_listing_laws.proofs.Accounts.{IsSound}
-use Rattle.sw_listing_laws.proofs.Grounds.{ground, ground-place, home-is, named-object}
+use Rattle.sw_listing_laws.proofs.Grounds.{ground, ground-place, named-object}
 use Rattle.sw_listing_laws.proofs.Showing.{begins}
 use Rattle.sw_listing_laws.proofs.Standing.{reach}
 use Rattle.sw_listing_laws.specs.Laws.{IsSettled}
 use Rattle.sw_listing_laws.specs.Plain.{Cluster, IsNamed, RunsSoundly}
-use Rattle.sw_machine.specs.Honest.{AreHonest, IsAcknowledged}
+use Rattle.sw_machine.specs.Honest.{AreHonest}
 use Rattle.sw_machine.specs.Machine.{Machine, RunLine, Runs}
 use Rattle.sw_object_steps.specs.Journals.{Hash}
 use Rattle.sw_pending.specs.Rules.{is_done}
@@ -19,19 +19,20 @@ use Rattle.sw_pending.specs.declared.key.RecordKey.{RecordKey}
 use Rattle.sw_pending_laws.proofs.Among.{none-among}
 use Rattle.sw_pending_laws.proofs.Rows.{row-flag, row-name, row-time}
 use Rattle.sw_pending_laws.specs.Laws.{begun}
-use Rattle.sw_pending_laws.specs.Ledger.{IsHeld, Ledger, Reach, counts}
-use Rattle.sw_pending_laws.specs.Sound.{Holds as IsHeldBy, IsOpen, WasAsked}
+use Rattle.sw_object_steps.specs.BaseRows.{IsRowOf}
+use Rattle.sw_pending_laws.specs.Ledger.{Ledger, counts}
+use Rattle.sw_pending_laws.specs.Sound.{Holds as IsHeldBy, IsOpen}
 use Rattle.sw_point_laws.proofs.Ending.{acknowledged-is-held, runs-begin}
 use Rattle.sw_point_laws.specs.Laws.{IsBegun, ground_of, ledger_of}
 use Rattle.sw_rows.specs.Rows.{is_at_least}
 use Rattle.sw_rows.specs.declared.row.Row.{Row}
 use Rattle.sw_shard_laws.proofs.Rows.{has-over}
 use Rattle.sw_shard_laws.specs.Ledger.{Holds, HoldsBy, Ledger as Tables, served, table_at}
-use Rattle.sw_state.specs.Bases.{base_time, is_deletion}
+use Rattle.sw_state.specs.Bases.{base_time}
 use Rattle.sw_state.specs.declared.base.Base.{Base}
-use Rattle.sw_held_laws.proofs.Accounts.{IsAccount}
+use Rattle.sw_held_laws.proofs.Accounts.{IsAccount, IsTaken}
 use Rattle.sw_held_laws.proofs.Running.{account-ends}
-use Rattle.sw_held_laws.specs.Laws.{SettledContainersHoldAll}
+use Rattle.sw_held_laws.specs.Laws.{SettledContainersHoldAll, Waits, WaitsAt, WritesAreRecordedOrHeld}
 
 -- ---- a run
 
@@ -56,53 +57,61 @@ holds-over replicas t device place u v same over holds =
     by None has = has-over (table_at t device place).rows u v same over has
     by (Some shard) all = λ f inside. has-over (table_at t f shard).rows u v same over (all f inside)
 
--- ---- what each device of a settled container was told
+-- ---- what each device of a container was told
 
-module _ (c : Cluster) (done : List RunLine) (m : Machine) (l : Ledger) (account : IsAccount c done m l) (place : Place) (settled : IsSettled c m place)
-    (device : ℕ) (ring : Contains (c.replicas place) device) where
-  -- each of its records marks the device
-  all-marked : (d : ℕ) (key : RecordKey) → (ground c).place key.hash ≡ place → IsOpen (l.records d key) device → ⊥
-  all-marked d key at (f, stands, unmarked) =
-      both_ways (is_done device f.done) unmarked
-      (settled d key.hash key f filed refl
-      (subst (λ (n : Name). IsPlaceOf c.nodes.secrets n place) (sym name_is)
-      (subst (λ (p : Place). IsPlaceOf c.nodes.secrets (c.names key.hash) p) at (home-is c (c.names key.hash)))) device ring)
+module _ (c : Cluster) (kept : ℕ → Place → Row → Type 0) (done : List RunLine) (m : Machine) (l : Ledger) (account : IsAccount c kept done m l)
+    (holds : (device : ℕ) (place : Place) (row : Row) → IsTaken c kept done device place row → Holds (ground_of c.replicas) (ledger_of m) device place row)
+    (name : Name) (named : IsNamed c name) (base : Base) where
+  abbrev key : RecordKey
+  key = record { hash = name.hash; time = base_time base }
+
+  -- a record of the ledger is one of the machine
+  waits-there : (at device : ℕ) → IsOpen (l.records at key) device → WaitsAt m at name base device
+  waits-there at device (f, stands, unmarked) = record {
+    filed = f;
+    stands = there;
+    name_is = (account.objects.fits at name.hash).named key f refl there ∙ named.one;
+    unmarked = unmarked;
+  }
     where
-      filed : (m.objects.half.holds d key.hash).records key ≡ Some f
-      filed = sym ((account.objects.fits d key.hash).filed key refl) ∙ stands
+      there : (m.objects.half.holds at name.hash).records key ≡ Some f
+      there = sym ((account.objects.fits at name.hash).filed key refl) ∙ stands
 
-      name_is : f.name ≡ c.names key.hash
-      name_is = (account.objects.fits d key.hash).named key f refl filed
-
-  -- what reached under a name of the container was asked for somewhere, and this device heard of it
-  heard-of : (b : Reach) → Contains l.reached b → (ground c).place b.hash ≡ place
-      → IsHeld (l.tables device place) ((ground c).object b.hash) (base_time b.base) (is_deletion b.base)
-  heard-of b reached at = by o.0 o.2 o.3 way
+  -- and what it heard of is held
+  held-there : (device : ℕ) (place : Place) → IsPlaceOf c.nodes.secrets name place → (row : Row) → IsRowOf name.object base row
+      → IsHeldBy (ground c) l device name.hash base → Holds (ground_of c.replicas) (ledger_of m) device place row
+  held-there device place at row row_is held =
+      holds-over c.replicas (ledger_of m) device place here row
+      (taken.0 ∙ (named-object c name named ∙ sym (row-name name.object base row row_is)))
+      (subst (λ (time : ℕ). counts here.created_at here.deleted time row.deleted ≡ true) (sym (row-time name.object base row row_is))
+      (subst (λ (gone : Bool). counts here.created_at here.deleted (base_time base) gone ≡ true) (sym (row-flag name.object base row row_is)) held.2))
+      (subst (λ (p : Place). Holds (ground_of c.replicas) (ledger_of m) device p here) (sym (ground-place c name place named at))
+      (holds device ((ground c).place name.hash) here taken.1))
     where
-      o : WasAsked l b
-      o = account.clients.origin b reached
+      here : Row
+      here = held.0
 
-      key : Reach → RecordKey
-      key a = record { hash = a.hash; time = base_time a.base }
+      taken : (here.name ≡ (ground c).object name.hash) × IsTaken c kept done device ((ground c).place name.hash) here
+      taken = account.rows device ((ground c).place name.hash) ((ground c).object name.hash) here held.1
 
-      way : IsOpen (l.records o.0.device (key o.0)) device ⊎ IsHeldBy (ground c) l device o.0.hash o.0.base
-      way =
-          account.steady.recorded o.0.device (key o.0) o.0.base o.1 refl device
-          (subst (λ (p : Place). Contains (c.replicas p) device) (sym (ap (ground c).place o.2 ∙ at)) ring)
+  -- what a client asked a device for waits there, or is held
+  pub asked-waits : (at : ℕ) → Contains l.asked (reach at name.hash base) → (place : Place) → IsPlaceOf c.nodes.secrets name place
+      → (device : ℕ) → Contains (c.replicas place) device → (row : Row) → IsRowOf name.object base row
+      → WaitsAt m at name base device ⊎ Holds (ground_of c.replicas) (ledger_of m) device place row
+  asked-waits at there place home device ring row row_is =
+      by (account.steady.recorded at key base there refl device
+      (subst (λ (p : Place). Contains (c.replicas p) device) (ground-place c name place named home) ring))
+    where
+      by : IsOpen (l.records at key) device ⊎ IsHeldBy (ground c) l device name.hash base
+          → WaitsAt m at name base device ⊎ Holds (ground_of c.replicas) (ledger_of m) device place row
+      by (inl waits) = inl (waits-there at device waits)
+      by (inr held) = inr (held-there device place home row row_is held)
 
-      by : (a : Reach) → a.hash ≡ b.hash → a.base ≡ b.base → IsOpen (l.records a.device (key a)) device ⊎ IsHeldBy (ground c) l device a.hash a.base
-          → IsHeld (l.tables device place) ((ground c).object b.hash) (base_time b.base) (is_deletion b.base)
-      by a hash base (inl waits) = absurd (all-marked a.device (key a) (ap (ground c).place hash ∙ at) waits)
-      by a hash base (inr has) =
-          subst (λ (x : Base). IsHeld (l.tables device place) ((ground c).object b.hash) (base_time x) (is_deletion x)) base
-          (subst (λ (p : Place). IsHeld (l.tables device p) ((ground c).object b.hash) (base_time a.base) (is_deletion a.base)) at
-          (subst (λ (h : Hash). IsHeld (l.tables device ((ground c).place h)) ((ground c).object h) (base_time a.base) (is_deletion a.base)) hash has))
-
--- ---- the law
+-- ---- the laws
 
 -- the ledger of nothing accounts for what a run begins with
-account-begins : (c : Cluster) (m : Machine) (sound : IsSound c [] m begun) → IsAccount c [] m begun
-account-begins c m sound = record {
+account-begins : (c : Cluster) (kept : ℕ → Place → Row → Type 0) (m : Machine) (sound : IsSound c [] m begun) → IsAccount c kept [] m begun
+account-begins c kept m sound = record {
   objects = sound.accounts.objects;
   rows = λ d p name row found. cc;
   says = λ line there. absurd (none-among line there);
@@ -110,34 +119,47 @@ account-begins c m sound = record {
   clients = sound.clients;
 }
 
-pub settled-hold : SettledContainersHoldAll
-settled-hold c m lines after bare run place settled device ring d n base known at base_is row row_is =
-    holds-over c.replicas (ledger_of after) device place here row
-    (acknowledged.0 ∙ (named-object c n.name named ∙ sym (row-name n.name.object base row row_is)))
-    (subst (λ (time : ℕ). counts here.created_at here.deleted time row.deleted ≡ true) (sym (row-time n.name.object base row row_is))
-    (subst (λ (gone : Bool). counts here.created_at here.deleted (base_time base) gone ≡ true) (sym (row-flag n.name.object base row row_is)) held.2))
-    (acknowledged-is-held c.nodes c.nodes.secrets c.replicas m lines after begun-so (runs c lines [] m after run) (are-honest c lines [] m after run) device
-    place here acknowledged.1)
+pub recorded-or-held : WritesAreRecordedOrHeld
+recorded-or-held c m lines after bare run d n base known base_is place at device ring row row_is =
+    let o = end.1.clients.origin (reach d n.name.hash base) (end.1.objects.known.reaches d n base known base_is) in
+    by o.0.device (asked-waits c (λ device place row. ⊥) lines after end.0 end.1 holds n.name (end.1.objects.known.named d n known) base o.0.device
+    (subst (λ (b : Base). Contains end.0.asked (reach o.0.device n.name.hash b)) o.3
+    (subst (λ (h : Hash). Contains end.0.asked (reach o.0.device h o.0.base)) o.2 o.1)) place at device ring row row_is)
   where
     sound : IsSound c [] m begun
     sound = begins c m bare.new
 
-    end : (next : Ledger) × IsAccount c lines after next
-    end = account-ends c lines [] m begun sound begun (account-begins c m sound) after run
+    end : (next : Ledger) × IsAccount c (λ device place row. ⊥) lines after next
+    end = account-ends c (λ device place row. ⊥) lines [] m begun sound begun (account-begins c (λ device place row. ⊥) m sound) after run
 
     begun-so : IsBegun c.nodes c.replicas m
     begun-so = runs-begin c.nodes c.replicas m (record { tell = bare.new.containers_tell; nothing = bare.none; no_messages = bare.new.no_messages })
 
-    named : IsNamed c n.name
-    named = end.1.objects.known.named d n known
+    holds : (device : ℕ) (place : Place) (row : Row) → IsTaken c (λ device place row. ⊥) lines device place row
+        → Holds (ground_of c.replicas) (ledger_of after) device place row
+    holds device place row (inl is) =
+        acknowledged-is-held c.nodes c.nodes.secrets c.replicas m lines after begun-so (runs c lines [] m after run) (are-honest c lines [] m after run) device
+        place row is
+    holds device place row (inr never) = absurd never
 
-    held : IsHeld (end.0.tables device place) ((ground c).object n.name.hash) (base_time base) (is_deletion base)
-    held =
-        heard-of c lines after end.0 end.1 place settled device ring (reach d n.name.hash base) (end.1.objects.known.reaches d n base known base_is)
-        (sym (ground-place c n.name place named at))
+    by : (at : ℕ) → WaitsAt after at n.name base device ⊎ Holds (ground_of c.replicas) (ledger_of after) device place row
+        → Waits after n.name base device ⊎ Holds (ground_of c.replicas) (ledger_of after) device place row
+    by at (inl waits) = inl (record { at = at; waits = waits })
+    by at (inr held) = inr held
 
-    here : Row
-    here = held.0
+-- where a record waits the container isn't settled
+pub none-waits : (c : Cluster) (m : Machine) (place : Place) → IsSettled c m place → (at : ℕ) (name : Name) (base : Base) (device : ℕ)
+    → IsPlaceOf c.nodes.secrets name place → Contains (c.replicas place) device → WaitsAt m at name base device → ⊥
+none-waits c m place settled at name base device home ring waits =
+    both_ways (is_done device waits.filed.done) waits.unmarked
+    (settled at name.hash (record { hash = name.hash; time = base_time base }) waits.filed waits.stands refl
+    (subst (λ (n : Name). IsPlaceOf c.nodes.secrets n place) (sym waits.name_is) home) device ring)
 
-    acknowledged : (here.name ≡ (ground c).object n.name.hash) × IsAcknowledged c.nodes.secrets c.replicas lines device place here
-    acknowledged = end.1.rows device place ((ground c).object n.name.hash) here held.1
+pub settled-hold : SettledContainersHoldAll
+settled-hold c m lines after bare run place settled device ring d n base known at base_is row row_is =
+    by (recorded-or-held c m lines after bare run d n base known base_is place at device ring row row_is)
+  where
+    by : Waits after n.name base device ⊎ Holds (ground_of c.replicas) (ledger_of after) device place row
+        → Holds (ground_of c.replicas) (ledger_of after) device place row
+    by (inl waits) = absurd (none-waits c after place settled waits.at n.name base device at ring waits.waits)
+    by (inr held) = held

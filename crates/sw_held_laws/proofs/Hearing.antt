@@ -12,7 +12,7 @@ use Rattle.sw_listing_laws.proofs.Grounds.{ground}
 use Rattle.sw_listing_laws.proofs.Merging.{merge_at}
 use Rattle.sw_listing_laws.proofs.Stepping.{CanHear}
 use Rattle.sw_listing_laws.specs.Plain.{Cluster}
-use Rattle.sw_machine.specs.Honest.{IsAcknowledged, WasTold}
+use Rattle.sw_machine.specs.Honest.{WasTold}
 use Rattle.sw_machine.specs.Machine.{Machine, RunLine, Went}
 use Rattle.sw_machine.specs.Messages.{Update_of}
 use Rattle.sw_pending.specs.declared.key.RecordKey.{RecordKey}
@@ -24,7 +24,7 @@ use Rattle.sw_point_laws.proofs.Told.{acknowledged-within}
 use Rattle.sw_rows.proofs.Greater.{stands-merged}
 use Rattle.sw_rows.specs.Rows.{Listed, find_named, merged}
 use Rattle.sw_rows.specs.declared.row.Row.{Row}
-use Rattle.sw_held_laws.proofs.Accounts.{AreAcknowledged, IsAccount}
+use Rattle.sw_held_laws.proofs.Accounts.{AreTaken, IsAccount, IsTaken}
 
 -- ---- a row comes to the table of a device and container
 
@@ -67,26 +67,25 @@ module _ (c : Cluster) (to : ℕ) (place : Place) (row : Row) (l : Ledger) where
       by true is = stands-merged (l.tables to place) row
       by false is = cc
 
-  pub row-acknowledged : (done : List RunLine) → IsAcknowledged c.nodes.secrets c.replicas done to place row → AreAcknowledged c done l.tables
-      → AreAcknowledged c done with_told.tables
-  row-acknowledged done this old d p name x found = by (is_here d p) refl found
+  pub row-taken : (kept : ℕ → Place → Row → Type 0) (done : List RunLine) → IsTaken c kept done to place row → AreTaken c kept done l.tables
+      → AreTaken c kept done with_told.tables
+  row-taken kept done this old d p name x found = by (is_here d p) refl found
     where
       one : (d ≡ to) × (p ≡ place)
           → (find_named (merged (l.tables d p) row).list name ≡ find_named (l.tables d p).list name)
           ⊎ ((row.name ≡ name) × (find_named (merged (l.tables d p) row).list name ≡ Some row))
-          → find_named (merged (l.tables d p) row).list name ≡ Some x → (x.name ≡ name) × IsAcknowledged c.nodes.secrets c.replicas done d p x
+          → find_named (merged (l.tables d p) row).list name ≡ Some x → (x.name ≡ name) × IsTaken c kept done d p x
       one at (inl same) found = old d p name x (sym same ∙ found)
       one at (inr new) found =
           let whole : Some row ≡ Some x = sym new.1 ∙ found in
           let is : row ≡ x = cc in
-          subst (λ (y : Row). (y.name ≡ name) × IsAcknowledged c.nodes.secrets c.replicas done d p y) is (
+          subst (λ (y : Row). (y.name ≡ name) × IsTaken c kept done d p y) is (
             new.0,
-            subst (λ (e : ℕ). IsAcknowledged c.nodes.secrets c.replicas done e p row) (sym at.0)
-                (subst (λ (q : Place). IsAcknowledged c.nodes.secrets c.replicas done to q row) (sym at.1) this),
+            subst (λ (e : ℕ). IsTaken c kept done e p row) (sym at.0) (subst (λ (q : Place). IsTaken c kept done to q row) (sym at.1) this),
           )
 
       by : (b : Bool) → is_here d p ≡ b → find_named (cond b (merged (l.tables d p) row) (l.tables d p)).list name ≡ Some x
-          → (x.name ≡ name) × IsAcknowledged c.nodes.secrets c.replicas done d p x
+          → (x.name ≡ name) × IsTaken c kept done d p x
       by true at found =
           let parts = and_parts (nat_eq d to) (is_same_place p place) at in
           one (eqb-true d to parts.0, place-same p place parts.1) (merged-one (l.tables d p) row name) found
@@ -94,8 +93,8 @@ module _ (c : Cluster) (to : ℕ) (place : Place) (row : Row) (l : Ledger) where
 
 -- ---- the row by which a device was told
 
-module _ (c : Cluster) (done : List RunLine) (m : Machine) (l : Ledger) (account : IsAccount c done m l) (device : ℕ) (key : RecordKey) (to : ℕ)
-    (was : WasTold c.nodes.secrets c.replicas done device key to) where
+module _ (c : Cluster) (kept : ℕ → Place → Row → Type 0) (done : List RunLine) (m : Machine) (l : Ledger) (account : IsAccount c kept done m l)
+    (device : ℕ) (key : RecordKey) (to : ℕ) (was : WasTold c.nodes.secrets c.replicas done device key to) where
   abbrev pub heard : Ledger
   heard = with_told c to was.place was.row l
 
@@ -114,11 +113,11 @@ module _ (c : Cluster) (done : List RunLine) (m : Machine) (l : Ledger) (account
       row-goes c to was.place was.row l
       (subst (λ (p : Place). IsRowIn (ground c) l p was.row) (sym went.1) (account.clients.sent (told device was.filed was.row) went.0))
 
-  pub heard-rows : AreAcknowledged c done heard.tables
+  pub heard-rows : AreTaken c kept done heard.tables
   heard-rows =
-      row-acknowledged c to was.place was.row l done
-      (acknowledged-within was.behind done (λ line there. within line (behind sending was.behind line there)) c.nodes.secrets c.replicas to was.place was.row
-      was.acknowledged)
+      row-taken c to was.place was.row l kept done
+      (inl (acknowledged-within was.behind done (λ line there. within line (behind sending was.behind line there)) c.nodes.secrets c.replicas to was.place
+      was.row was.acknowledged))
       account.rows
 
   pub can-hear : CanHear c heard device key to

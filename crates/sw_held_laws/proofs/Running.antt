@@ -12,7 +12,9 @@ use Rattle.sw_machine.specs.Honest.{IsHonest}
 use Rattle.sw_machine.specs.Machine.{Came, KnownWrite, Machine, RunLine, Steps, Went}
 use Rattle.sw_machine.specs.Messages.{WasSent}
 use Rattle.sw_machine.specs.Sides.{TellsAt}
+use Rattle.sw_hashpath.specs.declared.place.Place.{Place}
 use Rattle.sw_object_steps.specs.Journals.{Hash}
+use Rattle.sw_rows.specs.declared.row.Row.{Row}
 use Rattle.sw_object_steps.specs.declared.change.Change.TheVariants.{Put, Post, Delete, Receive, MarkRecord, DropRecord}
 use Rattle.sw_object_steps.specs.declared.entry.ObjEntry.{ObjEntry}
 use Rattle.sw_peer.specs.declared.line.Event.{Event}
@@ -22,7 +24,7 @@ use Rattle.sw_peer.specs.declared.link.Link.TheVariants.{Local}
 use Rattle.sw_pending_laws.specs.Ledger.{Ledger}
 use Rattle.sw_point_laws.proofs.Told.{acknowledged-within}
 use Rattle.sw_state.specs.declared.base.Base.{Base}
-use Rattle.sw_held_laws.proofs.Accounts.{IsAccount, LineNext, Says, all-say-still}
+use Rattle.sw_held_laws.proofs.Accounts.{IsAccount, IsTaken, LineNext, Says, Tells, all-say-still}
 use Rattle.sw_held_laws.proofs.Coming.{IsReceived, came}
 use Rattle.sw_held_laws.proofs.Sending.{sends}
 
@@ -33,8 +35,15 @@ reached-too c known k l first second hash b (a, there, hash_is, base_is) =
     let n = first.comes a there in
     (reach a.device n.0.name.hash a.base, second.reaches a.device n.0 a.base n.1 n.3, n.2 ∙ hash_is, base_is)
 
-module _ (c : Cluster) (done : List RunLine) (m : Machine) (k : Ledger) (sound : IsSound c done m k) (l : Ledger) (account : IsAccount c done m l)
-    (after : Machine) where
+-- the ledger of the machine behind a line more
+pub record AccountNext (c : Cluster) (kept : ℕ → Place → Row → Type 0) (done : List RunLine) (m : Machine) (l : Ledger) (after : Machine) (line : RunLine)
+    : Type 0 where
+  pub next : Ledger
+  pub account : IsAccount c kept (done ++ line ∷ []) after next
+  pub tells : Tells c m l after next line
+
+module _ (c : Cluster) (kept : ℕ → Place → Row → Type 0) (done : List RunLine) (m : Machine) (k : Ledger) (sound : IsSound c done m k) (l : Ledger)
+    (account : IsAccount c kept done m l) (after : Machine) where
   received : (device : ℕ) (link : Link) (added : List ObjEntry) (event : Event)
       → WasSent m.sent (record { device = device; link = link; event = event; added = added }) → (link ≡ Local → IsPlainEvent c m event) → IsReceived l event
   received device link added (Changed name (Receive write) answer) sent plain = λ b is.
@@ -54,30 +63,34 @@ module _ (c : Cluster) (done : List RunLine) (m : Machine) (k : Ledger) (sound :
   -- ---- one line
 
   one : (line : RunLine) → Steps c.nodes m line after → IsHonest c.nodes.secrets c.replicas done line → IsPlain c m line → IsNamedLine c line
-      → ((d : ℕ) (h : Hash) → TellsAt c.nodes.lock after.objects d h) → LineNext c done after l line
+      → ((d : ℕ) (h : Hash) → TellsAt c.nodes.lock after.objects d h) → LineNext c kept done m after l line
   one (Came line) step honest plain named tell =
-      came c done m l account after tell line.device line.link line.added line.event step.1 honest named
+      came c kept done m l account after tell line.device line.link line.added line.event step.1 honest named
       (received line.device line.link line.added line.event step.0 plain)
   one (Went from message) step honest plain named tell =
-      subst (λ (x : Machine). LineNext c done x l (Went from message)) (sym step.1) (sends c done m l account from message step.0 named)
+      subst (λ (x : Machine). LineNext c kept done m x l (Went from message)) (sym step.1) (sends c kept done m l account from message step.0 named)
 
   pub account-goes-on : (line : RunLine) → Steps c.nodes m line after → IsHonest c.nodes.secrets c.replicas done line → IsPlain c m line
-      → IsNamedLine c line → ((d : ℕ) (h : Hash) → TellsAt c.nodes.lock after.objects d h) → (next : Ledger) × IsAccount c (done ++ line ∷ []) after next
-  account-goes-on line step honest plain named tell = (
-    n.next,
-    record {
+      → IsNamedLine c line → ((d : ℕ) (h : Hash) → TellsAt c.nodes.lock after.objects d h) → AccountNext c kept done m l after line
+  account-goes-on line step honest plain named tell = record {
+    next = n.next;
+    account = record {
       objects = n.objects;
-      rows = λ d p name row found.
-          let is = n.rows d p name row found in
-          (is.0, acknowledged-within done (done ++ line ∷ []) (Contains-append_left done (line ∷ [])) c.nodes.secrets c.replicas d p row is.1);
+      rows = λ d p name row found. let is = n.rows d p name row found in (is.0, taken-still d p row is.1);
       says = λ x there. by x (Contains-push_cases done line x there);
       steady = n.goes.steady account.steady;
       clients = n.goes.clients account.clients;
-    },
-  )
+    };
+    tells = n.tells;
+  }
     where
-      n : LineNext c done after l line
+      n : LineNext c kept done m after l line
       n = one line step honest plain named tell
+
+      taken-still : (d : ℕ) (p : Place) (row : Row) → IsTaken c kept done d p row → IsTaken c kept (done ++ line ∷ []) d p row
+      taken-still d p row (inl is) =
+          inl (acknowledged-within done (done ++ line ∷ []) (Contains-append_left done (line ∷ [])) c.nodes.secrets c.replicas d p row is)
+      taken-still d p row (inr is) = inr is
 
       by : (x : RunLine) → Contains done x ⊎ (line ≡ x) → Says c n.next x
       by x (inl old) = all-say-still c l n.next n.goes done account.says x old
@@ -85,13 +98,14 @@ module _ (c : Cluster) (done : List RunLine) (m : Machine) (k : Ledger) (sound :
 
 -- ---- a run
 
-pub account-ends : (c : Cluster) (lines done : List RunLine) (m : Machine) (k : Ledger) → IsSound c done m k → (l : Ledger) → IsAccount c done m l
-    → (after : Machine) → RunsSoundly c done m lines after → (next : Ledger) × IsAccount c (done ++ lines) after next
-account-ends c [] done m k sound l account after same =
-    subst (λ (x : Machine). (next : Ledger) × IsAccount c (done ++ []) x next) (sym same)
-    (l, subst (λ (xs : List RunLine). IsAccount c xs m l) (sym (append-nil done)) account)
-account-ends c (line ∷ lines) done m k sound l account after run =
+pub account-ends : (c : Cluster) (kept : ℕ → Place → Row → Type 0) (lines done : List RunLine) (m : Machine) (k : Ledger) → IsSound c done m k
+    → (l : Ledger) → IsAccount c kept done m l → (after : Machine) → RunsSoundly c done m lines after
+    → (next : Ledger) × IsAccount c kept (done ++ lines) after next
+account-ends c kept [] done m k sound l account after same =
+    subst (λ (x : Machine). (next : Ledger) × IsAccount c kept (done ++ []) x next) (sym same)
+    (l, subst (λ (xs : List RunLine). IsAccount c kept xs m l) (sym (append-nil done)) account)
+account-ends c kept (line ∷ lines) done m k sound l account after run =
     let other = goes-on-with c done m k sound run.0 line run.1 run.2 run.3 run.4 in
-    let next = account-goes-on c done m k sound l account run.0 line run.1 run.2 run.3 run.4 other.1.accounts.objects.tell in
-    subst (λ (xs : List RunLine). (end : Ledger) × IsAccount c xs after end) (append_assoc done (line ∷ []) lines)
-    (account-ends c lines (done ++ line ∷ []) run.0 other.0 other.1 next.0 next.1 after run.5)
+    let n = account-goes-on c kept done m k sound l account run.0 line run.1 run.2 run.3 run.4 other.1.accounts.objects.tell in
+    subst (λ (xs : List RunLine). (end : Ledger) × IsAccount c kept xs after end) (append_assoc done (line ∷ []) lines)
+    (account-ends c kept lines (done ++ line ∷ []) run.0 other.0 other.1 n.next n.account after run.5)

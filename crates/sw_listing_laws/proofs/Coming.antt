@@ -1,5 +1,5 @@
 -- The ledger goes on with what comes to a device.
-use Rattle.std.proofs.Common.{◌≡◌, ℕ, List, Option, ◌⊎◌, inl, inr, refl, sym, ap, subst}
+use Rattle.std.proofs.Common.{◌≡◌, ℕ, Bool, List, Option, ◌⊎◌, inl, inr, refl, sym, ap, subst}
 use Rattle.std.specs.List.{Contains}
 use Rattle.std.proofs.lemmas.Bool.{cases_eq}
 use Rattle.sw_container_steps.specs.Entries.{rows_of}
@@ -101,7 +101,8 @@ module _ (c : Cluster) (m : Machine) (l : Ledger) (accounts : Accounts c m l) (a
     }
 
     -- a step at an object
-    pub at-object : (line : RunLine) → after.containers ≡ m.containers → (n : ObjNext c l after.objects) → Says c n.next line → LineNext c after l line
+    pub at-object : {asks : Bool} (line : RunLine) → after.containers ≡ m.containers → (n : ObjNext c m.objects l asks after.objects)
+        → Says c n.next line → LineNext c after l line
     at-object line same n says = record {
       next = n.next;
       goes = n.goes;

@@ -29,7 +29,7 @@ use Rattle.sw_rows.specs.declared.row.Row.{Row}
 use Rattle.sw_state.specs.Bases.{base_at}
 use Rattle.sw_state.specs.declared.base.Base.{Base}
 use Rattle.sw_state.specs.declared.write.Write.{Write}
-use Rattle.sw_listing_laws.proofs.Accounts.{Accounts, HasReached, IsAccounted, IsRight, Tells, told}
+use Rattle.sw_listing_laws.proofs.Accounts.{Accounts, HasReached, IsAccounted, IsKnown, IsRight, Tells, told}
 use Rattle.sw_listing_laws.proofs.Grounds.{ground, ground-place, named-object}
 use Rattle.sw_listing_laws.proofs.Redirecting.{IsHeard}
 use Rattle.sw_listing_laws.proofs.Standing.{reach}
@@ -44,6 +44,23 @@ either-link Sent here there = there refl
 -- a message that was sent comes as this
 abbrev pub Brings : (sent : List Message) → (Message → Type 0) → Type 0
 Brings sent Arrived = (message : Message) × Contains sent message × Arrived message
+
+module _ (c : Cluster) (m : Machine) (l : Ledger) (known : IsKnown c m.objects.known l.reached) where
+  -- a row of a write that reached a device is one by the ledger
+  pub of-write : (place : Place) (row : Row) → IsOfWrite c m place row → IsRowIn (ground c) l place row
+  of-write place row w = (
+    reach had.device (had.by).name.hash w.base,
+    known.reaches had.device had.by w.base had.known had.base_is,
+    sym (ground-place c (had.by).name place named (subst (λ (n : Name). IsPlaceOf c.nodes.secrets n place) (sym had.name_is) w.place_is)),
+    subst (λ (o : List ℕ). IsRowOf o w.base row)
+        (ap (λ (n : Name). n.object) (sym had.name_is) ∙ sym (named-object c (had.by).name named)) w.row_is,
+  )
+    where
+      had : HadReached m w.name w.base
+      had = w.reached
+
+      named : IsNamed c (had.by).name
+      named = known.named had.device had.by had.known
 
 module _ (c : Cluster) (m : Machine) (l : Ledger) (accounts : Accounts c m l) where
   -- ---- writes
@@ -83,24 +100,9 @@ module _ (c : Cluster) (m : Machine) (l : Ledger) (accounts : Accounts c m l) wh
 
   -- ---- rows
 
-  of-write : (place : Place) (row : Row) → IsOfWrite c m place row → IsRowIn (ground c) l place row
-  of-write place row w = (
-    reach had.device (had.by).name.hash w.base,
-    accounts.objects.known.reaches had.device had.by w.base had.known had.base_is,
-    sym (ground-place c (had.by).name place named (subst (λ (n : Name). IsPlaceOf c.nodes.secrets n place) (sym had.name_is) w.place_is)),
-    subst (λ (o : List ℕ). IsRowOf o w.base row)
-        (ap (λ (n : Name). n.object) (sym had.name_is) ∙ sym (named-object c (had.by).name named)) w.row_is,
-  )
-    where
-      had : HadReached m w.name w.base
-      had = w.reached
-
-      named : IsNamed c (had.by).name
-      named = accounts.objects.known.named had.device had.by had.known
-
   plain-row : (place : Place) (row : Row) → IsPlainRow c m place row → IsRight c l place row
   plain-row place row (inl hidden) = inl hidden
-  plain-row place row (inr w) = inr (of-write place row w)
+  plain-row place row (inr w) = inr (of-write c m l accounts.objects.known place row w)
 
   module _ (clients : ComesFromClients (ground c) l) where
     row-arrives : (device : ℕ) (place : Place) (row : Row) (answer : ContAnswer) (entries : List ContEntry) (message : Message)

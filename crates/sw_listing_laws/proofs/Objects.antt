@@ -1,5 +1,6 @@
 -- The ledger goes on with a step at an object.
-use Rattle.std.proofs.Common.{◌≡◌, ℕ, true, List, [], ◌∷◌, ◌++◌, map, Option, None, Some, refl, sym, ◌∙◌, ap, subst}
+use Rattle.std.proofs.Common.{◌≡◌, ℕ, Bool, true, false, List, [], ◌∷◌, ◌++◌, map, Option, None, Some, refl, sym, ◌∙◌, ap, subst}
+use Rattle.std.proofs.Common.{if◌then◌else◌}
 use Rattle.sw_hashpath.specs.declared.name.Name.{Name}
 use Rattle.sw_machine.specs.Machine.{KnownWrite, ObjSide}
 use Rattle.sw_machine.specs.Sides.{TellsAt}
@@ -26,12 +27,22 @@ use Rattle.sw_listing_laws.proofs.Turning.{fits-reach, known-beside, known-more,
 use Rattle.sw_listing_laws.proofs.Writing.{with_filed, with_write}
 use Rattle.sw_listing_laws.specs.Plain.{Cluster, IsNamed}
 
--- a ledger that accounts for these objects, and has the rows that this one has
-pub record ObjNext (c : Cluster) (l : Ledger) (after : ObjSide) : Type 0 where
+-- a ledger that accounts for these objects behind a step, and has the rows that this one has
+pub record ObjNext (c : Cluster) (m : ObjSide) (l : Ledger) (asks : Bool) (after : ObjSide) : Type 0 where
   pub next : Ledger
   pub goes : Goes (ground c) l next
   pub accounts : ObjAccounts c after next.records next.reached
   pub tables : next.tables ≡ l.tables
+  -- what the step made known, and that a client asked for that where one asked for the step
+  pub news : List (ℕ × KnownWrite)
+  pub known : after.known ≡ m.known ++ news
+  pub asked : (known : List (ℕ × KnownWrite)) → IsKnown c known l.asked → IsKnown c (known ++ (if asks then news else [])) next.asked
+
+-- nothing more is asked for
+pub asked-same : (c : Cluster) (asks : Bool) (known : List (ℕ × KnownWrite)) (asked : List Reach) → IsKnown c known asked
+    → IsKnown c (known ++ (if asks then [] else [])) asked
+asked-same c true known asked is = known-same c known (known ++ []) asked refl is
+asked-same c false known asked is = known-same c known (known ++ []) asked refl is
 
 -- ---- one step
 
@@ -53,8 +64,8 @@ module _ (c : Cluster) (m : ObjSide) (l : Ledger) (accounts : ObjAccounts c m l.
 
     -- ---- nothing turned
 
-    pub still : after.half.holds device name.hash ≡ m.half.holds device name.hash → Known [] → ObjNext c l after
-    still is known = record {
+    pub still : (asks : Bool) → after.half.holds device name.hash ≡ m.half.holds device name.hash → Known [] → ObjNext c m l asks after
+    still asks is known = record {
       next = l;
       goes = goes-nowhere (ground c) l;
       accounts = turned c m l.records l.reached accounts device name.hash after tell others l.records l.reached
@@ -62,6 +73,9 @@ module _ (c : Cluster) (m : ObjSide) (l : Ledger) (accounts : ObjAccounts c m l.
           (here l.records l.reached (m.half.holds device name.hash) is fits)
           (λ d h away x fit. fit);
       tables = refl;
+      news = [];
+      known = known;
+      asked = λ before so. asked-same c asks before l.asked so;
     }
 
     -- ---- a record was set
@@ -94,7 +108,7 @@ module _ (c : Cluster) (m : ObjSide) (l : Ledger) (accounts : ObjAccounts c m l.
     -- one that is no client's
     pub takes : (w : Write) (b : Base) → base_at w.time w.kind ≡ Some b → HasReached l name.hash b
         → after.half.holds device name.hash ≡ with_write (m.half.holds device name.hash) [] w → Known (record { name = name; write = w } ∷ [])
-        → ObjNext c l after
+        → ObjNext c m l false after
     takes w b base_is plain is known = record {
       next = next;
       goes = goes-by (ground c) l (Takes (a b)) next refl plain (behind (a b) l.reached) (λ t there. there);
@@ -105,16 +119,19 @@ module _ (c : Cluster) (m : ObjSide) (l : Ledger) (accounts : ObjAccounts c m l.
           (reaches l.records (m.half.holds device name.hash) w b base_is fits))
           (λ d h away x fit. fits-reach c l.records l.reached (a b) d h away x fit);
       tables = refl;
+      news = (device, record { name = name; write = w }) ∷ [];
+      known = known;
+      asked = λ before so. asked-same c false before l.asked so;
     }
       where
         next : Ledger
         next = record l { reached = a b ∷ l.reached }
 
     -- one that puts nothing and deletes nothing
-    pub touches : (w : Write) → base_at w.time w.kind ≡ None
+    pub touches : (asks : Bool) (w : Write) → base_at w.time w.kind ≡ None
         → after.half.holds device name.hash ≡ with_write (m.half.holds device name.hash) [] w → Known (record { name = name; write = w } ∷ [])
-        → ObjNext c l after
-    touches w none is known = record {
+        → ObjNext c m l asks after
+    touches asks w none is known = record {
       next = l;
       goes = goes-nowhere (ground c) l;
       accounts = turned c m l.records l.reached accounts device name.hash after tell others l.records l.reached
@@ -128,7 +145,15 @@ module _ (c : Cluster) (m : ObjSide) (l : Ledger) (accounts : ObjAccounts c m l.
           }))
           (λ d h away x fit. fit);
       tables = refl;
+      news = (device, record { name = name; write = w }) ∷ [];
+      known = known;
+      asked = λ before so. by asks before so;
     }
+      where
+        by : (b : Bool) (before : List (ℕ × KnownWrite)) → IsKnown c before l.asked
+            → IsKnown c (before ++ (if b then (device, record { name = name; write = w }) ∷ [] else [])) l.asked
+        by true before so = known-beside c before l.asked so device name w named none
+        by false before so = asked-same c false before l.asked so
 
     -- ---- what a client asks for
 
@@ -148,17 +173,20 @@ module _ (c : Cluster) (m : ObjSide) (l : Ledger) (accounts : ObjAccounts c m l.
           (λ t there. there)
 
       pub filing : after.half.holds device name.hash ≡ with_filed (m.half.holds device name.hash) (new_record name (base_time b) ∷ []) → Known []
-          → ObjNext c l after
+          → ObjNext c m l true after
       filing is known = record {
         next = mid;
         goes = files;
         accounts = sets (key_of (new_record name (base_time b))) (Some (new_record name (base_time b))) refl own-name is known;
         tables = refl;
+        news = [];
+        known = known;
+        asked = λ before so. asked-same c true before l.asked so;
       }
 
       pub asks : is_before (standing_time (outline_of (m.half.holds device name.hash).state)) (base_time b) ≡ true
           → after.half.holds device name.hash ≡ with_write (m.half.holds device name.hash) (new_record name (base_time b) ∷ []) w
-          → Known (record { name = name; write = w } ∷ []) → ObjNext c l after
+          → Known (record { name = name; write = w } ∷ []) → ObjNext c m l true after
       asks before is known = record {
         next = next;
         goes = goes-on (ground c) l mid next files
@@ -175,6 +203,9 @@ module _ (c : Cluster) (m : ObjSide) (l : Ledger) (accounts : ObjAccounts c m l.
             (fits-apart l.records device (key_of (new_record name (base_time b))) (Some (new_record name (base_time b))) c l.reached name.hash refl d h away x
             fit));
         tables = refl;
+        news = (device, record { name = name; write = w }) ∷ [];
+        known = known;
+        asked = λ old so. known-more c old l.asked so device name w named b base_is;
       }
         where
           next : Ledger

@@ -52,7 +52,7 @@ unbeaten t false u false is = grind (arith, nat_tests)
 covers-below : (b s : Base) → is_above b s ≡ true → covers b s ≡ true
 covers-below b s = beaten (base_time s) (is_deletion s) (base_time b) (is_deletion b)
 
-covers-not-above : (b s : Base) → is_above b s ≡ false → covers s b ≡ true
+pub covers-not-above : (b s : Base) → is_above b s ≡ false → covers s b ≡ true
 covers-not-above b s = unbeaten (base_time s) (is_deletion s) (base_time b) (is_deletion b)
 
 no-later : (t : ℕ) (d : Bool) (u : ℕ) (e : Bool) → counts t d u e ≡ true → u ≤ t

@@ -1,5 +1,5 @@
 -- What the ledger makes of each kind of step at an object.
-use Rattle.std.proofs.Common.{◌≡◌, ℕ, true, List, [], ◌∷◌, ◌++◌, map, Option, None, Some, ◌⊎◌, inl, inr, refl, sym, ◌∙◌, ap, subst}
+use Rattle.std.proofs.Common.{◌≡◌, ℕ, Bool, true, false, List, [], ◌∷◌, ◌++◌, map, Option, None, Some, ◌⊎◌, inl, inr, refl, sym, ◌∙◌, ap, subst}
 use Rattle.std.specs.Bool.{⊤}
 use Rattle.std.specs.List.{Contains, fold}
 use Rattle.sw_hashpath.specs.Places.{IsPlaceOf}
@@ -31,11 +31,12 @@ use Rattle.sw_listing_laws.proofs.Accounts.{Fits, HasReached, ObjAccounts}
 use Rattle.sw_listing_laws.proofs.Going.{goes-by, goes-on}
 use Rattle.sw_listing_laws.proofs.Grounds.{ground, place-of}
 use Rattle.sw_listing_laws.proofs.Making.{IsMadeOf, Turns}
-use Rattle.sw_listing_laws.proofs.Objects.{ObjNext, asks, filing, sets, still, takes, touches}
+use Rattle.sw_listing_laws.proofs.Objects.{ObjNext, asked-same, asks, filing, sets, still, takes, touches}
 use Rattle.sw_listing_laws.proofs.Recording.{IsFound, MaySet, dropping, each-done, marking}
 use Rattle.sw_listing_laws.proofs.Setting.{set-is, set_at, set_value}
 use Rattle.sw_listing_laws.proofs.Standing.{all-earlier}
 use Rattle.sw_listing_laws.proofs.Writing.{Filing, Nothing, WriteLeaves, Writing, allowed-deletion, allowed-put, filing-write, plain-write}
+use Rattle.sw_listing_laws.specs.Asking.{is_asked}
 use Rattle.sw_listing_laws.specs.Plain.{Cluster, IsNamed}
 
 -- ---- what is asked of a step
@@ -69,16 +70,16 @@ module _ (c : Cluster) (m : ObjSide) (l : Ledger) (accounts : ObjAccounts c m l.
 
     -- ---- writes
 
-    none : t.made ≡ [] → ObjNext c l after
-    none is =
-        still c m l accounts device name named after tell t.others (t.here ∙ ap (fold obj_applied (m.half.holds device name.hash)) is)
+    none : (asks : Bool) → t.made ≡ [] → ObjNext c m l asks after
+    none asks is =
+        still c m l accounts device name named after tell t.others asks (t.here ∙ ap (fold obj_applied (m.half.holds device name.hash)) is)
         (known-by [] (ap (made_writes name) is))
 
     asked : (b : Base) (w : Write) → base_at w.time w.kind ≡ Some b
         → is_before (standing_time (outline_of (m.half.holds device name.hash).state)) (base_time b) ≡ true
-        → WriteLeaves (m.half.holds device name.hash) name (new_record name (base_time b) ∷ []) w t.made → ObjNext c l after
+        → WriteLeaves (m.half.holds device name.hash) name (new_record name (base_time b) ∷ []) w t.made → ObjNext c m l true after
     asked b w base_is before (Nothing left) =
-        still c m l accounts device name named after tell t.others (t.here ∙ left.0) (known-by [] left.1)
+        still c m l accounts device name named after tell t.others true (t.here ∙ left.0) (known-by [] left.1)
     asked b w base_is before (Filing left) =
         filing c m l accounts device name named after tell t.others b w base_is (t.here ∙ left.0) (known-by [] left.1)
     asked b w base_is before (Writing left) =
@@ -86,17 +87,25 @@ module _ (c : Cluster) (m : ObjSide) (l : Ledger) (accounts : ObjAccounts c m l.
         (known-by (record { name = name; write = w } ∷ []) left.1)
 
     came : (w : Write) → ((b : Base) → base_at w.time w.kind ≡ Some b → HasReached l name.hash b)
-        → WriteLeaves (m.half.holds device name.hash) name [] w t.made → ObjNext c l after
-    came w plain (Nothing left) = still c m l accounts device name named after tell t.others (t.here ∙ left.0) (known-by [] left.1)
-    came w plain (Filing left) = still c m l accounts device name named after tell t.others (t.here ∙ left.0) (known-by [] left.1)
+        → WriteLeaves (m.half.holds device name.hash) name [] w t.made → ObjNext c m l false after
+    came w plain (Nothing left) = still c m l accounts device name named after tell t.others false (t.here ∙ left.0) (known-by [] left.1)
+    came w plain (Filing left) = still c m l accounts device name named after tell t.others false (t.here ∙ left.0) (known-by [] left.1)
     came w plain (Writing left) = by (base_at w.time w.kind) refl
       where
         known : after.known ≡ m.known ++ (device, record { name = name; write = w }) ∷ []
         known = known-by (record { name = name; write = w } ∷ []) left.1
 
-        by : (o : Option Base) → base_at w.time w.kind ≡ o → ObjNext c l after
-        by None is = touches c m l accounts device name named after tell t.others w is (t.here ∙ left.0) known
+        by : (o : Option Base) → base_at w.time w.kind ≡ o → ObjNext c m l false after
+        by None is = touches c m l accounts device name named after tell t.others false w is (t.here ∙ left.0) known
         by (Some b) is = takes c m l accounts device name named after tell t.others w b is (plain b is) (t.here ∙ left.0) known
+
+    -- what a client asks for that puts nothing and deletes nothing
+    noted : (w : Write) → base_at w.time w.kind ≡ None → WriteLeaves (m.half.holds device name.hash) name [] w t.made → ObjNext c m l true after
+    noted w no_base (Nothing left) = still c m l accounts device name named after tell t.others true (t.here ∙ left.0) (known-by [] left.1)
+    noted w no_base (Filing left) = still c m l accounts device name named after tell t.others true (t.here ∙ left.0) (known-by [] left.1)
+    noted w no_base (Writing left) =
+        touches c m l accounts device name named after tell t.others true w no_base (t.here ∙ left.0)
+        (known-by (record { name = name; write = w } ∷ []) left.1)
 
     -- ---- records
 
@@ -112,7 +121,7 @@ module _ (c : Cluster) (m : ObjSide) (l : Ledger) (accounts : ObjAccounts c m l.
 
       marks : (to : ℕ) → CanHear c l device (key_of filed) to
           → fold obj_applied (m.half.holds device name.hash) t.made ≡ set_value (m.half.holds device name.hash) (key_of stood) (Some (marked stood to))
-          → made_writes name t.made ≡ [] → ObjNext c l after
+          → made_writes name t.made ≡ [] → ObjNext c m l false after
       marks to can left unmade = record {
         next = next;
         goes = goes-on (ground c) l mid next
@@ -122,6 +131,9 @@ module _ (c : Cluster) (m : ObjSide) (l : Ledger) (accounts : ObjAccounts c m l.
         accounts = sets c m l accounts device name named after tell t.others (key_of stood) (Some (marked stood to)) own names (t.here ∙ left)
             (known-by [] unmade);
         tables = refl;
+        news = [];
+        known = known-by [] unmade;
+        asked = λ before so. asked-same c false before l.asked so;
       }
         where
           h : Heard
@@ -145,13 +157,16 @@ module _ (c : Cluster) (m : ObjSide) (l : Ledger) (accounts : ObjAccounts c m l.
       drops : (all : List ℕ) → IsNamed c filed.name → AreAll c filed.name all
           → (are_done all stood.done ≡ true) ⊎ (is_gone (m.half.holds device name.hash).state filed.time ≡ true)
           → fold obj_applied (m.half.holds device name.hash) t.made ≡ set_value (m.half.holds device name.hash) (key_of stood) None
-          → made_writes name t.made ≡ [] → ObjNext c l after
+          → made_writes name t.made ≡ [] → ObjNext c m l false after
       drops all names are may left unmade = record {
         next = next;
         goes = goes-by (ground c) l (Drops device stood new) next (stands, can may, set-is l.records device (key_of stood) None, refl) tt
             (λ x there. there) (λ x there. there);
         accounts = sets c m l accounts device name named after tell t.others (key_of stood) None own (λ f same. cc) (t.here ∙ left) (known-by [] unmade);
         tables = refl;
+        news = [];
+        known = known-by [] unmade;
+        asked = λ before so. asked-same c false before l.asked so;
       }
         where
           new : ℕ → Records
@@ -175,45 +190,48 @@ module _ (c : Cluster) (m : ObjSide) (l : Ledger) (accounts : ObjAccounts c m l.
 
   -- ---- each kind of step
 
-  pub stepped : (change : Change) → Turns m device name change after → IsFair c l device name change → ObjNext c l after
+  pub stepped : (change : Change) → Turns m device name change after → IsFair c l device name change → ObjNext c m l (is_asked change) after
   stepped (Put time content none_match) t fair = by t.outcome
     where
-      by : (t.made ≡ []) ⊎ IsMadeOf obj_rules (m.half.holds device name.hash) name.hash (Writes name (Put time content none_match)) t.made → ObjNext c l after
-      by (inl is) = none (Put time content none_match) t is
+      by : (t.made ≡ []) ⊎ IsMadeOf obj_rules (m.half.holds device name.hash) name.hash (Writes name (Put time content none_match)) t.made
+          → ObjNext c m l true after
+      by (inl is) = none (Put time content none_match) t true is
       by (inr some) =
           asked (Put time content none_match) t (bases.Put time content) (write_of (Put time content none_match)) refl
           (allowed-put (m.half.holds device name.hash).state time content none_match some.allowed)
           (filing-write (m.half.holds device name.hash) name (write_of (Put time content none_match)) t.made (new_record name time) some.part)
   stepped (Delete time if_delete_at) t fair = by t.outcome
     where
-      by : (t.made ≡ []) ⊎ IsMadeOf obj_rules (m.half.holds device name.hash) name.hash (Writes name (Delete time if_delete_at)) t.made → ObjNext c l after
-      by (inl is) = none (Delete time if_delete_at) t is
+      by : (t.made ≡ []) ⊎ IsMadeOf obj_rules (m.half.holds device name.hash) name.hash (Writes name (Delete time if_delete_at)) t.made
+          → ObjNext c m l true after
+      by (inl is) = none (Delete time if_delete_at) t true is
       by (inr some) =
           asked (Delete time if_delete_at) t (bases.Del time) (write_of (Delete time if_delete_at)) refl
           (allowed-deletion (m.half.holds device name.hash).state time if_delete_at some.allowed)
           (filing-write (m.half.holds device name.hash) name (write_of (Delete time if_delete_at)) t.made (new_record name time) some.part)
   stepped (Post time heads) t fair = by t.outcome
     where
-      by : (t.made ≡ []) ⊎ IsMadeOf obj_rules (m.half.holds device name.hash) name.hash (Writes name (Post time heads)) t.made → ObjNext c l after
-      by (inl is) = none (Post time heads) t is
+      by : (t.made ≡ []) ⊎ IsMadeOf obj_rules (m.half.holds device name.hash) name.hash (Writes name (Post time heads)) t.made → ObjNext c m l true after
+      by (inl is) = none (Post time heads) t true is
       by (inr some) =
-          came (Post time heads) t (write_of (Post time heads)) (λ b is. cc)
+          noted (Post time heads) t (write_of (Post time heads)) refl
           (plain-write (m.half.holds device name.hash) name (write_of (Post time heads)) t.made some.part)
   stepped (Receive write) t fair = by t.outcome
     where
-      by : (t.made ≡ []) ⊎ IsMadeOf obj_rules (m.half.holds device name.hash) name.hash (Writes name (Receive write)) t.made → ObjNext c l after
-      by (inl is) = none (Receive write) t is
+      by : (t.made ≡ []) ⊎ IsMadeOf obj_rules (m.half.holds device name.hash) name.hash (Writes name (Receive write)) t.made → ObjNext c m l false after
+      by (inl is) = none (Receive write) t false is
       by (inr some) = came (Receive write) t write fair (plain-write (m.half.holds device name.hash) name write t.made some.part)
   stepped (MarkRecord filed to) t fair = by (marking (m.half.holds device name.hash) name t.made filed to t.outcome)
     where
-      by : MaySet (m.half.holds device name.hash) name t.made filed (λ stood. ⊤) (λ stood. Some (marked stood to)) → ObjNext c l after
+      by : MaySet (m.half.holds device name.hash) name t.made filed (λ stood. ⊤) (λ stood. Some (marked stood to)) → ObjNext c m l false after
       by (inl same, unmade) =
-          still c m l accounts device name named after tell t.others (t.here ∙ same) (known-by (MarkRecord filed to) t [] unmade)
+          still c m l accounts device name named after tell t.others false (t.here ∙ same) (known-by (MarkRecord filed to) t [] unmade)
       by (inr set, unmade) = marks (MarkRecord filed to) t filed set.stood set.is_found to fair set.left unmade
   stepped (DropRecord filed all) t fair = by (dropping (m.half.holds device name.hash) name t.made filed all t.outcome)
     where
       by : MaySet (m.half.holds device name.hash) name t.made filed
-          (λ stood. (are_done all stood.done ≡ true) ⊎ (is_gone (m.half.holds device name.hash).state filed.time ≡ true)) (λ stood. None) → ObjNext c l after
+          (λ stood. (are_done all stood.done ≡ true) ⊎ (is_gone (m.half.holds device name.hash).state filed.time ≡ true)) (λ stood. None)
+          → ObjNext c m l false after
       by (inl same, unmade) =
-          still c m l accounts device name named after tell t.others (t.here ∙ same) (known-by (DropRecord filed all) t [] unmade)
+          still c m l accounts device name named after tell t.others false (t.here ∙ same) (known-by (DropRecord filed all) t [] unmade)
       by (inr set, unmade) = drops (DropRecord filed all) t filed set.stood set.is_found all fair.0 fair.1 set.holds set.left unmade
