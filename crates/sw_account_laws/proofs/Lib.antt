@@ -1,0 +1,11 @@
+pub mod Going
+pub mod Among
+pub mod Reaching
+pub mod Collecting
+pub mod Beginning
+pub mod Starting
+pub mod Remembering
+pub mod Running
+pub mod Ending
+pub mod Staying
+pub mod Listing
