@@ -1,0 +1,4 @@
+pub mod Looking
+pub mod Refusals
+pub mod Replicas
+pub mod Showing
