@@ -1,9 +1,7 @@
 -- Every reply that was given while connections were served is borne out by what rests at the end: what the nodes were behind it goes on to the end, and what
 -- stands only grows.
-use Rattle.std.proofs.Common.{◌≡◌, ℕ, ◌<◌, Bool, true, false, List, [], ◌∷◌, ◌++◌, length, Option, Result, Ok, Err, ◌⊎◌, inl, inr}
+use Rattle.std.proofs.Common.{◌≡◌, ℕ, ◌<◌, Bool, true, false, List, ◌++◌, length, Option, ◌⊎◌, inl, inr}
 use Rattle.std.proofs.Common.{refl, sym, ◌∙◌, ap, subst, arith, MatchBool}
-use Rattle.std.proofs.lemmas.List.Elements.{All-append, All-nil}
-use Rattle.std.specs.Bool.{⊤}
 use Rattle.std.specs.List.{All}
 use Rattle.sw_container_server.specs.Asking as container_asking
 use Rattle.sw_container_server.specs.Laws.{AsksForOne as AsksForOneContainer}
@@ -45,21 +43,16 @@ use Rattle.sw_reply_laws.proofs.Running.{changes-stand-on, writes-stand-on}
 use Rattle.sw_reply_laws.specs.Containers.{TablesBearOut}
 use Rattle.sw_reply_laws.specs.Objects.{BearsOut}
 use Rattle.sw_ring.specs.declared.ring.Ring.{Ring}
-use Rattle.sw_session.specs.Closing.{asks_to_close_of}
 use Rattle.sw_state.specs.States.{state_of, writes_of}
 use Rattle.sw_state.specs.declared.state.State.{State}
 use Rattle.sw_volume.specs.Tree.{Folders}
-use Rattle.sw_cluster.proofs.Connecting.{answers-keeps}
-use Rattle.sw_cluster.proofs.Found.{IsFound, earlier, later, session-found}
-use Rattle.sw_cluster.proofs.Served.{Goes, all-go, first-go, goes-join, goes-same, served-one}
-use Rattle.sw_cluster.specs.Answered.{Answered, AnswersStand, ContainerReplyStands, ObjectReplyStands, ReplyStands, answered_all, answered_by}
-use Rattle.sw_cluster.specs.Answered.{answered_one, answered_to, before_restarting, before_wanting}
-use Rattle.sw_cluster.specs.Connections.{DoorAnswers, NeverHalts}
+use Rattle.sw_cluster.proofs.Found.{IsFound}
+use Rattle.sw_cluster.proofs.FoundServing.{all-answers-found, answer-goes}
+use Rattle.sw_cluster.proofs.Served.{Goes}
+use Rattle.sw_cluster.specs.Answered.{Answered, AnswersStand, ContainerReplyStands, ObjectReplyStands, ReplyStands}
+use Rattle.sw_cluster.specs.Connections.{DoorAnswers}
 use Rattle.sw_cluster.specs.Limits.{serve_bytes}
-use Rattle.sw_cluster.specs.Rounds.{EndsConnections, EndsServing, HasServed, Round, ServesAll, ServesOne, StopsRestarting, StopsWaiting, read_in, written_in}
-use Rattle.sw_cluster.specs.Told.{Counts, DoorsTold, Output, read_of, written_of}
-use Rattle.sw_cluster.specs.declared.rounds.ServeFault.{ServeFault}
-use Rattle.sw_cluster.specs.declared.rounds.ServeFault.TheVariants as serve_faults
+use Rattle.sw_cluster.specs.Rounds.{HasServed}
 
 -- a reply of want of memory tells nothing of a write
 pub wanting-object : (response : Response) (change : Change) (s : State) → response ≡ bare 500 → BearsOut response (write_of change) s
@@ -78,86 +71,14 @@ module _ {V K : Type 0} (tells : V → Bool) (files : V → Folders) (faults : V
   abbrev Going : AllNodes V K → AllNodes V K → Type 0
   Going w after = Goes tells files faults keeps ring w after
 
-  going-same : (w after : AllNodes V K) → after ≡ w → Going w after
-  going-same w after same = goes-same tells files faults keeps ring w after same
-
-  going-on : (a b c : AllNodes V K) → Going a b → Going b c → Going a c
-  going-on a b c first next = goes-join tells files faults keeps ring a b c first next
-
   abbrev May : AllNodes V K → Request → ℕ → Response → AllNodes V K → Type 0
   May w r moment response after = DoorAnswers see ring w r moment response after
 
-  answer-goes : (w after : AllNodes V K) (r : Request) (moment : ℕ) (response : Response) → May w r moment response after → Going w after
-  answer-goes w after r moment response may =
-      let kept = answers-keeps see ring w after r moment response may in record { nodes = kept.nodes; runs = kept.runs refl }
+  went-by : (a : Answered (AllNodes V K)) (moment : ℕ) → May a.before a.request moment a.response a.after → Going a.before a.after
+  went-by a moment may = answer-goes tells files faults keeps ring a.before a.after a.request moment a.response may
 
-  abbrev pub IsFoundIn : AllNodes V K → AllNodes V K → Answered → Type 0
-  IsFoundIn start after a = IsFound May Going start after a
-
-  earlier-in : (first start after : AllNodes V K) → Going first start → (list : List Answered) → All (IsFoundIn start after) list
-      → All (IsFoundIn first after) list
-  earlier-in first start after goes list all = earlier asks_to_close_of May NeverHalts Going (λ w. going-same w w refl) going-on
-      (λ w r moment response after may. answer-goes w after r moment response may) (λ w r moment fault after halt. absurd halt) first start after goes list all
-
-  later-in : (start after end : AllNodes V K) → Going after end → (list : List Answered) → All (IsFoundIn start after) list → All (IsFoundIn start end) list
-  later-in start after end goes list all = later asks_to_close_of May NeverHalts Going (λ w. going-same w w refl) going-on
-      (λ w r moment response after may. answer-goes w after r moment response may) (λ w r moment fault after halt. absurd halt) start after end goes list all
-
-  -- ---- in all connections
-
-  one-found : (w : AllNodes V K) (r : Round) (after : AllNodes V K) (one : ServesOne tells files faults keeps ring w r after)
-      → All (IsFoundIn w after) (answered_one tells files faults keeps ring w r after one)
-  one-found w r after one =
-      session-found asks_to_close_of May NeverHalts Going (λ w. going-same w w refl) going-on
-      (λ w r moment response after may. answer-goes w after r moment response may) (λ w r moment fault after halt. absurd halt)
-      w (read_of (read_in r)) (written_of (written_in r)) one.answered.moments after one.answered.ends.ended one.answered.ends.session
-
-  one-goes : (w : AllNodes V K) (r : Round) (after : AllNodes V K) → ServesOne tells files faults keeps ring w r after → Going w after
-  one-goes w r after one = served-one tells files faults keeps ring w after r.moment (read_in r) (written_in r) r.finished.status one.answered
-
-  all-found : (w : AllNodes V K) (rounds : List Round) (after : AllNodes V K) (serves : ServesAll tells files faults keeps ring w rounds after)
-      → All (IsFoundIn w after) (answered_all tells files faults keeps ring w rounds after serves)
-  all-found w [] after serves = All-nil (IsFoundIn w after)
-  all-found w (r ∷ rounds) after serves =
-      let again = first-go tells files faults keeps ring (length ring.devices) serves.0 serves.1 serves.3 in
-      let rest = all-go tells files faults keeps ring serves.1 after rounds serves.4 in
-      All-append (IsFoundIn w after) (answered_one tells files faults keeps ring w r serves.0 serves.2)
-      (answered_all tells files faults keeps ring serves.1 rounds after serves.4)
-      (later-in w serves.0 after (going-on serves.0 serves.1 after again rest) _ (one-found w r serves.0 serves.2))
-      (earlier-in w serves.1 after (going-on w serves.0 serves.1 (one-goes w r serves.0 serves.2) again) _ (all-found serves.1 rounds after serves.4))
-
-  module _ (connections : ℕ) (began after : AllNodes V K) (a b : DoorsTold) (t u : Option (List ℕ)) (s x : Counts) where
-    restarting-found : (stops : StopsRestarting tells files faults keeps ring connections began after a b t u s x)
-        → All (IsFoundIn began after) (before_restarting tells files faults keeps ring connections began after a b t u s x stops)
-    restarting-found stops =
-        let again = first-go tells files faults keeps ring stops.device stops.served after stops.restarted in
-        All-append (IsFoundIn began after) (answered_all tells files faults keeps ring began stops.rounds stops.then stops.serves)
-        (answered_one tells files faults keeps ring stops.then stops.last stops.served stops.one)
-        (later-in began stops.then after (going-on stops.then stops.served after (one-goes stops.then stops.last stops.served stops.one) again) _
-        (all-found began stops.rounds stops.then stops.serves))
-        (earlier-in began stops.then after (all-go tells files faults keeps ring began stops.then stops.rounds stops.serves) _
-        (later-in stops.then stops.served after again _ (one-found stops.then stops.last stops.served stops.one)))
-
-    connections-found : (came : Result ⊤ ServeFault) (ends : EndsConnections tells files faults keeps ring connections began after a b t u s x came)
-        → All (IsFoundIn began after) (answered_by tells files faults keeps ring connections began after a b t u s x came ends)
-    connections-found (Ok done) all = all-found began all.rounds after all.serves
-    connections-found (Err serve_faults.Door) ends = all-found began ends.0.rounds after ends.0.serves
-    connections-found (Err serve_faults.Store) ends = restarting-found ends.0
-    connections-found (Err serve_faults.NoMemory) ends = by ends.0
-      where
-        by : (why : StopsWaiting tells files faults keeps ring connections began after a b t u s x
-            ⊎ StopsRestarting tells files faults keeps ring connections began after a b t u s x)
-            → All (IsFoundIn began after) (before_wanting tells files faults keeps ring connections began after a b t u s x why)
-        by (inl waits) = all-found began waits.rounds after waits.serves
-        by (inr stops) = restarting-found stops
-    connections-found (Err serve_faults.Write) ends = All-nil (IsFoundIn began after)
-
-  all-answers-found : (port connections : ℕ) (began after : AllNodes V K) (a b : DoorsTold) (out : Output) (t u : Option (List ℕ)) (s x : Counts)
-      (ended : Result ⊤ ServeFault) (ends : EndsServing tells files faults keeps ring port connections began after a b out t u s x ended)
-      → All (IsFoundIn began after) (answered_to tells files faults keeps ring port connections began after a b out t u s x ended ends)
-  all-answers-found port connections began after a b out t u s x ended (inl mute) = All-nil (IsFoundIn began after)
-  all-answers-found port connections began after a b out t u s x ended (inr over) =
-      connections-found connections began after _ b t u s x over.came over.served
+  abbrev IsFoundIn : AllNodes V K → AllNodes V K → Answered (AllNodes V K) → Type 0
+  IsFoundIn start after a = IsFound May Going Going start after a
 
   -- ---- what an answer leaves
 
@@ -226,11 +147,11 @@ module _ {V K : Type 0} (tells : V → Bool) (files : V → Folders) (faults : V
         stood : Option Tables
         stood = (see new).containers.holds device place
 
-        served : (given : ContAsked) → given ≡ container_asks.Change device place change → containers.IsServed see old new given response
+        served : (given : ContAsked) → given ≡ container_asks.Change device place change → containers.IsServed see ring old new given response
             → TablesBearOut response change stood
         served given is done =
             changes-stand (see old) (see new) device place change response refl
-            (subst (λ (x : ContAsked). containers.IsServed see old new x response) is done) told
+            (subst (λ (x : ContAsked). containers.IsServed see ring old new x response) is done) told
 
         by : (control replication container : Bool) → control ≡ false → replication ≡ false → container ≡ true
             → MatchBool control ((new ≡ old) × ((response ≡ bare 404) ⊎ (response ≡ bare 500)))
@@ -289,33 +210,35 @@ module _ {V K : Type 0} (tells : V → Bool) (files : V → Folders) (faults : V
     tables-hold device place here told =
         (served.kept device place here).stands told ∙ ap (λ (h : ContHalf). h.holds device place) (sym served.stands.containers)
 
-    object-rests : (a : Answered) → IsFoundIn began after a → is_control a.request.path ≡ false → is_replication_of a.request ≡ false
+    object-rests : (a : Answered (AllNodes V K)) → IsFoundIn began after a → is_control a.request.path ≡ false
+        → is_replication_of a.request ≡ false
         → ObjectReplyStands tells files faults keeps ring began rests a
     object-rests a f no_control no_replica device name change here for_objects asked told =
-        let told_before = object-told began f.before f.from device name told in
-        let told_then = object-told f.before f.then (answer-goes f.before f.then a.request f.moment a.response f.answer) device name told_before in
-        let then = object-then f.before f.then a.request f.moment a.response f.answer no_control no_replica device name change for_objects asked
+        let told_before = object-told began a.before f.from device name told in
+        let told_then = object-told a.before a.after (went-by a f.moment f.answer) device name told_before in
+        let then = object-then a.before a.after a.request f.moment a.response f.answer no_control no_replica device name change for_objects asked
         told_before in (
           (served.stored device name.hash here).part,
           (served.stored device name.hash here).resting,
           subst (λ (s : State). BearsOut a.response (write_of change) s) (sym (files-hold device name here told))
-              (object-on f.then after f.to device name told_then a.response change then),
+              (object-on a.after after f.to device name told_then a.response change then),
         )
 
-    container-rests : (a : Answered) → IsFoundIn began after a → is_control a.request.path ≡ false → is_replication_of a.request ≡ false
+    container-rests : (a : Answered (AllNodes V K)) → IsFoundIn began after a → is_control a.request.path ≡ false
+        → is_replication_of a.request ≡ false
         → ContainerReplyStands tells files faults keeps ring began rests a
     container-rests a f no_control no_replica device place change here for_containers asked told =
-        let told_before = container-told began f.before f.from device place told in
-        let told_then = container-told f.before f.then (answer-goes f.before f.then a.request f.moment a.response f.answer) device place told_before in
-        let then = container-then f.before f.then a.request f.moment a.response f.answer no_control no_replica device place change for_containers asked
+        let told_before = container-told began a.before f.from device place told in
+        let told_then = container-told a.before a.after (went-by a f.moment f.answer) device place told_before in
+        let then = container-then a.before a.after a.request f.moment a.response f.answer no_control no_replica device place change for_containers asked
         told_before in (
           (served.kept device place here).part,
           (served.kept device place here).resting,
           subst (λ (t : Option Tables). TablesBearOut a.response change t) (sym (tables-hold device place here told))
-              (container-on f.then after f.to device place told_then a.response change then),
+              (container-on a.after after f.to device place told_then a.response change then),
         )
 
-    all-rest : (list : List Answered) → All (IsFoundIn began after) list → All (ReplyStands tells files faults keeps ring began rests) list
+    all-rest : (list : List (Answered (AllNodes V K))) → All (IsFoundIn began after) list → All (ReplyStands tells files faults keeps ring began rests) list
     all-rest list all k d within = record {
       object = object-rests _ (all k d within);
       container = container-rests _ (all k d within);
@@ -324,5 +247,5 @@ module _ {V K : Type 0} (tells : V → Bool) (files : V → Folders) (faults : V
   pub answers-stand : (first : V × K → Type 0) → AnswersStand tells files faults keeps ring first
   answers-stand first port connections rests rests_now doors doors_now out clock clock_now stores stores_now status serving =
       all-rest serving.parts serving.over.after rests_now serving.over.served _
-      (all-answers-found port connections (opened serve_bytes ring serving.parts) serving.over.after doors doors_now out clock clock_now _ stores_now
-      serving.over.ended serving.over.ends)
+      (all-answers-found tells files faults keeps ring port connections (opened serve_bytes ring serving.parts) serving.over.after doors doors_now out clock
+      clock_now _ stores_now serving.over.ended serving.over.ends)

@@ -58,7 +58,7 @@ use Rattle.sw_state.specs.declared.state.State.{State}
 use Rattle.sw_step.specs.Steps.{added_by}
 use Rattle.sw_volume.specs.Tree.{Folders}
 use Rattle.sw_cluster.proofs.Answered.{wanting-container, wanting-object}
-use Rattle.sw_cluster.proofs.Found.{IsFound, session-found}
+use Rattle.sw_cluster.proofs.Found.{GoesByAnswers, IsFound, session-found}
 use Rattle.sw_cluster.specs.Answered.{Answered, ContainerReplyStands, ObjectReplyStands, ReplyStands, SessionAnswersStand}
 use Rattle.sw_cluster.specs.Ending.{IsTrail}
 use Rattle.sw_cluster.specs.Limits.{run_bytes}
@@ -143,6 +143,9 @@ module _ {V K : Type 0} (tells : V → Bool) (files : V → Folders) (faults : V
   grows-by w r moment response after may =
       let went = may.runs (machine_of (see w)) (record { objects = refl; containers = refl }) in (came_in went.0, some-is went.2.kept)
 
+  grows-by-answers : GoesByAnswers May Grows
+  grows-by-answers = record { still = grows-still; join = grows-join; by_answer = grows-by }
+
   grows-halted : (w : AllNodes V K) (r : Request) (moment : ℕ) (fault : ServerFault) (after : AllNodes V K) → Halt w r moment fault after → Grows w after
   grows-halted w r moment fault after halt = ([], ap (λ (x : AllNodes V K). x.lines) halt.up.rest ∙ sym (append-nil w.lines))
 
@@ -157,7 +160,7 @@ module _ {V K : Type 0} (tells : V → Bool) (files : V → Folders) (faults : V
   leaves-line old new line wanting mid (inl is) same = inl (some-is (ap (λ (x : Sight). x.trail) same.same ∙ is))
   leaves-line old new line wanting mid (inr none) same = inr none.0
 
-  module _ (old new : AllNodes V K) (a : Answered) (moment : ℕ) (may : May old a.request moment a.response new)
+  module _ (a : Answered (AllNodes V K)) (moment : ℕ) (may : May a.before a.request moment a.response a.after)
       (no_control : is_control a.request.path ≡ false) (no_replica : is_replication_of a.request ≡ false) where
     -- a change of an object was answered by its line, or by want of memory
     pub record HasLine (device : ℕ) (name : Name) (change : Change) : Type 0 where
@@ -166,7 +169,7 @@ module _ {V K : Type 0} (tells : V → Bool) (files : V → Folders) (faults : V
       pub device_is : line.device ≡ device
       pub event_is : line.event ≡ Changed name change answer
       pub reply : a.response ≡ object_replies.reply_to (object_replies.made_reply (write_of change).kind) answer
-      pub added : new.lines ≡ old.lines ++ line ∷ []
+      pub added : a.after.lines ≡ a.before.lines ++ line ∷ []
 
     object-line : (device : ℕ) (name : Name) (change : Change) → is_for_containers a.request ≡ false
         → object_asking.IsAsked ring a.request (object_asks.Change device name change)
@@ -174,31 +177,31 @@ module _ {V K : Type 0} (tells : V → Bool) (files : V → Folders) (faults : V
     object-line device name change for_objects asked =
         by (is_control a.request.path) (is_replication_of a.request) (is_for_containers a.request) no_control no_replica for_objects may.answers
       where
-        served : objects.IsServed see old new moment (object_asks.Change device name change) a.response
+        served : objects.IsServed see a.before a.after moment (object_asks.Change device name change) a.response
             → HasLine device name change ⊎ (a.response ≡ object_replies.bare 500)
-        served (answer, stepped, is) = from (leaves-line old new line (is_wanting answer) came.0 (came.1).trail came.2)
+        served (answer, stepped, is) = from (leaves-line a.before a.after line (is_wanting answer) came.0 (came.1).trail came.2)
           where
-            came : (mid : Sight) × IsMade Local device name change (see old) answer mid × IsSame mid (see new)
-            came = once (IsMade Local device name change) (see old) answer (see new) stepped.called
+            came : (mid : Sight) × IsMade Local device name change (see a.before) answer mid × IsSame mid (see a.after)
+            came = once (IsMade Local device name change) (see a.before) answer (see a.after) stepped.called
 
             line : Line
             line = record { device = device; link = Local; event = Changed name change answer; added = added_by obj_rules (came.1).step }
 
-            from : Leaves old line new (is_wanting answer) → HasLine device name change ⊎ (a.response ≡ object_replies.bare 500)
+            from : Leaves a.before line a.after (is_wanting answer) → HasLine device name change ⊎ (a.response ≡ object_replies.bare 500)
             from (inl added) = inl (record { answer = answer; line = line; device_is = refl; event_is = refl; reply = is; added = added })
             from (inr wanted) = inr (is ∙ wants answer (object_replies.made_reply (write_of change).kind) wanted)
 
         by : (control replication for_containers : Bool) → control ≡ false → replication ≡ false → for_containers ≡ false
-            → MatchBool control (IsControlled tells files faults keeps ring old a.request a.response new)
-            (MatchBool replication (IsCompared tells files faults keeps ring old a.request a.response new)
-            (MatchBool for_containers (IsContained tells files faults keeps ring old a.request a.response new)
-            (IsServedAt tells files faults keeps ring old a.request moment a.response new)))
+            → MatchBool control (IsControlled tells files faults keeps ring a.before a.request a.response a.after)
+            (MatchBool replication (IsCompared tells files faults keeps ring a.before a.request a.response a.after)
+            (MatchBool for_containers (IsContained tells files faults keeps ring a.before a.request a.response a.after)
+            (IsServedAt tells files faults keeps ring a.before a.request moment a.response a.after)))
             → HasLine device name change ⊎ (a.response ≡ object_replies.bare 500)
         by true replication for_containers n p q answered = cc
         by false true for_containers n p q answered = cc
         by false false true n p q answered = cc
         by false false false n p q (inl answered) =
-            served (subst (λ (x : Asked). objects.IsServed see old new moment x a.response)
+            served (subst (λ (x : Asked). objects.IsServed see a.before a.after moment x a.response)
             (one-object-asked ring a.request answered.0 (object_asks.Change device name change) answered.1 asked) answered.2)
         by false false false n p q (inr gave_up) = inr gave_up.0
 
@@ -210,7 +213,7 @@ module _ {V K : Type 0} (tells : V → Bool) (files : V → Folders) (faults : V
       pub device_is : line.device ≡ device
       pub event_is : line.event ≡ AtContainer (cont_events.Changed place change answer) entries
       pub reply : a.response ≡ container_replies.change_reply change answer
-      pub added : new.lines ≡ old.lines ++ line ∷ []
+      pub added : a.after.lines ≡ a.before.lines ++ line ∷ []
 
     container-line : (device : ℕ) (place : Place) (change : ContChange) → is_for_containers a.request ≡ true
         → container_asking.IsAsked ring a.request (container_asks.Change device place change)
@@ -218,12 +221,12 @@ module _ {V K : Type 0} (tells : V → Bool) (files : V → Folders) (faults : V
     container-line device place change for_containers asked =
         by (is_control a.request.path) (is_replication_of a.request) (is_for_containers a.request) no_control no_replica for_containers may.answers
       where
-        served : containers.IsServed see old new (container_asks.Change device place change) a.response
+        served : containers.IsServed see ring a.before a.after (container_asks.Change device place change) a.response
             → HasContLine device place change ⊎ (a.response ≡ object_replies.bare 500)
-        served (answer, stepped, is) = from (leaves-line old new line (is_wanting_cont answer) came.0 (came.1).trail came.2)
+        served (answer, stepped, is) = from (leaves-line a.before a.after line (is_wanting_cont answer) came.0 (came.1).trail came.2)
           where
-            came : (mid : Sight) × IsContMade Local device place change (see old) answer mid × IsSame mid (see new)
-            came = once (IsContMade Local device place change) (see old) answer (see new) stepped.called
+            came : (mid : Sight) × IsContMade Local device place change (see a.before) answer mid × IsSame mid (see a.after)
+            came = once (IsContMade Local device place change) (see a.before) answer (see a.after) stepped.called
 
             entries : List ContEntry
             entries = added_by cont_rules (came.1).step.step
@@ -231,22 +234,22 @@ module _ {V K : Type 0} (tells : V → Bool) (files : V → Folders) (faults : V
             line : Line
             line = record { device = device; link = Local; event = AtContainer (cont_events.Changed place change answer) entries; added = [] }
 
-            from : Leaves old line new (is_wanting_cont answer) → HasContLine device place change ⊎ (a.response ≡ object_replies.bare 500)
+            from : Leaves a.before line a.after (is_wanting_cont answer) → HasContLine device place change ⊎ (a.response ≡ object_replies.bare 500)
             from (inl added) =
                 inl (record { answer = answer; line = line; entries = entries; device_is = refl; event_is = refl; reply = is; added = added })
             from (inr wanted) = inr (is ∙ wants-cont answer change wanted)
 
         by : (control replication container : Bool) → control ≡ false → replication ≡ false → container ≡ true
-            → MatchBool control (IsControlled tells files faults keeps ring old a.request a.response new)
-            (MatchBool replication (IsCompared tells files faults keeps ring old a.request a.response new)
-            (MatchBool container (IsContained tells files faults keeps ring old a.request a.response new)
-            (IsServedAt tells files faults keeps ring old a.request moment a.response new)))
+            → MatchBool control (IsControlled tells files faults keeps ring a.before a.request a.response a.after)
+            (MatchBool replication (IsCompared tells files faults keeps ring a.before a.request a.response a.after)
+            (MatchBool container (IsContained tells files faults keeps ring a.before a.request a.response a.after)
+            (IsServedAt tells files faults keeps ring a.before a.request moment a.response a.after)))
             → HasContLine device place change ⊎ (a.response ≡ object_replies.bare 500)
         by true replication container n p q answered = cc
         by false true container n p q answered = cc
         by false false false n p q answered = cc
         by false false true n p q (inl answered) =
-            served (subst (λ (x : ContAsked). containers.IsServed see old new x a.response)
+            served (subst (λ (x : ContAsked). containers.IsServed see ring a.before a.after x a.response)
             (one-container-asked ring a.request answered.0 (container_asks.Change device place change) answered.1 asked) answered.2)
         by false false true n p q (inr gave_up) = inr gave_up.0
 
@@ -280,18 +283,19 @@ module _ {V K : Type 0} (tells : V → Bool) (files : V → Folders) (faults : V
         goes : HashesGoOn ring_nodes (machine_of (see began)) trail.machine
         goes = hashes-stand ring_nodes (machine_of (see began)) trail.lines trail.machine trail.run
 
-    object-rests : (a : Answered) → IsFound May Grows began after a → is_control a.request.path ≡ false → is_replication_of a.request ≡ false
+    object-rests : (a : Answered (AllNodes V K)) → IsFound May Grows Grows began after a → is_control a.request.path ≡ false
+        → is_replication_of a.request ≡ false
         → ObjectReplyStands tells files faults keeps ring began rests a
     object-rests a f no_control no_replica device name change here for_objects asked told = (
       (trail.stored device name.hash here).part,
       (trail.stored device name.hash here).resting,
-      by (object-line f.before f.then a f.moment f.answer no_control no_replica device name change for_objects asked),
+      by (object-line a f.moment f.answer no_control no_replica device name change for_objects asked),
     )
       where
         stood : State
         stood = holds ring.secrets ring.power (files (trail.stored device name.hash here).part.0) name.hash
 
-        by : HasLine f.before f.then a f.moment f.answer no_control no_replica device name change ⊎ (a.response ≡ object_replies.bare 500)
+        by : HasLine a f.moment f.answer no_control no_replica device name change ⊎ (a.response ≡ object_replies.bare 500)
             → BearsOut a.response (write_of change) stood
         by (inr wanted) = wanting-object a.response change stood wanted
         by (inl l) =
@@ -306,20 +310,21 @@ module _ {V K : Type 0} (tells : V → Bool) (files : V → Folders) (faults : V
           where
             cut : (front : List RunLine) × (behind : List RunLine)
                 × Runs ring_nodes (machine_of (see began)) (front ++ Came l.line ∷ behind) trail.machine
-            cut = line-in f.before f.then l.line l.added f.to
+            cut = line-in a.before a.after l.line l.added f.to
 
-    container-rests : (a : Answered) → IsFound May Grows began after a → is_control a.request.path ≡ false → is_replication_of a.request ≡ false
+    container-rests : (a : Answered (AllNodes V K)) → IsFound May Grows Grows began after a → is_control a.request.path ≡ false
+        → is_replication_of a.request ≡ false
         → ContainerReplyStands tells files faults keeps ring began rests a
     container-rests a f no_control no_replica device place change here for_containers asked told = (
       (trail.kept device place here).part,
       (trail.kept device place here).resting,
-      by (container-line f.before f.then a f.moment f.answer no_control no_replica device place change for_containers asked),
+      by (container-line a f.moment f.answer no_control no_replica device place change for_containers asked),
     )
       where
         stood : Option Tables
         stood = keeps.holds (trail.kept device place here).part.1 place
 
-        by : HasContLine f.before f.then a f.moment f.answer no_control no_replica device place change ⊎ (a.response ≡ object_replies.bare 500)
+        by : HasContLine a f.moment f.answer no_control no_replica device place change ⊎ (a.response ≡ object_replies.bare 500)
             → TablesBearOut a.response change stood
         by (inr wanted) = wanting-container a.response change stood wanted
         by (inl l) =
@@ -333,9 +338,10 @@ module _ {V K : Type 0} (tells : V → Bool) (files : V → Folders) (faults : V
           where
             cut : (front : List RunLine) × (behind : List RunLine)
                 × Runs ring_nodes (machine_of (see began)) (front ++ Came l.line ∷ behind) trail.machine
-            cut = line-in f.before f.then l.line l.added f.to
+            cut = line-in a.before a.after l.line l.added f.to
 
-    all-rest : (list : List Answered) → All (IsFound May Grows began after) list → All (ReplyStands tells files faults keeps ring began rests) list
+    all-rest : (list : List (Answered (AllNodes V K))) → All (IsFound May Grows Grows began after) list
+        → All (ReplyStands tells files faults keeps ring began rests) list
     all-rest list all k d within = record {
       object = object-rests _ (all k d within);
       container = container-rests _ (all k d within);
@@ -344,5 +350,5 @@ module _ {V K : Type 0} (tells : V → Bool) (files : V → Folders) (faults : V
   pub session-answers-stand : (first : V × K → Type 0) → SessionAnswersStand tells files faults keeps ring first
   session-answers-stand first rests rests_now stores stores_now source sink clock clock_now trail status run =
       all-rest run.parts run.over.after rests_now trail.steps run.over.steps run.over.told _
-      (session-found (λ request. false) May Halt Grows grows-still grows-join grows-by grows-halted (opened run_bytes ring run.parts) (read_of source)
-      (written_of sink) trail.moments run.over.after run.over.ends.ended run.over.ends.session)
+      (session-found (λ request. false) May Halt Grows Grows grows-by-answers grows-by-answers grows-halted (opened run_bytes ring run.parts)
+      (read_of source) (written_of sink) trail.moments run.over.after run.over.ends.ended run.over.ends.session)

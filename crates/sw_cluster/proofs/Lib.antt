@@ -3,6 +3,7 @@ mod AnsweredRuns
 mod Composing
 mod Connecting
 mod Found
+mod FoundServing
 mod Holding
 mod Listing
 mod Mapped
@@ -12,6 +13,7 @@ mod ReportLemmas
 mod Rounding
 mod ServeWords
 mod Served
+mod Shown
 mod Storing
 mod Trailing
 mod Undoing

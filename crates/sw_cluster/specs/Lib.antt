@@ -10,6 +10,7 @@ pub mod Locating
 pub mod Opening
 pub mod Report
 pub mod Rounds
+pub mod Shown
 pub mod Statuses
 pub mod Told
 pub mod Whereabouts

@@ -1,8 +1,9 @@
-//! Laws of what commands leave: of what was answered, and of commands that follow each other. Each function does nothing,
+//! Laws of what commands leave and show: of what was answered, and of commands that follow each other. Each function does nothing,
 //! and its clause is the law.
 
 ghost use Rattle.sw_cluster.specs.Answered.{AnswersStand, SessionAnswersStand};
 ghost use Rattle.sw_cluster.specs.Composing.{ObjectsCompose, RunsLead, ServingLeads, TablesCompose};
+ghost use Rattle.sw_cluster.specs.Shown.{ServingShowsExactly, SessionShowsExactly};
 ghost use Rattle.sw_core.specs.Worlds.{keeper_seen};
 ghost use Rattle.sw_ring.specs.declared.ring.Ring.{Ring};
 
@@ -18,6 +19,15 @@ pub fn answers_stand<S: Stores>()
     sw_object_server::laws::asks_for_one();
     sw_container_server::laws::asks_for_one();
 }
+
+/// Whatever a client was shown that lists a container, in a session or on a connection that was served, is exactly what it asks for of the rows of the live
+/// objects, where no record of the container was pending: split or not, and whatever failed, was lost, came again or was restarted before. This holds where the
+/// nodes began sound with an account of what was written before, as they are with none where the stores held nothing, and clients had devices take over only
+/// what some client had written. The nodes are sound again behind each reply, with what came to the account since.
+pub fn listings_are_exact<S: Stores>()
+    ensures sessions { (ring : Ring) → SessionShowsExactly S.V.tells S.V.holds S.V.faults (keeper_seen S.K.tells S.K.holds S.K.faults) ring S.first }
+    ensures serving { (ring : Ring) → ServingShowsExactly S.V.tells S.V.holds S.V.faults (keeper_seen S.K.tells S.K.holds S.K.faults) ring S.first }
+{}
 
 /// A session, and connections that are served, lead from what rested in the stores to what rests then.
 pub fn commands_lead<S: Stores>()

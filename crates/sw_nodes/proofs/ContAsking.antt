@@ -16,8 +16,8 @@ use Rattle.sw_ring.specs.declared.ring.Ring.{Ring}
 abbrev pub LeavesPoints : ContAsked → Type 0
 LeavesPoints (asks.Refused status) = ⊤
 LeavesPoints (asks.Change device place change) = leaves_points change ≡ true
-LeavesPoints (asks.Info device place) = ⊤
-LeavesPoints (asks.List device place query) = ⊤
+LeavesPoints (asks.Info device place replica) = ⊤
+LeavesPoints (asks.List device place query replica) = ⊤
 
 client-leaves : (change : ContChange) → IsOfClient change → leaves_points change ≡ true
 client-leaves (Create time) is = refl
@@ -33,5 +33,5 @@ client-leaves (SetSync device rowid) is = absurd is
 pub asked-leaves : (ring : Ring) (r : Request) (asked : ContAsked) → IsAsked ring r asked → LeavesPoints asked
 asked-leaves ring r (asks.Refused status) is = tt
 asked-leaves ring r (asks.Change device place change) is = client-leaves change (asks_for_few ring r device place change is)
-asked-leaves ring r (asks.Info device place) is = tt
-asked-leaves ring r (asks.List device place query) is = tt
+asked-leaves ring r (asks.Info device place replica) is = tt
+asked-leaves ring r (asks.List device place query replica) is = tt
