@@ -69,9 +69,9 @@ class Ring:
 class Node:
     """A node that runs in a folder. `connections` is how many it serves before it ends by itself."""
 
-    def __init__(self, folder, connections=65536):
+    def __init__(self, folder, connections=65536, ring=RING):
         self.port = free_port()
-        words = [program(), "serve", str(RING), "--port", str(self.port), "--workers", "1", "--connections", str(connections), "--passes", "0"]
+        words = [program(), "serve", str(ring), "--port", str(self.port), "--workers", "1", "--connections", str(connections), "--passes", "0"]
         self.process = subprocess.Popen(words, cwd=folder, stdout=subprocess.PIPE, stderr=subprocess.PIPE)
         atexit.register(self.process.kill)  # so that none is left where a script ends by a fault
         line = self.process.stdout.readline()

@@ -124,21 +124,36 @@ def change_container(nodes, request, device, place, digest):
     return reply(204)
 
 
-def show_container(nodes, request, device, place):
-    query = Query(request.query) if request.method == b"GET" else None
-    replica = request.last(b"x-swc-shard-replica")
-    if replica is not None and (plain_number(replica) is None or int(replica) >= nodes.ring.replicas):
+def replica_of(request, count):
+    """Which of the devices of each shard is asked."""
+    value = request.last(b"x-swc-shard-replica")
+    number = 0 if value is None else plain_number(value)
+    if number is None or number >= count:
         raise Refused(400)
-    container = nodes.place(device, *place)
+    return number
+
+
+def present(container):
     if container.is_absent():
         raise Refused(404)
+    return container
+
+
+def show_container(nodes, request, device, place):
+    query = Query(request.query) if request.method == b"GET" else None
+    replica = replica_of(request, nodes.ring.replicas)
+    container = present(nodes.place(device, *place))
+    ranges = container.served()
+    shards = [present(nodes.place(nodes.replicas(it.shard)[replica], *it.shard)) for it in ranges]
+    told = container.told(shards)
     if query is None:
-        return reply(204, container.told() + [(b"X-Swc-Hash", container.hash())])
-    entries = query.entries(container.live())
+        return reply(204, told + [(b"X-Swc-Hash", container.hash())])
+    left = [row for found, shard in zip(ranges, shards) for row in shard.live() if found.has(row.name)]
+    entries = query.entries(container.live() + left)
     if query.json:
-        return reply(200, [(b"Content-Type", JSON_TYPE)] + container.told(), json_text([json_entry(it) for it in entries]))
+        return reply(200, [(b"Content-Type", JSON_TYPE)] + told, json_text([json_entry(it) for it in entries]))
     text = b"".join((it if isinstance(it, bytes) else it.name) + b"\n" for it in entries)
-    return reply(200, [(b"Content-Type", TEXT_TYPE)] + container.told(), text) if text else reply(204, container.told())
+    return reply(200, [(b"Content-Type", TEXT_TYPE)] + told, text) if text else reply(204, told)
 
 
 def answer_container(nodes, request, segments):

@@ -11,6 +11,7 @@ ACCOUNTS = [b"a", b"a", b"a", b"b", b".a", "\u00e9".encode()]
 CONTAINERS = [b"c", b"c", b"c", b"d", b"c d", b"."]
 OBJECTS = [b"o", b"o", b"o", b"p", b"p/a", b"p/b", b"p/a/x", b"p0", "p/\U0010ffff".encode(), b"pp", b"p//", b"q", b"q/", b"/", b"//", b"%", b"%41", b"o?x",
            b"o#", b'"', b"\\", b"a b", b"o\x01", b"o\x7f", b"\n", "\u00fc".encode(), "\uffff".encode(), "\U00010000".encode(), b"x" * 1024]
+ROLLED = [b"o", b"p", b"p/", b"p/a", b"p/a/x", b"p/b", b"p/b/x", b"p//", b"p0", b"pp", b"q/", b"q/a"]
 BAD_NAMES = [b"", b"z\0", b"\xff", b"\xc3", b"a/b", b"y" * 256, b"y" * 257, b"y" * 1025, b"y" * 2048, b"y" * 2049]
 TIMES = [b"5", b"5", b"5.0", b"6", b"6.00000", b"7", b"7.5", b"8", b"9", b"00009", b"5.00001", b"4.99999", b"0", b"0.00001", b"9999999999.99999",
          b"0000000007.50000"]
@@ -29,6 +30,7 @@ SPARE = [(b"Host", b"h"), (b"X-Container-Host", b"1.2.3.4:6201"), (b"Range", b"b
          (b"X-Delete-After", b"5"), (b"X-Delete-At-Host", b"h"), (b"X-Swc-Lose", b"x"), (b"Accept", b"application/json"), (b"X-Timestamp-", b"1"),
          (b"Content-MD5", b"x")]
 MESSAGES = [b"1", b"2", b"3", b"4", b"5", b"02", b"999999999"]
+BAD_REPLICAS = [b"00", b"", b"x", b"-1", b"9" * 30, b"01", b"+0", b"0.0", b"0,1"]
 BAD_MESSAGES = [b"0", b"", b"x", b"1234567890", b"000", b"+1"]
 SHARD_TIMES = [b"6", b"6", b"7.5", b"20", b"0", b"9999999999.99999"]
 SHARD_NAMES = [b"1", b"1", b"2", b"2", b"2", b"3", b"01", b"999999999"]
@@ -88,7 +90,7 @@ class Draw:
         self.cuts, self.splits = [], self.weights is SPLITTING
         if self.splits:
             self.accounts, self.containers = [self.one([b"a", b"a", "\u00e9".encode()])], self.containers[:1]
-            self.objects = self.random.sample(sorted(set(OBJECTS)), self.one([2, 4, 5, 5, 6, 8]))
+            self.objects = self.random.sample(sorted(set(OBJECTS)), self.one([2, 4, 5, 5, 6, 8])) if self.chance(65) else self.random.sample(ROLLED, 7)
             self.devices = self.keepers(b"%d" % self.ring.partition(self.ring.hash(self.accounts[0], self.containers[0])))
 
     def one(self, items):
@@ -290,7 +292,7 @@ class Draw:
         else:
             method = self.mostly([b"PUT"] * 3 + [b"DELETE"] * 2 + [b"GET"] * 6 + [b"HEAD"] * 2, METHODS + [b"POST"], 97)
             target += self.query() if method == b"GET" or self.chance(10) else b""
-            fields += [(b"X-Swc-Shard-Replica", self.one([b"0", b"1", b"2", b"3", b"00", b"", b"x", b"-1", b"9" * 30]))] if self.chance(6) else []
+            fields += self.replica() if self.chance(30 if self.splits else 6) else []
         if method in (b"PUT", b"DELETE") or self.chance(5):
             fields += self.when()
         come = b""
@@ -298,6 +300,31 @@ class Draw:
             _, framed, come = self.body()
             fields += framed
         return self.head(method, target, fields) + come
+
+    def replica(self):
+        """The field that says which of the devices of each shard is asked."""
+        known = [b"%d" % it for it in range(self.ring.replicas)]
+        return [(b"X-Swc-Shard-Replica", self.mostly(known, BAD_REPLICAS + [b"%d" % self.ring.replicas], 85 if self.splits else 40))]
+
+    def page_query(self):
+        """A query that mostly nothing refuses: a page that begins or ends at names, at what they roll up to, and right behind them."""
+        near = [*self.objects, *(it[:at + 1] for it in self.objects for at, byte in enumerate(it) if byte in b"/p")]
+        rolled = [it[:at + 1] for it in self.objects for at, byte in enumerate(it) if byte == 0x2f]
+        texts = near + 2 * rolled + [it + b"\0" for it in near] + [it + "\U0010ffff".encode() for it in near] + list(filter(self.utf8, QUERY_TEXTS))
+        kinds = {b"limit": ([b"0"] + [b"1", b"2", b"3"] * 3 + [b"4", b"5", b"10000", b"10001"], 45), b"marker": (texts, 40), b"end_marker": (texts, 20),
+                 b"prefix": (near + [b"p", b"p/", b"q/", b"o", b"/"], 20), b"delimiter": ([b"/"] * 6 + [b"p", b"a", b"o", b"\x7f", b"\0"], 50),
+                 b"reverse": ([b"true", b"on", b"1", b"0"], 35), b"format": ([b"json"], 35)}
+        pairs = [name + b"=" + b"".join(map(self.query_byte, self.one(those))) for name, (those, percent) in kinds.items() if self.chance(percent)]
+        return b"?" + b"&".join(pairs) if pairs else b""
+
+    def looks(self, place):
+        """Looks at a container that may be split: at what is told of it, and at pages of it."""
+        part, found = b"%d" % self.ring.partition(self.ring.hash(*place)), []
+        for _ in range(self.one([1, 2, 3, 5])):
+            method, device = self.one([b"GET"] * 5 + [b"HEAD"]), self.one(self.keepers(part))
+            target = b"/" + b"/".join([device, part, *map(self.spelled, place)]) + (self.page_query() if method == b"GET" else b"")
+            found.append(self.head(method, target, self.replica() if self.chance(60) else []))
+        return b"".join(found)
 
     def used_part(self):
         """The partition of an object that is drawn from."""
@@ -418,16 +445,18 @@ class Draw:
         return self.head(method, target + self.one([b"", b"", b"", b"?x", b"/"] if self.chance(10) else [b""]), fields + self.expectation())
 
     def shard_request(self):
-        """A request that splits a container, or is of a shard; or several that are rarely drawn one after the other."""
-        behind = ["shard"] * 8 + ["gone"] * 2 + ["told", "torn", "torn"] if self.cuts else ["ranges"] * 120
+        """A request that splits a container, or is of a shard or looks over them; or several that are rarely drawn one after the other."""
+        behind = ["shard"] * 8 + ["gone"] * 2 + ["told", "torn", "torn"] + ["looks"] * 14 if self.cuts else ["ranges"] * 120
         kind = self.one(["ranges"] * 4 + ["cleave"] * 20 + ["shards"] * 4 + behind)
         if kind in ("ranges", "cleave", "shards"):
             return self.split_request(kind)
         if kind == "shard":
             return self.request_at(*self.shard_place())
         place = [self.accounts[0], self.containers[0]]
+        if kind == "looks":
+            return self.looks(place)
         if kind == "gone":
-            return self.without_a_shard(self.shard_place()) + self.one([self.cleaving, self.told_deletions])(place)
+            return self.without_a_shard(self.shard_place()) + self.one([self.cleaving, self.told_deletions, self.looks])(place)
         return (self.told_deletions if kind == "told" else self.torn_cleavings)(place)
 
     def odd_request(self):
@@ -496,7 +525,10 @@ class Draw:
         found += [b"GET /.swc/%s/%s HTTP/1.1\r\n\r\n" % (kind, it) for kind in (b"files", b"pending") for it in self.ring.devices]
         cuts = self.cuts[:3] if self.splits else []
         for place in dict.fromkeys(it[:2] for it in cuts):
-            found += [b"GET /.swc/shards/%s/%s HTTP/1.1\r\n\r\n" % (it, b"/".join(map(escaped, place))) for it in self.ring.devices]
+            part, path = b"%d" % self.ring.partition(self.ring.hash(*place)), b"/".join(map(escaped, place))
+            found += [b"GET /.swc/shards/%s/%s HTTP/1.1\r\n\r\n" % (it, path) for it in self.ring.devices]
+            found += [b"%s /%s/%s/%s%s HTTP/1.1\r\nX-Swc-Shard-Replica: %d\r\n\r\n" % (look, it, part, path, query, replica) for it in self.keepers(part)
+                      for replica in range(self.ring.replicas) for look, query in ((b"HEAD", b""), (b"GET", b"?format=json"))]
         for place in dict.fromkeys(tuple(self.shard_of(cut, index)) for cut in cuts for index in range(3)):
             part, path = b"%d" % self.ring.partition(self.ring.hash(*place)), b"/".join(map(escaped, place))
             found += [b"GET /%s/%s/%s?format=json HTTP/1.1\r\n\r\n" % (it, part, path) for it in self.keepers(part)]

@@ -79,9 +79,13 @@ class Container:
     def is_absent(self):
         return self.put_time is None or (self.delete_time is not None and self.delete_time > self.put_time)
 
+    def served(self):
+        """The ranges whose names are left to shards."""
+        return self.split.ranges[:self.split.cursor] if self.split else []
+
     def shard_of(self, name):
         """The shard that a name is left to, or none."""
-        return self.split.shard_of(name) if self.split else None
+        return next((it.shard for it in self.served() if it.has(name)), None)
 
     def own(self):
         """The rows that aren't left to shards."""
@@ -90,9 +94,10 @@ class Container:
     def live(self):
         return [it for it in self.own() if not it.deleted]
 
-    def told(self):
-        return [(b"X-Container-Object-Count", b"%d" % len(self.live())),
-                (b"X-Container-Bytes-Used", b"%d" % min(sum(it.size for it in self.live()), GREATEST_U64)),
+    def told(self, shards):
+        """What HEAD and GET tell, over these shards too, each with all of its rows."""
+        sizes = [it.size for part in (self, *shards) for it in part.live()]
+        return [(b"X-Container-Object-Count", b"%d" % len(sizes)), (b"X-Container-Bytes-Used", b"%d" % min(sum(sizes), GREATEST_U64)),
                 (b"X-Timestamp", normal(self.put_time)), (b"X-Backend-Sharding-State", self.split.told() if self.split else b"unsharded")]
 
     def hash(self):

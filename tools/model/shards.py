@@ -22,9 +22,6 @@ class Split:
     def __init__(self, ranges):
         self.ranges, self.cursor, self.points, self.is_emptied = ranges, 0, {}, False
 
-    def shard_of(self, name):
-        return next((it.shard for it in self.ranges[:self.cursor] if it.has(name)), None)
-
     def told(self):
         return b"sharded" if self.is_emptied else b"sharding"
 
