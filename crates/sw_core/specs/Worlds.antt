@@ -127,6 +127,7 @@ nodes_of devices lock_bits power secrets =
       stripe_lock = stripe_lock_of lock_bits;
       one_stripe = λ device hash. refl;
       within = λ hash. mod_below (partition_of hash power / 2 ^ (power - lock_bits)) (2 ^ lock_bits) (pow_pos lock_bits);
+      ways = [];
     }
 
 -- how many devices may be asked: none while one is out

@@ -41,6 +41,7 @@ silent_nodes = record {
   stripe_lock = λ device stripe. 0;
   one_stripe = λ device hash. refl;
   within = λ hash. pow_pos 0;
+  ways = [];
 }
 
 abbrev pub silent : Sight

@@ -47,6 +47,12 @@ use Rattle.sw_peer.specs.declared.link.Lost.{Lost}
 use Rattle.sw_peer.specs.declared.part_read.PartRead.{PartRead}
 use Rattle.sw_peer.specs.declared.part_read.PartRead.TheVariants.{Base, Files, Hashes, Records, Write}
 
+-- how a door comes to a lock that others come to as well
+pub record Way : Type 0 where
+  pub lock : List ℕ  -- which lock that is
+  pub seats : ℕ  -- how many numbers the lock has, which tell who came
+  pub numbers : List ℕ  -- those that this door comes by
+
 -- what never changes
 pub record Nodes : Type 0 where
   pub devices : ℕ  -- how many nodes there are
@@ -62,6 +68,7 @@ pub record Nodes : Type 0 where
   pub stripe_lock : ℕ → ℕ → ℕ  -- that lock among those of all devices
   pub one_stripe : (device : ℕ) (hash : Hash) → lock device hash ≡ stripe_lock device (stripe hash)
   pub within : (hash : Hash) → stripe hash < 2 ^ lock_bits
+  pub ways : List Way  -- to the locks that the door shares with others; none where it shares none
 
 pub record Sight : Type 0 where
   pub nodes : Nodes
