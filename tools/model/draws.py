@@ -247,8 +247,8 @@ class Draw:
             fields += [(b"If-None-Match", self.one([b"*", b"*", b'"*"', b"x", b""]))] if self.chance(10) else []
         if self.chance(25):
             fields.append((b"X-Backend-Replication", self.one([b"True", b"true", b"True", b"true", b"True", b"TRUE", b"false", b"1", b""])))
-        if method == b"DELETE" and self.chance(8):
-            fields.append((b"X-If-Delete-At", self.one([b"5", b"x", b"", b"10"])))
+        if method == b"DELETE" and self.chance(12):
+            fields.append((b"X-If-Delete-At", self.mostly(EXPIRIES, BAD_EXPIRIES, 85)))
         if self.chance(2):
             fields.append((b"X-Swc-Server", self.one([b"container", b"Container", b"object", b""])))
         return self.head(method, target, fields) + come

@@ -77,9 +77,16 @@ def stands_at(when):
     return (b"X-Backend-Timestamp", normal(when))
 
 
-def test_write(write, state, none_match):
-    """Refuses a client's write that what stands doesn't allow."""
-    if write.kind == "meta":
+def test_write(write, state, none_match, second):
+    """Refuses a client's write that what stands doesn't allow. A deletion may name the second at which the object has to expire."""
+    if second is not None:
+        if not state.base:
+            raise Refused(404)
+        if write.time <= state.base.time:
+            raise Refused(409, stands_at(state.base.time))
+        if not state.object() or state.heads()[0] != second:
+            raise Refused(412)
+    elif write.kind == "meta":
         if not state.object():
             raise Refused(404, *([stands_at(state.base.time)] if state.base else []))
         if write.time <= state.time():
@@ -97,7 +104,8 @@ def answer_write(nodes, request, device, name):
     write = requested_write(request, name)
     state = nodes.state(device, nodes.ring.hash(*name))
     taken_over = request.last(b"x-backend-replication") in (b"True", b"true")
-    if write.kind == "delete" and request.last(b"x-if-delete-at") is not None and not taken_over:
+    named = request.last(b"x-if-delete-at") if write.kind == "delete" and not taken_over else None
+    if named is not None and not re.fullmatch(rb"[0-9]{1,10}", named):
         raise Refused(400)
     status = {b"PUT": 201, b"POST": 202, b"DELETE": 204}[request.method]
     if taken_over:
@@ -105,7 +113,8 @@ def answer_write(nodes, request, device, name):
             raise Refused(409, stands_at(state.time() if write.kind == "meta" else state.base.time))
         nodes.enter(device, write, b"receive")
     else:
-        test_write(write, state, request.method == b"PUT" and request.last(b"if-none-match") == b"*")
+        none_match = request.method == b"PUT" and request.last(b"if-none-match") == b"*"
+        test_write(write, state, none_match, None if named is None else int(named))
         if write.kind == "delete" and not state.object():
             status = 404
         nodes.enter(device, write, request.method.lower())

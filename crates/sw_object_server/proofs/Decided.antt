@@ -1,12 +1,11 @@
 -- What the functions that read a request tell of it, one test after the other, is what it asks for.
-use Rattle.std.proofs.Common.{◌≡◌, ℕ, zero, suc, Bool, true, false, not, ◌||◌, ◌==◌, MatchBool, codes, List, [], ◌∷◌, Option, Some, None, is_some, refl, sym}
+use Rattle.std.proofs.Common.{◌≡◌, ℕ, zero, suc, Bool, true, false, ◌||◌, ◌==◌, MatchBool, List, [], ◌∷◌, Option, Some, None, is_some, refl, sym}
 use Rattle.std.proofs.Common.{ap, ◌∙◌, subst, inl, inr, true≢false, if◌then◌else◌}
 use Rattle.std.proofs.lemmas.Option.{same_Some}
 use Rattle.md5.specs.Md5.{md5}
 use Rattle.sw_fields.specs.Fields.{IsTime, IsTimeOf, agrees_with, is_replicated, type_of}
 use Rattle.sw_fields.specs.Metadata.{IsHeads}
 use Rattle.sw_hashpath.specs.declared.bad_name.BadName.{BadName}
-use Rattle.sw_message.specs.Fields.{has_field}
 use Rattle.sw_message.specs.declared.request.Body.{Body}
 use Rattle.sw_message.specs.declared.request.Body.TheVariants.{Whole, TooLarge}
 use Rattle.sw_message.specs.declared.request.Request.{Request}
@@ -18,7 +17,7 @@ use Rattle.sw_object_server.specs.Asking.{IsAsked, tests}
 use Rattle.sw_object_server.specs.Places.{IsDevice, is_partition_of, name_fault}
 use Rattle.sw_object_server.specs.Reading.{AsksDevice, AsksName, AsksPartition, AsksVerb, Deletes, Gives, IsContent, IsTimed, IsVerdict, Lacks, Posts, Puts}
 use Rattle.sw_object_server.specs.Reading.{PutsBody, PutsHeads, PutsType, asked_at}
-use Rattle.sw_object_server.specs.Requirements.{HasMetadata, IsChange, IsForObjects, IsVerb, TakesMetadata, name_of}
+use Rattle.sw_object_server.specs.Requirements.{HasMetadata, IsChange, IsForObjects, IsVerb, TakesMetadata, expiry_text, is_second_in, name_of}
 use Rattle.sw_object_server.specs.Steps.{AsksBy, AsksFor, delete_change, post_change, put_change}
 use Rattle.sw_object_server.specs.Targets.{parts_of, verb_of}
 use Rattle.sw_object_server.specs.Tests.{IsDecided}
@@ -118,7 +117,7 @@ module _ (ring : Ring) (r : Request) (device : ℕ) (found : IsDevice ring (part
       refused : (status : ℕ) → verdict ≡ verdicts.Refused status → asked ≡ asks.Refused status
       refused status e = asked_is ∙ ap (asked_at device (name_of ring r)) e
 
-      last : (time : ℕ) → IsTimeOf r.fields time → (plain : Bool) → (is_replicated r.fields || not (has_field (codes "x-if-delete-at") r.fields)) ≡ plain
+      last : (time : ℕ) → IsTimeOf r.fields time → (plain : Bool) → (is_replicated r.fields || is_second_in (expiry_text r.fields)) ≡ plain
           → MatchBool plain (verdict ≡ verdicts.Change (delete_change time r.fields)) (verdict ≡ verdicts.Refused 400) → Behind ring r 11 asked
       last time at true plain e =
           inl (λ delete. plain, (verbs.Delete, device, is, found, (time, at, asked_is ∙ ap (asked_at device (name_of ring r)) e)))
@@ -139,7 +138,7 @@ module _ (ring : Ring) (r : Request) (device : ℕ) (found : IsDevice ring (part
                     λ takes. absurd (no_takes takes),
                     inl (
                       λ put. absurd (no_put put),
-                      last time at (is_replicated r.fields || not (has_field (codes "x-if-delete-at") r.fields)) refl e,
+                      last time at (is_replicated r.fields || is_second_in (expiry_text r.fields)) refl e,
                     ),
                   ),
                 ),

@@ -5,8 +5,8 @@
 use Rattle.std.specs.Prelude.{ℕ, List, [], ◌∷◌}
 use Rattle.sw_message.specs.declared.request.Request.{Request}
 use Rattle.sw_ring.specs.declared.ring.Ring.{Ring}
-use Rattle.sw_object_server.specs.Requirements.{AsksNoExpiry, HasDevice, HasDigest, HasGoodNames, HasLength, HasMetadata, HasTime, HasType, HasVerb, IsChange}
-use Rattle.sw_object_server.specs.Requirements.{IsDelete, IsForObjects, IsInPartition, IsPut, IsSmall, TakesMetadata}
+use Rattle.sw_object_server.specs.Requirements.{HasDevice, HasDigest, HasGoodNames, HasLength, HasMetadata, HasTime, HasType, HasVerb, IsChange}
+use Rattle.sw_object_server.specs.Requirements.{IsDelete, IsForObjects, IsInPartition, IsPut, IsSmall, NamesSecond, TakesMetadata}
 use Rattle.sw_object_server.specs.Steps.{AsksFor}
 use Rattle.sw_object_server.specs.Tests.{IsDecided}
 use Rattle.sw_object_server.specs.declared.asked.Asked.{Asked}
@@ -26,7 +26,7 @@ tests ring r =
     ∷ (400, (IsPut r → HasType r))
     ∷ (400, (TakesMetadata r → HasMetadata ring r))
     ∷ (422, (IsPut r → HasDigest r))
-    ∷ (400, (IsDelete r → AsksNoExpiry r))
+    ∷ (400, (IsDelete r → NamesSecond r))
     ∷ []
 
 -- the first that fails decides: the request is refused with its status. Where none fails, it asks for its step

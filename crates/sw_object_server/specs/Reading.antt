@@ -2,10 +2,9 @@
 -- is told to those that come after. (This project's own.)
 --
 -- `Asking.antt` says the same of the whole request, without the order in which its values are found.
-use Rattle.std.specs.Prelude.{◌≡◌, ℕ, Bool, true, false, not, ◌||◌, List, codes, Option, MatchBool, MatchOption, if◌then◌else◌}
+use Rattle.std.specs.Prelude.{◌≡◌, ℕ, Bool, true, false, ◌||◌, List, Option, MatchBool, MatchOption, if◌then◌else◌}
 use Rattle.md5.specs.Md5.{md5}
 use Rattle.sw_hashpath.specs.declared.name.Name.{Name}
-use Rattle.sw_message.specs.Fields.{has_field}
 use Rattle.sw_message.specs.declared.fields.Field.{Field}
 use Rattle.sw_message.specs.declared.request.Body.{Body}
 use Rattle.sw_message.specs.declared.request.Body.TheVariants.{Whole, TooLarge}
@@ -16,6 +15,7 @@ use Rattle.sw_state.specs.declared.heads.Heads.{Heads}
 use Rattle.sw_fields.specs.Fields.{IsTime, agrees_with, is_replicated, type_of}
 use Rattle.sw_fields.specs.Metadata.{IsHeads}
 use Rattle.sw_object_server.specs.Places.{IsDevice, is_partition_of, name_fault, name_in}
+use Rattle.sw_object_server.specs.Requirements.{expiry_text, is_second_in}
 use Rattle.sw_object_server.specs.Steps.{delete_change, post_change, put_change}
 use Rattle.sw_object_server.specs.declared.asked.Asked.{Asked}
 use Rattle.sw_object_server.specs.declared.asked.Asked.TheVariants as asks
@@ -81,7 +81,7 @@ Posts name r time =
 
 abbrev pub Deletes : Request → ℕ → Verdict → Type 0
 Deletes r time =
-    Needs (is_replicated r.fields || not (has_field (codes "x-if-delete-at") r.fields)) (verdicts.Refused 400)
+    Needs (is_replicated r.fields || is_second_in (expiry_text r.fields)) (verdicts.Refused 400)
     (λ verdict. verdict ≡ verdicts.Change (delete_change time r.fields))
 
 -- ---- what a verb asks for at a name

@@ -1,10 +1,12 @@
 -- What a request has to be that is answered by a step, test by test; `Asking.antt` has their order. (OpenStack Swift's object server.)
-use Rattle.std.specs.Prelude.{◌≡◌, ℕ, true, not, ◌||◌, ◌⊎◌, List, codes, Some, None, IsSome, Contains}
+use Rattle.std.specs.Prelude.{◌≡◌, ℕ, Bool, true, ◌||◌, ◌⊎◌, List, codes, Option, Some, None, IsSome, Contains}
 use Rattle.md5.specs.Md5.{md5}
+use Rattle.sw_fields.specs.Expiry.{is_second, second_of}
 use Rattle.sw_fields.specs.Fields.{IsTimeOf, agrees_with, is_replicated, type_of}
 use Rattle.sw_fields.specs.Metadata.{IsHeads}
 use Rattle.sw_hashpath.specs.declared.name.Name.{Name}
-use Rattle.sw_message.specs.Fields.{has_field}
+use Rattle.sw_message.specs.Fields.{field_value_of}
+use Rattle.sw_message.specs.declared.fields.Field.{Field}
 use Rattle.sw_message.specs.declared.request.Body.TheVariants.{Whole}
 use Rattle.sw_message.specs.declared.request.Request.{Request}
 use Rattle.sw_ring.specs.declared.ring.Ring.{Ring}
@@ -86,6 +88,20 @@ HasMetadata ring r = (time : ℕ) × (heads : Heads) × IsTimeOf r.fields time �
 abbrev pub HasDigest : Request → Type 0
 HasDigest r = (body : List ℕ) → r.body ≡ Whole body → agrees_with (md5 body) r.fields ≡ true
 
--- it asks for no second of expiry, unless another node sends it
-abbrev pub AsksNoExpiry : Request → Type 0
-AsksNoExpiry r = (is_replicated r.fields || not (has_field (codes "x-if-delete-at") r.fields)) ≡ true
+-- what a deletion says of the second at which the object has to expire
+abbrev pub expiry_text : List Field → Option (List ℕ)
+expiry_text fields = field_value_of (codes "x-if-delete-at") fields
+
+-- that second, where it names one
+abbrev pub second_in : Option (List ℕ) → Option ℕ
+second_in None = None
+second_in (Some text) = second_of text
+
+-- whether it is a second, where it says something
+abbrev pub is_second_in : Option (List ℕ) → Bool
+is_second_in None = true
+is_second_in (Some text) = is_second text
+
+-- a deletion names no second of expiry, or a good one, unless another node sends it
+abbrev pub NamesSecond : Request → Type 0
+NamesSecond r = (is_replicated r.fields || is_second_in (expiry_text r.fields)) ≡ true

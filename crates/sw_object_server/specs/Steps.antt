@@ -1,5 +1,5 @@
 -- The step that a request asks for which passes every test. (OpenStack Swift's object server.)
-use Rattle.std.specs.Prelude.{◌≡◌, ℕ, true, false, List, None, Some, if◌then◌else◌}
+use Rattle.std.specs.Prelude.{◌≡◌, ℕ, true, false, List, Some, if◌then◌else◌}
 use Rattle.md5.specs.Md5.{md5}
 use Rattle.sw_fields.specs.Fields.{IsTimeOf, asks_for_none, is_replicated, type_of}
 use Rattle.sw_fields.specs.Metadata.{IsHeads}
@@ -14,7 +14,7 @@ use Rattle.sw_state.specs.declared.content.Content.{Content}
 use Rattle.sw_state.specs.declared.heads.Heads.{Heads}
 use Rattle.sw_state.specs.declared.write.Kind.TheVariants as kinds
 use Rattle.sw_state.specs.declared.write.Kind.{Kind}
-use Rattle.sw_object_server.specs.Requirements.{IsVerb, name_of}
+use Rattle.sw_object_server.specs.Requirements.{IsVerb, expiry_text, name_of, second_in}
 use Rattle.sw_object_server.specs.Places.{IsDevice}
 use Rattle.sw_object_server.specs.Targets.{parts_of}
 use Rattle.sw_object_server.specs.declared.asked.Asked.{Asked}
@@ -36,7 +36,7 @@ abbrev pub post_change : ℕ → List Field → Heads → Change
 post_change time fields heads = if is_replicated fields then receive time (kinds.Meta heads) else changes.Post time heads
 
 abbrev pub delete_change : ℕ → List Field → Change
-delete_change time fields = if is_replicated fields then receive time kinds.Del else changes.Delete time None
+delete_change time fields = if is_replicated fields then receive time kinds.Del else changes.Delete time (second_in (expiry_text fields))
 
 -- what a PUT at this time writes under this name
 pub record PutsContent (time : ℕ) (name : Name) (r : Request) (content : Content) : Type 0 where

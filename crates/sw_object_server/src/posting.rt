@@ -5,7 +5,7 @@ ghost use Rattle.sw_object_server.specs.Steps.{post_change as post_change_of};
 
 use crate::verdict::Verdict;
 use std::alloc::Global;
-use sw_fields::{heads_of, is_replicated};
+use sw_fields::{heads_of, is_replicated, second_of};
 use sw_hashpath::Name;
 use sw_message::{FieldList, Request};
 use sw_object_steps::Change;
@@ -44,7 +44,8 @@ fn post_change(time: Timestamp, heads: Heads, fields: &FieldList) -> Change
     }
 }
 
-/// A deletion at this time. One that asks for a second of expiry is refused, unless another node sends it.
+/// A deletion at this time. Where it names a second of expiry, it deletes only an object that expires then; a text that is no such second is refused. One that
+/// another node sends looks at neither.
 pub(crate) fn read_delete(time: Timestamp, request: &Request) -> Verdict
     ensures { Deletes request.now time result }
 {
@@ -56,11 +57,17 @@ pub(crate) fn read_delete(time: Timestamp, request: &Request) -> Verdict
             },
         });
     }
-    if request.fields.has(b"x-if-delete-at") {
-        return Verdict::Refused(400);
+    let Some(text) = request.fields.value_of(b"x-if-delete-at") else {
+        return Verdict::Change(Change::Delete {
+            time,
+            if_delete_at: None,
+        });
+    };
+    match second_of(text) {
+        Some(second) => Verdict::Change(Change::Delete {
+            time,
+            if_delete_at: Some(second),
+        }),
+        None => Verdict::Refused(400),
     }
-    Verdict::Change(Change::Delete {
-        time,
-        if_delete_at: None,
-    })
 }

@@ -135,10 +135,13 @@ fn posts_and_deletions_have_fewer_tests(rt: HostRuntime) -> Result<(), Fail> {
         ),
         (b"DELETE /sda/0/a/c/o", 400),
         (b"DELETE /sda/0/a/c/o\nX-Timestamp:5", TAKEN),
-        // A deletion at a second is refused, unless another node sends it.
-        (b"DELETE /sda/0/a/c/o\nX-Timestamp:5\nX-If-Delete-At:9", 400),
+        // A deletion may name a second, which has 1 to 10 digits, unless another node sends it.
         (
-            b"DELETE /sda/0/a/c/o\nX-Timestamp:5\nX-If-Delete-At:9\nX-Backend-Replication:TRUE",
+            b"DELETE /sda/0/a/c/o\nX-Timestamp:5\nX-If-Delete-At:9",
+            TAKEN,
+        ),
+        (
+            b"DELETE /sda/0/a/c/o\nX-Timestamp:5\nX-If-Delete-At:x\nX-Backend-Replication:TRUE",
             400,
         ),
         (
