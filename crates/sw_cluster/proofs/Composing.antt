@@ -20,16 +20,17 @@ use Rattle.sw_hashpath.specs.HashParts.{partition_of}
 use Rattle.sw_hashpath.specs.declared.place.Place.{Place}
 use Rattle.sw_machine.proofs.Objects.{joins-from}
 use Rattle.sw_machine.specs.Machine.{writes_at}
-use Rattle.sw_objdir.proofs.Looking.{held-told}
-use Rattle.sw_objdir.specs.Directories.{started}
+use Rattle.sw_objdir.proofs.Looking.{values-told}
+use Rattle.sw_objdir.specs.Directories.{started, value_at}
 use Rattle.sw_object_steps.specs.Journals.{Hash}
+use Rattle.sw_object_steps.specs.Values.{ObjValue}
 use Rattle.sw_ring.specs.declared.ring.Ring.{Ring}
 use Rattle.sw_state.specs.States.{joined, state_of, writes_of}
 use Rattle.sw_state.specs.declared.state.State.{State}
 use Rattle.sw_state.specs.declared.write.Write.{Write}
 use Rattle.sw_stores.proofs.AtPlaces.{started-at}
 use Rattle.sw_stores.specs.Places.{at_place}
-use Rattle.sw_stores.specs.Starting.{StartsFrom}
+use Rattle.sw_stores.specs.Starting.{AreStarted, StartsFrom}
 use Rattle.sw_volume.specs.Tree.{Folders}
 use Rattle.sw_cluster.specs.Composing.{Leads, ObjectsCompose, RunsLead, ServingLeads, TablesCompose, began}
 use Rattle.sw_cluster.specs.Ending.{IsKept, IsStored}
@@ -46,14 +47,14 @@ joined-twice s ws vs =
 
 module _ {V K : Type 0} (tells : V → Bool) (files : V → Folders) (faults : V → ℕ) (keeps : KeeperSeen K) (first : V × K → Type 0) (ring : Ring) where
   -- the part of a lock of nodes that begin with what rests is the one that rests there, where that is known
-  starts-with : (bytes : ℕ) (rests rests_now : ℕ → ℕ → Option (V × K)) (leads : Leads tells files faults keeps first ring bytes rests rests_now)
-      (device : ℕ) (hash : Hash) (part : V × K) → device < length ring.devices
+  pub starts-with : (rests : ℕ → ℕ → Option (V × K)) (parts : List (V × K)) → AreStarted first rests (2 ^ ring.lock_bits) 0 parts
+      → length parts ≡ length ring.devices * 2 ^ ring.lock_bits → (device : ℕ) (hash : Hash) (part : V × K) → device < length ring.devices
       → rests device (stripe_at ring.lock_bits ring.power (partition_of hash ring.power)) ≡ Some part
-      → slice_get leads.parts (lock_of ring.lock_bits ring.power device hash) ≡ Some part
-  starts-with bytes rests rests_now leads device hash part here resting =
+      → slice_get parts (lock_of ring.lock_bits ring.power device hash) ≡ Some part
+  starts-with rests parts are count device hash part here resting =
       found.1 ∙ ap Some (as-rested (at_place rests (2 ^ ring.lock_bits) lock) at found.0
       (subst (λ (n : ℕ). StartsFrom first (at_place rests (2 ^ ring.lock_bits) n) found.0) none
-      (started-at first rests (2 ^ ring.lock_bits) 0 leads.parts lock found.0 leads.started found.1)))
+      (started-at first rests (2 ^ ring.lock_bits) 0 parts lock found.0 are found.1)))
     where
       lock : ℕ
       lock = lock_of ring.lock_bits ring.power device hash
@@ -64,15 +65,15 @@ module _ {V K : Type 0} (tells : V → Bool) (files : V → Folders) (faults : V
       low : stripe_at ring.lock_bits ring.power (partition_of hash ring.power) < 2 ^ ring.lock_bits
       low = stripe-below ring.lock_bits ring.power (partition_of hash ring.power)
 
-      within : lock < length leads.parts
-      within = rw leads.count (under device (length ring.devices) (stripe_at ring.lock_bits ring.power (partition_of hash ring.power)) (2 ^ ring.lock_bits)
+      within : lock < length parts
+      within = rw count (under device (length ring.devices) (stripe_at ring.lock_bits ring.power (partition_of hash ring.power)) (2 ^ ring.lock_bits)
           here low)
         where
           under : (d n s b : ℕ) → d < n → s < b → d * b + s < n * b
           under d n s b h g = grind (arith, rows)
 
-      found : (p : V × K) × (slice_get leads.parts lock ≡ Some p)
-      found = there-is leads.parts lock within
+      found : (p : V × K) × (slice_get parts lock ≡ Some p)
+      found = there-is parts lock within
 
       at : at_place rests (2 ^ ring.lock_bits) lock ≡ Some part
       at = subst (λ (s : ℕ). rests (lock / 2 ^ ring.lock_bits) s ≡ Some part)
@@ -85,7 +86,7 @@ module _ {V K : Type 0} (tells : V → Bool) (files : V → Folders) (faults : V
       as-rested (Some q) is p starts = let same : q ≡ part = cc in starts ∙ same
 
   -- so its object lock is a directory that begins over the volume
-  slot-is : (bytes : ℕ) (parts : List (V × K)) (l : ℕ) (part : V × K) → slice_get parts l ≡ Some part
+  pub slot-is : (bytes : ℕ) (parts : List (V × K)) (l : ℕ) (part : V × K) → slice_get parts l ≡ Some part
       → slice_get (opened bytes ring parts).slots l ≡ Some (slots.Open (started part.0 ring.secrets ring.power journal_entries bytes))
   slot-is bytes parts l part at =
       slice_get-map (λ (v : V). slots.Open (started v ring.secrets ring.power journal_entries bytes)) (volumes_in parts) l
@@ -93,7 +94,7 @@ module _ {V K : Type 0} (tells : V → Bool) (files : V → Folders) (faults : V
       (slice_get-map (λ (p : V × K). p.0) parts l ∙ ap (option_map (λ (p : V × K). p.0)) at)
 
   -- and its container lock begins over the keeper
-  lock-is : (bytes : ℕ) (parts : List (V × K)) (l : ℕ) (part : V × K) → slice_get parts l ≡ Some part
+  pub lock-is : (bytes : ℕ) (parts : List (V × K)) (l : ℕ) (part : V × K) → slice_get parts l ≡ Some part
       → slice_get (opened bytes ring parts).containers l ≡ Some (cont_slots.Open (begun part.1))
   lock-is bytes parts l part at =
       slice_get-map (λ (k : K). cont_slots.Open (begun k)) (keepers_in parts) l
@@ -103,6 +104,7 @@ module _ {V K : Type 0} (tells : V → Bool) (files : V → Folders) (faults : V
   pub objects-compose : ObjectsCompose tells files faults keeps first ring
   objects-compose bytes more rests mid rests_now one other device hash here told = record {
     told = now-told;
+    begins = value ∙ before.value told;
     part = after.part;
     resting = after.resting;
     stands = after.stands now-told
@@ -121,16 +123,19 @@ module _ {V K : Type 0} (tells : V → Bool) (files : V → Folders) (faults : V
       at : slice_get (opened more ring other.parts).slots (lock_of ring.lock_bits ring.power device hash)
           ≡ Some (slots.Open (started before.part.0 ring.secrets ring.power journal_entries more))
       at = slot-is more other.parts (lock_of ring.lock_bits ring.power device hash) before.part
-          (starts-with more mid rests_now other device hash before.part here before.resting)
+          (starts-with mid other.parts other.started other.count device hash before.part here before.resting)
 
       now-told : ((began tells files faults keeps first ring other).objects.seen (lock_of ring.lock_bits ring.power device hash)).told ≡ true
       now-told = ap (λ (o : Option (Slot V)). (seen_of tells files faults o).told) at ∙ before.order told
 
-      held : ((began tells files faults keeps first ring other).objects.holds device hash).state ≡ holds ring.secrets ring.power (files before.part.0) hash
-      held = ap (λ (o : Option (Slot V)). (held_of tells files faults o hash).state) at
-          ∙ held-told tells files faults (started before.part.0 ring.secrets ring.power journal_entries more) hash (before.order told)
+      value : (began tells files faults keeps first ring other).objects.holds device hash ≡ value_at ring.secrets ring.power (files before.part.0) hash
+      value = ap (λ (o : Option (Slot V)). held_of tells files faults o hash) at
+          ∙ values-told tells files faults (started before.part.0 ring.secrets ring.power journal_entries more) hash (before.order told)
 
-  where-told : (k : K) (place : Place) → keeps.tells k ≡ true → cont_held_of keeps.tells keeps.holds keeps.faults (Some (cont_slots.Open (begun k))) place
+      held : ((began tells files faults keeps first ring other).objects.holds device hash).state ≡ holds ring.secrets ring.power (files before.part.0) hash
+      held = ap (λ (v : ObjValue). v.state) value
+
+  pub where-told : (k : K) (place : Place) → keeps.tells k ≡ true → cont_held_of keeps.tells keeps.holds keeps.faults (Some (cont_slots.Open (begun k))) place
       ≡ keeps.holds k place
   where-told k place told = by (keeps.tells k) told
     where
@@ -158,7 +163,7 @@ module _ {V K : Type 0} (tells : V → Bool) (files : V → Folders) (faults : V
       at : slice_get (opened more ring other.parts).containers (place_lock ring.lock_bits ring.power device place) ≡ Some
           (cont_slots.Open (begun before.part.1))
       at = lock-is more other.parts (place_lock ring.lock_bits ring.power device place) before.part
-          (starts-with more mid rests_now other device place.hash before.part here before.resting)
+          (starts-with mid other.parts other.started other.count device place.hash before.part here before.resting)
 
       now-told : ((began tells files faults keeps first ring other).containers.seen (place_lock ring.lock_bits ring.power device place)).told ≡ true
       now-told = ap (λ (o : Option (ContSlot K)). (cont_seen_of keeps.tells keeps.holds keeps.faults o).told) at ∙ before.told told

@@ -5,6 +5,7 @@ mod Connecting
 mod Found
 mod FoundServing
 mod Holding
+mod Lasting
 mod Listing
 mod Mapped
 mod OpeningLemmas

@@ -19,8 +19,8 @@ use Rattle.sw_quiet.proofs.Trails.{lifting-restarts}
 use Rattle.sw_cluster.proofs.Connecting.{connection-goes}
 use Rattle.sw_nodes.proofs.Keeping.{restart-runs, runs-itself}
 use Rattle.sw_nodes.proofs.Serving.{goes_on}
-use Rattle.sw_cluster.proofs.Storing.{AllRest, AllTellOn, all-tell-on, kept, rests-before, stored, tell-before}
-use Rattle.sw_cluster.specs.Ending.{IsKept, IsStored}
+use Rattle.sw_cluster.proofs.Storing.{AllRest, AllTellOn, all-tell-on, kept, others, rests-before, stored, tell-before}
+use Rattle.sw_cluster.specs.Ending.{HasNoOthers, IsKept, IsStored}
 use Rattle.sw_cluster.specs.Connections.{IsConnection}
 use Rattle.sw_cluster.specs.Leaving.{AreLeft, IsOut}
 use Rattle.sw_nodes.specs.Nodes.{IsReady, out_but, places_at, places_of}
@@ -184,6 +184,18 @@ module _ {V K : Type 0} (tells : V → Bool) (files : V → Folders) (faults : V
           gone.fails.resting resting same_out)
           (tell-before tells files faults keeps ring whole w gone.ready.lock_bits gone.device gone.fails.given gone.fails.up told_on) stands.containers
 
+      pub left-others : AreLeft tells files faults keeps store_calls rests out ring whole w stores → HasNoOthers ring machine
+      left-others (inl (same, ready)) =
+          others tells files faults keeps ring began whole (subst (λ (x : AllNodes V K). IsWorld x) same is) ready.whole ready.nodes lines machine run rests_now
+          (subst (AllRest tells files faults keeps ring rests_now) same resting) (subst (AllTellOn tells files faults keeps ring) same told_on) stands.objects
+          stands.containers
+      left-others (inr gone) =
+          others tells files faults keeps ring began whole gone.fails.up.world gone.fails.up.whole gone.ready.nodes lines machine run rests_now
+          (rests-before tells files faults keeps ring whole w gone.ready.lock_bits gone.device gone.fails.given gone.fails.up (rests stores) rests_now
+          gone.fails.resting resting same_out)
+          (tell-before tells files faults keeps ring whole w gone.ready.lock_bits gone.device gone.fails.given gone.fails.up told_on) stands.objects
+          stands.containers
+
   -- what was served, once the volumes and keepers were given back
   module _ {S : Type 0} (store_calls : S → ℕ) (rests : S → ℕ → ℕ → Option (V × K)) (out : S → ℕ → ℕ → Bool) (parts : List (V × K))
       (whole w : AllNodes V K) (stores : S)
@@ -204,7 +216,10 @@ module _ {V K : Type 0} (tells : V → Bool) (files : V → Folders) (faults : V
           machine = went.2.after;
           run = went.2.run;
           leaves = went.1;
+          comes = goes.runs;
           stands = went.2.stands;
+          others = left-others store_calls rests out (opened serve_bytes ring parts) whole w stores rests_now is resting same_out
+              on went.0 went.2.after went.2.run stands left;
           stored = left-stored store_calls rests out (opened serve_bytes ring parts) whole w stores rests_now is resting same_out
               on went.0 went.2.after went.2.run stands left;
           kept = left-kept store_calls rests out (opened serve_bytes ring parts) whole w stores rests_now is resting same_out

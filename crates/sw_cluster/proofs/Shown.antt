@@ -67,7 +67,7 @@ module _ {S : Type 0} (see : S → Sight) (ring : Ring) (began : S) (begins : (s
   begun : (account : Account) → StandsFor (see began) (start ring (see began) account)
   begun account = record { objects = refl; containers = refl }
 
-  led-to : (w : S) → RunsHonestly ring.secrets (replicas_in ring) (see began) (see w) → (account : Account) → LeadsTo ring (see began) account (see w)
+  pub led-to : (w : S) → RunsHonestly ring.secrets (replicas_in ring) (see began) (see w) → (account : Account) → LeadsTo ring (see began) account (see w)
   led-to w runs account =
       let went = runs (start ring (see began) account) (begun account) in
       record {
@@ -102,7 +102,7 @@ module _ {S : Type 0} (see : S → Sight) (ring : Ring) (began : S) (begins : (s
         × AreRooted c root at_first leads.lines leads.machine (runs_of c [] at_first leads.lines leads.machine sound)
     soundly = honest-rooted c root [] at_first leads.lines leads.machine leads.run leads.honest fair.plain fair.rooted
 
-    stays : StaysSound ring (see began) account names root (see w) leads
+    pub stays : StaysSound ring (see began) account names root (see w) leads
     stays =
         let run = runs_of c [] at_first leads.lines leads.machine soundly.0 in
         let went = keeps-accounts c.nodes at_first leads.lines leads.machine run account fair.sound.known in

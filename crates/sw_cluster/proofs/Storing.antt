@@ -3,7 +3,7 @@ use Rattle.std.proofs.Common.{◌≡◌, ℕ, zero, suc, ◌+◌, ◌-◌, ◌*�
 use Rattle.std.proofs.Common.{Option, Some, None, if◌then◌else◌, refl, sym, ◌∙◌, ap, subst, ◌⊎◌, inl, inr}
 use Rattle.std.specs.List.{All, slice_get}
 use Rattle.std.proofs.lemmas.List.Elements.{All-get_or}
-use Rattle.std.proofs.lemmas.Option.{get_or_from_slice_get, slice_get_within}
+use Rattle.std.proofs.lemmas.Option.{get_or_from_slice_get, slice_get_past, slice_get_within}
 use Rattle.std.proofs.lemmas.Bool.{cases_lt}
 use Rattle.std.proofs.lemmas.Nat.{div-mul-add, mod-mul-add, pow_pos, rows}
 use Rattle.sw_container_db.specs.ContDirs.{ContKept}
@@ -16,8 +16,8 @@ use Rattle.sw_container_steps.specs.Rules.{ContHistory}
 use Rattle.sw_hashpath.specs.HashParts.{partition_of}
 use Rattle.sw_hashpath.specs.declared.place.Place.{Place}
 use Rattle.sw_hashdir.specs.Places.{holds}
-use Rattle.sw_objdir.proofs.Looking.{held-told}
-use Rattle.sw_objdir.specs.Directories.{Kept, are_in_order, is_told}
+use Rattle.sw_objdir.proofs.Looking.{held-told, values-told}
+use Rattle.sw_objdir.specs.Directories.{Kept, are_in_order, is_told, value_at}
 use Rattle.sw_object_steps.specs.Journals.{Hash}
 use Rattle.sw_peer.specs.Sights.{Nodes as SightNodes, Sight}
 use Rattle.sw_ring.specs.declared.ring.Ring.{Ring}
@@ -41,7 +41,7 @@ use Rattle.sw_core.specs.Worlds.{held_of, is_out, keepers_in, lock_of, nodes_of,
 use Rattle.sw_core.specs.declared.slot.Slot.{Slot}
 use Rattle.sw_core.specs.declared.slot.Slot.TheVariants as slots
 use Rattle.sw_cluster.proofs.Resting.{among-place}
-use Rattle.sw_cluster.specs.Ending.{IsKept, IsStored}
+use Rattle.sw_cluster.specs.Ending.{HasNoOthers, IsKept, IsStored}
 use Rattle.sw_nodes.specs.Nodes.{places_at}
 
 -- a world none of whose devices is out has as many as are shown
@@ -54,6 +54,10 @@ where-true false x y is = cc
 
 some-is : {A : Type 0} {x y : A} → Some x ≡ Some y → x ≡ y
 some-is is = cc
+
+-- a row of so many is past all rows before it
+pub past-all : (d n s b : ℕ) → n ≤ d → n * b ≤ d * b + s
+past-all d n s b beyond = grind (arith, rows)
 
 -- where the volume is that of one pair, and the keeper too, the pair is there
 pair-at : {V K : Type 0} (parts : List (V × K)) (i : ℕ) (v : V) (k : K) → slice_get (volumes_in parts) i ≡ Some v → slice_get (keepers_in parts) i ≡ Some k
@@ -193,6 +197,12 @@ module _ {V K : Type 0} (tells : V → Bool) (files : V → Folders) (faults : V
                   subst (λ (s : _). holds s ring.power (files there.kept.volume) hash ≡ all) there.secrets
                   (subst (λ (p : ℕ). holds there.kept.secrets p (files there.kept.volume) hash ≡ all) there.power
                   (sym (held-told tells files faults there.kept hash is_told) ∙ (ap (λ (v : ObjValue). v.state) held ∙ stands.1)));
+              value = λ told.
+                  let is_told : is_told tells files faults there.kept ≡ true =
+                  ap (λ (h : ObjHistory). h.told) seen ∙ (hash-stands device hash told).0 in
+                  subst (λ (s : _). value_at s ring.power (files there.kept.volume) hash ≡ machine.objects.half.holds device hash) there.secrets
+                  (subst (λ (p : ℕ). value_at there.kept.secrets p (files there.kept.volume) hash ≡ machine.objects.half.holds device hash) there.power
+                  (sym (values-told tells files faults there.kept hash is_told) ∙ held));
               order = λ told.
                   let is_told : is_told tells files faults there.kept ≡ true =
                   ap (λ (h : ObjHistory). h.told) seen ∙ (hash-stands device hash told).0 in
@@ -232,6 +242,30 @@ module _ {V K : Type 0} (tells : V → Bool) (files : V → Folders) (faults : V
               stands = λ told. sym (where-true (keeps.tells there.lock.keeper) (keeps.holds there.lock.keeper place) None (tells_on told)) ∙ held;
               counts = sym (ap (λ (h : ContHistory). h.faults) seen);
             }
+
+    -- the locks of other devices would be past the last one
+    past : (count : ℕ) → count ≡ w.devices * 2 ^ w.lock_bits → (device : ℕ) (hash : Hash) → length ring.devices ≤ device
+        → count ≤ lock_of ring.lock_bits ring.power device hash
+    past count counted device hash beyond =
+        rw (counted, devices-are, bits-are) (past-all device (length ring.devices) (stripe_at ring.lock_bits ring.power (partition_of hash ring.power))
+        (2 ^ ring.lock_bits) beyond)
+
+    -- so nothing is there
+    pub others : (see w).objects ≡ machine.objects.half → (see w).containers ≡ machine.containers.half → HasNoOthers ring machine
+    others objects containers = record {
+      objects = λ device hash beyond.
+          sym (ap (λ (o : ObjHalf). o.holds device hash) objects)
+          ∙ (ap (λ (l : ℕ). held_of tells files faults (slice_get w.slots l) hash) (lock-same w bits-are power-are device hash)
+          ∙ ap (λ (o : Option (Slot V)). held_of tells files faults o hash)
+          (slice_get_past w.slots (lock_of ring.lock_bits ring.power device hash) (past (length w.slots) is.count device hash beyond)));
+      containers = λ device place beyond.
+          sym (ap (λ (c : ContHalf). c.holds device place) containers)
+          ∙ (ap (λ (l : ℕ). cont_held_of keeps.tells keeps.holds keeps.faults (slice_get w.containers l) place)
+          (lock-same w bits-are power-are device place.hash)
+          ∙ ap (λ (o : Option (ContSlot K)). cont_held_of keeps.tells keeps.holds keeps.faults o place)
+          (slice_get_past w.containers (lock_of ring.lock_bits ring.power device place.hash)
+          (past (length w.containers) told_on.containers.count device place.hash beyond)));
+    }
 
   -- ---- a device that is out
 

@@ -43,7 +43,7 @@ use Rattle.sw_nodes.specs.Server.{MayAnswer, MayHalt}
 use Rattle.sw_cluster.specs.Statuses as statuses
 use Rattle.sw_nodes.specs.declared.server.Nodes.{Nodes}
 use Rattle.sw_cluster.specs.Limits.{run_bytes}
-use Rattle.sw_cluster.proofs.Storing.{AllRest, AllTellOn, all-tell-on, kept, rests-before, same-devices, stored, tell-before}
+use Rattle.sw_cluster.proofs.Storing.{AllRest, AllTellOn, all-tell-on, kept, others, rests-before, same-devices, stored, tell-before}
 
 some-is : {A : Type 0} {x y : A} → Some x ≡ Some y → x ≡ y
 some-is is = cc
@@ -74,8 +74,8 @@ module _ {V K : Type 0} (tells : V → Bool) (files : V → Folders) (faults : V
   module _ (began w after : AllNodes V K) (is : IsWorld w) (whole : w.lifted ≡ None)
       (nodes : nodes_of (shown w.lifted w.devices) w.lock_bits w.power w.secrets ≡ nodes_of (length ring.devices) ring.lock_bits ring.power ring.secrets)
       (lines : List RunLine) (honest : AreHonest ring.secrets (replicas_in ring) [] lines)
-      (run : GoesOn (see began) (machine_of (see began)) lines (see w)) (rests : ℕ → ℕ → Option (V × K))
-      (new : began.lines ≡ []) (same_lines : after.lines ≡ w.lines) (resting : AllRest tells files faults keeps ring rests w)
+      (run : GoesOn (see began) (machine_of (see began)) lines (see w)) (comes : RunsHonestly ring.secrets (replicas_in ring) (see began) (see w))
+      (rests : ℕ → ℕ → Option (V × K)) (new : began.lines ≡ []) (same_lines : after.lines ≡ w.lines) (resting : AllRest tells files faults keeps ring rests w)
       (told_on : AllTellOn tells files faults keeps ring w) where
     -- the lines of the run are those of the world
     lines-are : came_in lines ≡ w.lines
@@ -93,6 +93,10 @@ module _ {V K : Type 0} (tells : V → Bool) (files : V → Folders) (faults : V
       honest = honest;
       lists = lists-exactly ring (see began) lines run.after ran honest;
       holds = holds-on ring (see began) lines run.after ran honest;
+      last = w;
+      comes = comes;
+      stands = run.stands;
+      others = others tells files faults keeps ring began w is whole nodes lines run.after ran rests resting told_on run.stands.objects run.stands.containers;
       stored = stored tells files faults keeps ring began w is whole nodes lines run.after ran rests resting told_on run.stands.objects;
       kept = kept tells files faults keeps ring began w is whole nodes lines run.after ran rests resting told_on run.stands.containers;
     }
@@ -259,7 +263,7 @@ module _ {V K : Type 0} (tells : V → Bool) (files : V → Folders) (faults : V
       same_stores = way.same_stores;
       tells_trail = λ now is resting same told_on.
           let run = run-of w way.runs in
-          trail-of began w w (relined w is) way.ready.whole way.ready.nodes run.0 run.1 run.2 now way.new refl resting told_on;
+          trail-of began w w (relined w is) way.ready.whole way.ready.nodes run.0 run.1 run.2 way.runs now way.new refl resting told_on;
     }
 
     module _ (fault : ServerFault) (after : AllNodes V K) (stores_now : MutBor S) (h : IsHalted fault after stores_now) where
@@ -295,8 +299,8 @@ module _ {V K : Type 0} (tells : V → Bool) (files : V → Folders) (faults : V
         same_stores = h.same_stores;
         tells_trail = λ now is resting same told_on.
             let run = run-of h.w h.way.runs in
-            trail-of began h.w after h.up.world h.up.whole h.way.ready.nodes run.0 run.1 run.2 now h.way.new (ap (λ (x : AllNodes V K). x.lines) h.up.rest)
-            (rests-old now resting same)
+            trail-of began h.w after h.up.world h.up.whole h.way.ready.nodes run.0 run.1 run.2 h.way.runs now h.way.new
+            (ap (λ (x : AllNodes V K). x.lines) h.up.rest) (rests-old now resting same)
             (tell-before tells files faults keeps ring h.w after old-bits h.device h.given h.up told_on);
       }
 

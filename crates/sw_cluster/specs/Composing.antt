@@ -50,11 +50,13 @@ module _ {V K : Type 0} (tells : V → Bool) (files : V → Folders) (faults : V
       → IsServing tells files faults keeps ring first port connections rests rests_now doors doors_now out clock clock_now stores stores_now status
       → Leads serve_bytes rests rests_now
 
-  -- One after the other, where the lock of the hash told its contents as the first began: it tells them as the second begins, and the files that rest in the
-  -- end stand for what they stood for at first, joined with the writes that reached there in the one and in the other; and they are in order
+  -- One after the other, where the lock of the hash told its contents as the first began: it tells them as the second begins, which has what the first one's
+  -- machine has there, records too. The files that rest in the end stand for what they stood for at first, joined with the writes that reached there in the one
+  -- and in the other; and they are in order
   pub record StoredBoth (bytes more : ℕ) (rests mid rests_now : ℕ → ℕ → Option (V × K)) (one : Leads bytes rests mid) (other : Leads more mid rests_now)
       (device : ℕ) (hash : Hash) : Type 0 where
     pub told : ((began other).objects.seen (lock_of ring.lock_bits ring.power device hash)).told ≡ true
+    pub begins : (began other).objects.holds device hash ≡ one.machine.objects.half.holds device hash
     pub part : V × K
     pub resting : rests_now device (stripe_at ring.lock_bits ring.power (partition_of hash ring.power)) ≡ Some part
     pub stands : holds ring.secrets ring.power (files part.0) hash

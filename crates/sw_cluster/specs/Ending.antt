@@ -1,6 +1,6 @@
 -- How a session ends, by its status, and what its trail tells. (This project's own.)
 use Rattle.std.specs.Prelude.{◌≡◌, ⊤, ℕ, ◌*◌, ◌^◌, ◌<◌, ◌≤◌, ◌==◌, ◌&&◌, Bool, true, false, List, [], ◌++◌, length, Option, Some, Result}
-use Rattle.std.specs.Prelude.{Ok, Err, ◌⊎◌, if◌then◌else◌}
+use Rattle.std.specs.Prelude.{Ok, Err, ◌⊎◌, if◌then◌else◌, None}
 use Rattle.sw_http.specs.Reads.{ReadsWhile}
 use Rattle.sw_outside.specs.Doors.{Giving}
 use Rattle.sw_outside.specs.Readings.{TicksEach}
@@ -12,13 +12,14 @@ use Rattle.sw_session.specs.declared.session.SessionFault.TheVariants as faults
 use Rattle.sw_hashpath.specs.declared.place.Place.{Place}
 use Rattle.sw_object_steps.specs.Journals.{Hash}
 use Rattle.sw_ring.specs.declared.ring.Ring.{Ring}
-use Rattle.sw_machine.specs.Honest.{AreHonest}
+use Rattle.sw_machine.specs.Doors.{StandsFor}
+use Rattle.sw_machine.specs.Honest.{AreHonest, RunsHonestly}
 use Rattle.sw_machine.specs.Machine.{Machine, RunLine, Runs, came_in, machine_of, writes_at}
 use Rattle.sw_pass.specs.Rings.{replicas_in}
 use Rattle.sw_state.specs.States.{state_of, writes_of}
-use Rattle.sw_core.specs.Worlds.{KeeperSeen, AllNodes, lock_of, nodes_of, opened, place_lock, sight_of, stripe_at}
+use Rattle.sw_core.specs.Worlds.{KeeperSeen, AllNodes, lock_of, nodes_of, none_stands, opened, place_lock, sight_of, stripe_at}
 use Rattle.sw_hashdir.specs.Places.{holds}
-use Rattle.sw_objdir.specs.Directories.{are_in_order}
+use Rattle.sw_objdir.specs.Directories.{are_in_order, value_at}
 use Rattle.sw_hashpath.specs.HashParts.{partition_of}
 use Rattle.sw_outside.specs.Counts.{raised}
 use Rattle.sw_outside.specs.declared.store_error.StoreError.{StoreError}
@@ -65,16 +66,23 @@ pub record Ends {S : Type 0} (last : Request → Bool) (may : Serves S) (halts :
   pub waits : ended ≡ Err faults.ReadFault
       → WaitsForMore last may start after source.before source.now sink.before sink.now moments sink.calls sink.calls_now
 
+-- no device but those of the ring has anything
+pub record HasNoOthers (ring : Ring) (machine : Machine) : Type 0 where
+  pub objects : (device : ℕ) (hash : Hash) → length ring.devices ≤ device → machine.objects.half.holds device hash ≡ none_stands
+  pub containers : (device : ℕ) (place : Place) → length ring.devices ≤ device → machine.containers.half.holds device place ≡ None
+
 module _ {V K : Type 0} (tells : V → Bool) (files : V → Folders) (faults : V → ℕ) (keeps : KeeperSeen K) where
   -- At the place of each object lock rests a volume, whose count of faults is the lock's in the machine. Where the lock told its contents as the run
-  -- began, its files stand for what they stood for then, joined with the writes that reached there since, whatever failed there or elsewhere; and they are
-  -- in order, so that a next run begins with a lock that tells its contents
+  -- began, its files stand for what they stood for then, joined with the writes that reached there since, whatever failed there or elsewhere. That is what the
+  -- machine has, and its records are those that stand among them. And they are in order, so that a next run begins with a lock that tells its contents
   pub record IsStored (ring : Ring) (began : AllNodes V K) (machine : Machine) (rests : ℕ → ℕ → Option (V × K)) (device : ℕ) (hash : Hash) : Type 0 where
     pub part : V × K
     pub resting : rests device (stripe_at ring.lock_bits ring.power (partition_of hash ring.power)) ≡ Some part
     pub stands : ((sight_of tells files faults keeps began).objects.seen (lock_of ring.lock_bits ring.power device hash)).told ≡ true
         → holds ring.secrets ring.power (files part.0) hash
         ≡ state_of (writes_of ((sight_of tells files faults keeps began).objects.holds device hash).state ++ writes_at machine device hash)
+    pub value : ((sight_of tells files faults keeps began).objects.seen (lock_of ring.lock_bits ring.power device hash)).told ≡ true
+        → value_at ring.secrets ring.power (files part.0) hash ≡ machine.objects.half.holds device hash
     pub order : ((sight_of tells files faults keeps began).objects.seen (lock_of ring.lock_bits ring.power device hash)).told ≡ true
         → (tells part.0 && are_in_order ring.secrets ring.power (files part.0)) ≡ true
     pub counts : (machine.objects.half.seen (lock_of ring.lock_bits ring.power device hash)).faults ≡ faults part.0
@@ -94,7 +102,7 @@ module _ {V K : Type 0} (tells : V → Bool) (files : V → Folders) (faults : V
   -- what had reached its device before, and what came in a message had been sent. The run is honest: what devices keep of others they were told. So where it
   -- began with nothing each listing in it of a container of which no record is pending, and that isn't split into shards at the device, is exactly its live
   -- objects; and no row that a replica holds is lost, also while its container is split. In the end the files stand for what reached, and the keepers have the
-  -- machine's tables.
+  -- machine's tables: the nodes went on so to what they were last, before any device of them was out, from whatever machine they stood for at first.
   pub record IsTrail (ring : Ring) (began after : AllNodes V K) (rests : ℕ → ℕ → Option (V × K)) (steps : List Line) : Type 0 where
     pub lines : List RunLine
     pub came : came_in lines ≡ steps
@@ -103,6 +111,10 @@ module _ {V K : Type 0} (tells : V → Bool) (files : V → Folders) (faults : V
     pub honest : AreHonest ring.secrets (replicas_in ring) [] lines
     pub lists : ListsExactly ring (sight_of tells files faults keeps began) lines machine run
     pub holds : HoldsOn ring (sight_of tells files faults keeps began) lines machine
+    pub last : AllNodes V K
+    pub comes : RunsHonestly ring.secrets (replicas_in ring) (sight_of tells files faults keeps began) (sight_of tells files faults keeps last)
+    pub stands : StandsFor (sight_of tells files faults keeps last) machine
+    pub others : HasNoOthers ring machine
     pub stored : (device : ℕ) (hash : Hash) → device < length ring.devices → IsStored ring began machine rests device hash
     pub kept : (device : ℕ) (place : Place) → device < length ring.devices → IsKept ring began machine rests device place
 

@@ -3,6 +3,7 @@ pub mod Composing
 pub mod Connections
 pub mod Ending
 pub mod Holding
+pub mod Lasting
 pub mod Leaving
 pub mod Limits
 pub mod Listing

@@ -2,7 +2,7 @@
 use Rattle.std.specs.Prelude.{◌≡◌, ⊤, ℕ, zero, suc, ◌+◌, ◌*◌, ◌^◌, ◌<◌, ◌≤◌, Bool, List, [], ◌∷◌, ◌++◌, length, map, codes, decimal, Option, Result, Ok, Err}
 use Rattle.std.specs.Prelude.{◌⊎◌}
 use Rattle.std.specs.Io.KnownBytes.{Appends}
-use Rattle.sw_machine.specs.Doors.{LeaveRecords, StandsFor}
+use Rattle.sw_machine.specs.Doors.{LeaveRecords, RunsOnLeaving, StandsFor}
 use Rattle.sw_machine.specs.Machine.{Machine, RunLine, Runs, machine_of}
 use Rattle.sw_core.specs.Worlds.{KeeperSeen, AllNodes, Lifts, nodes_of, opened}
 use Rattle.sw_outside.specs.Counts.{raised}
@@ -19,7 +19,7 @@ use Rattle.sw_stores.specs.Starting.{AreStarted}
 use Rattle.sw_volume.specs.Tree.{Folders}
 use Rattle.sw_volume.specs.Volume.{raised_by}
 use Rattle.sw_cluster.specs.Connections.{IsConnection}
-use Rattle.sw_cluster.specs.Ending.{AreUnstarted, IsKept, IsStored}
+use Rattle.sw_cluster.specs.Ending.{AreUnstarted, HasNoOthers, IsKept, IsStored}
 use Rattle.sw_cluster.specs.Limits.{serve_bytes}
 use Rattle.sw_cluster.specs.Statuses as statuses
 use Rattle.sw_cluster.specs.Told.{Counts, DoorsTold, Input, IsSilent, Output}
@@ -219,14 +219,16 @@ module _ {V K : Type 0} (tells : V → Bool) (files : V → Folders) (faults : V
   -- ---- what rests then
 
   -- The nodes went through a run of the machine, in which no record was marked or dropped, and stand for the machine after it, and so do the files of their
-  -- volumes and the tables of their keepers, which rest in the stores
+  -- volumes and the tables of their keepers, which rest in the stores. From whatever machine they stood for at first they went on so
   pub record HasServed (began after : AllNodes V K) (rests : ℕ → ℕ → Option (V × K)) : Type 0 where
     pub lines : List RunLine
     pub machine : Machine
     pub run : Runs (nodes_of (length ring.devices) ring.lock_bits ring.power ring.secrets)
         (machine_of (quiet_sight_of tells files faults keeps began)) lines machine
     pub leaves : LeaveRecords lines
+    pub comes : RunsOnLeaving (quiet_sight_of tells files faults keeps began) (quiet_sight_of tells files faults keeps after)
     pub stands : StandsFor (quiet_sight_of tells files faults keeps after) machine
+    pub others : HasNoOthers ring machine
     pub stored : (device : ℕ) (hash : Hash) → device < length ring.devices → IsStored tells files faults keeps ring began machine rests device hash
     pub kept : (device : ℕ) (place : Place) → device < length ring.devices → IsKept tells files faults keeps ring began machine rests device place
 

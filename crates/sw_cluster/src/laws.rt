@@ -3,6 +3,7 @@
 
 ghost use Rattle.sw_cluster.specs.Answered.{AnswersStand, SessionAnswersStand};
 ghost use Rattle.sw_cluster.specs.Composing.{ObjectsCompose, RunsLead, ServingLeads, TablesCompose};
+ghost use Rattle.sw_cluster.specs.Lasting.{ServingLeavesSound, SessionsLeaveSound};
 ghost use Rattle.sw_cluster.specs.Shown.{ServingShowsExactly, SessionShowsExactly};
 ghost use Rattle.sw_core.specs.Worlds.{keeper_seen};
 ghost use Rattle.sw_ring.specs.declared.ring.Ring.{Ring};
@@ -40,4 +41,11 @@ pub fn commands_lead<S: Stores>()
 pub fn commands_compose<S: Stores>()
     ensures objects { (ring : Ring) → ObjectsCompose S.V.tells S.V.holds S.V.faults (keeper_seen S.K.tells S.K.holds S.K.faults) S.first ring }
     ensures tables { (ring : Ring) → TablesCompose S.V.tells S.V.holds S.V.faults (keeper_seen S.K.tells S.K.holds S.K.faults) S.first ring }
+{}
+
+/// What a command leaves is sound for the next one, with the account of what was written before both: so, from command to command, what clients are shown that
+/// lists a container stays exact, however often a node is started again. Records that wait are still there, and so is all that replicas were told.
+pub fn commands_stay_sound<S: Stores>()
+    ensures sessions { (ring : Ring) → SessionsLeaveSound S.V.tells S.V.holds S.V.faults (keeper_seen S.K.tells S.K.holds S.K.faults) S.first ring }
+    ensures serving { (ring : Ring) → ServingLeavesSound S.V.tells S.V.holds S.V.faults (keeper_seen S.K.tells S.K.holds S.K.faults) S.first ring }
 {}
