@@ -147,7 +147,7 @@ module _ {V K : Type 0} (tells : V → Bool) (files : V → Folders) (faults : V
       answered_by (Err serve_faults.NoMemory) ends = before_wanting ends.0
       answered_by (Err serve_faults.Write) ends = []
 
-  -- where it couldn't be said that it is listened, there are none
+  -- where it couldn't be said that the port is open, there are none
   abbrev pub answered_to : (port connections : ℕ) (began after : AllNodes V K) (doors doors_now : DoorsTold) (out : Output)
       (clock clock_now : Option (List ℕ)) (stores stores_now : Counts) (ended : Result ⊤ ServeFault)
       → EndsServing tells files faults keeps ring port connections began after doors doors_now out clock clock_now stores stores_now ended

@@ -28,7 +28,7 @@ use Rattle.sw_cluster.specs.declared.rounds.ServeFault.TheVariants as serve_faul
 
 -- ---- lines and statuses
 
--- the line that says that it is listened, and the one that says how many connections were served
+-- the line that says that the port is open, and the one that says how many connections were served
 abbrev pub listening_line : ℕ → List ℕ
 listening_line port = (codes "listening " ++ decimal port) ++ 10 ∷ []
 
@@ -184,7 +184,7 @@ module _ {V K : Type 0} (tells : V → Bool) (files : V → Folders) (faults : V
 
   -- ---- from the first line to the last
 
-  -- it was listened, but that couldn't be said
+  -- the port was opened, but that couldn't be said
   pub record IsMute (port : ℕ) (began after : AllNodes V K) (doors doors_now : DoorsTold) (out : Output) (clock clock_now : Option (List ℕ))
       (stores stores_now : Counts) (ended : Result ⊤ ServeFault) : Type 0 where
     pub fault : ServeFault
@@ -200,7 +200,7 @@ module _ {V K : Type 0} (tells : V → Bool) (files : V → Folders) (faults : V
   Concludes connections out (Ok _) ended = SaysLine (connections_line connections) out ended
   Concludes connections out (Err fault) ended = (ended ≡ Err fault) × IsSilent out
 
-  -- it was listened, that was said, and the connections were served
+  -- the port was opened, that was said, and the connections were served
   pub record IsOver (port connections : ℕ) (began after : AllNodes V K) (doors doors_now : DoorsTold) (out : Output)
       (clock clock_now : Option (List ℕ)) (stores stores_now : Counts) (ended : Result ⊤ ServeFault) : Type 0 where
     pub said : Option (List ℕ)  -- what the output had taken then, where it tells that
@@ -209,7 +209,7 @@ module _ {V K : Type 0} (tells : V → Bool) (files : V → Folders) (faults : V
     pub served : EndsConnections connections began after doors doors_now clock clock_now stores stores_now came
     pub concludes : Concludes connections (record out { before = said; calls = raised out.calls }) came ended
 
-  -- how serving ended, once it was listened. One call failed where that ended it, and else none
+  -- how serving ended, once the port was open. One call failed where that ended it, and else none
   abbrev pub EndsServing : ℕ → ℕ → AllNodes V K → AllNodes V K → DoorsTold → DoorsTold → Output → Option (List ℕ) → Option (List ℕ) → Counts → Counts
       → Result ⊤ ServeFault → Type 0
   EndsServing port connections began after doors doors_now out clock clock_now stores stores_now ended =
@@ -250,7 +250,7 @@ module _ {V K : Type 0} (tells : V → Bool) (files : V → Folders) (faults : V
     pub over : IsServedOver port connections (opened serve_bytes ring parts) rests_now doors doors_now out clock clock_now
         (record stores { calls = raised_by (length ring.devices * 2 ^ ring.lock_bits) stores.calls }) stores_now status
 
--- it couldn't be listened, and then no volume or keeper was touched
+-- the port couldn't be opened, and then no volume or keeper was touched
 pub record IsDeaf {V K : Type 0} (rests rests_now : ℕ → ℕ → Option (V × K)) (doors doors_now : DoorsTold) (out : Output) (clock clock_now : Option (List ℕ))
     (stores stores_now : Counts) (status : ℕ) : Type 0 where
   pub status_is : status ≡ statuses.door_fault
@@ -260,11 +260,11 @@ pub record IsDeaf {V K : Type 0} (rests rests_now : ℕ → ℕ → Option (V ×
   pub no_start : stores_now ≡ stores
   pub resting : IsAsItWas rests rests_now
 
--- doors once it is listened
+-- doors once the port is open
 abbrev pub listened : DoorsTold → DoorsTold
 listened doors = record doors { calls = raised doors.calls }
 
--- none was served, though it was listened: the volumes and keepers couldn't be started, or there was no memory for the nodes. Those that were started rest
+-- none was served, though the port was open: the volumes and keepers couldn't be started, or there was no memory for the nodes. Those that were started rest
 -- again
 pub record IsUnserved {V K : Type 0} (first : V × K → Type 0) (ring : Ring) (rests rests_now : ℕ → ℕ → Option (V × K)) (doors doors_now : DoorsTold)
     (out : Output)

@@ -25,7 +25,7 @@ write_fault = 4
 abbrev pub store_fault : ℕ
 store_fault = 5
 
--- it couldn't be listened, or a connection couldn't be accepted
+-- the port couldn't be opened, or a connection couldn't be accepted
 abbrev pub door_fault : ℕ
 door_fault = 6
 

@@ -32,7 +32,7 @@ use sw_words::ServeOptions;
 ///
 /// `run RING` answers the requests that come from `source` and writes the replies to `out`. `where RING ACCOUNT [CONTAINER [OBJECT]]` writes
 /// where a name is. `serve RING --port P --workers W --connections K --passes M` answers the requests of the connections that come to `doors`, and
-/// writes to `out` once it is listened and once all were served. The ring is read from `stores`, from which `run` and `serve` also have their volumes
+/// writes to `out` once the port is open and once all were served. The ring is read from `stores`, from which `run` and `serve` also have their volumes
 /// and to which they give them back, and the moments of requests from `clock`. `trail` is empty at the call; `run` leaves in it what came to the
 /// devices and the moments of the requests. The line that tells a status other than 0 goes to `errors`; a fault there changes nothing.
 pub fn cluster<R: Source, W: Sink, E: Sink, S: Stores, N: Doors, C: Clock>(

@@ -1,4 +1,4 @@
-//! The cluster: one command over any words, source, sinks, stores and clock.
+//! The cluster: one command over any arguments, source, sinks, stores, doors and clock.
 //!
 //! [`cluster`] is the top call: it carries the theorem of the whole program. Below it, from the top: `words` and `opening` tell the command
 //! and open its ring; `running` is the session of `run` (`sw_session`) over the nodes of a ring, whose volumes and keepers come from the stores

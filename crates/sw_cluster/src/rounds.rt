@@ -32,7 +32,7 @@ pub enum ServeFault {
     Write,
     /// The volumes and keepers of a device couldn't be started again.
     Store,
-    /// It couldn't be listened, or a connection not be accepted.
+    /// The port couldn't be opened, or a connection not be accepted.
     Door,
     NoMemory,
 }
@@ -67,7 +67,7 @@ pub fn serve_connections<W: Sink, S: Stores, N: Doors, C: Clock>(
     }
 }
 
-/// The same once it is listened: starts the volumes and keepers, and gives them back at the end.
+/// The same once the port is open: starts the volumes and keepers, and gives them back at the end.
 fn serve_listened<W: Sink, S: Stores, N: Doors, C: Clock>(
     alloc: Global,
     ring: &Ring,
@@ -141,7 +141,7 @@ fn serve_over<W: Sink, S: Stores, N: Doors, C: Clock>(
     status_of_serve(ended)
 }
 
-/// Says that it is listened, serves the connections, and says how many they were.
+/// Says that the port is open, serves the connections, and says how many they were.
 fn attend<W: Sink, S: Stores, N: Doors, C: Clock>(
     alloc: Global,
     ring: &Ring,

@@ -17,7 +17,7 @@ pub const BAD_RING: u8 = 3;
 pub const WRITE_FAULT: u8 = 4;
 /// The ring couldn't be read from the host, or the volume of an object lock not started.
 pub const STORE_FAULT: u8 = 5;
-/// It couldn't be listened, or a connection not be accepted.
+/// The port couldn't be opened, or a connection not be accepted.
 pub const DOOR_FAULT: u8 = 6;
 /// As many requests were answered as one session has at most.
 pub const TOO_LONG: u8 = 7;

@@ -14,7 +14,7 @@ use sw_message::{Field, FieldList, ReplyBody, Response};
 use sw_object_server::{field, time_text};
 use sw_outside::{Bytes, NoMemory};
 
-/// The status of a reply to a read where a step would have been made. No read is answered so.
+/// What a read that was made is answered stands in its reply already, so this status is in none: only refusals of a read are told by an answer.
 const READ: u16 = 204;
 
 /// The reply to a HEAD that was told this of its container, or why nothing was. It is the reply to a GET too where nothing was told.
