@@ -6,7 +6,8 @@ run:
 	@tools/run-example examples/put-and-get.http
 
 # The program, compiled before any proof: build/sw. It has checks in it, and is hundreds of times slower than the proved one, crates/sw/out/sw, which
-# `rt run` in crates/sw and the gate leave. What is here runs the proved one where it is newer than the sources, and else this one.
+# `rt run` in crates/sw and the gate leave. What is here runs the proved one where it is newer than the sources, else this one, compiled first where
+# it isn't newer than them.
 build:
 	@tools/program --unproved
 
