@@ -15,6 +15,9 @@ import sys
 import tempfile
 
 TOP = pathlib.Path(__file__).resolve().parent.parent
+sys.path.insert(0, str(TOP / "tools"))
+import chosen  # noqa: E402: found by the line above
+
 RING = TOP / "examples" / "two-devices.ring.json"
 FILE_NAME = re.compile(r"[0-9]{10}\.[0-9]{5}\.(data|meta|ts)")
 RECORD_NAME = re.compile(r"[0-9a-f]{29}([0-9a-f]{3})-([0-9]{10}\.[0-9]{5})")
@@ -22,13 +25,8 @@ RECORD_NAME = re.compile(r"[0-9a-f]{29}([0-9a-f]{3})-([0-9]{10}\.[0-9]{5})")
 
 @functools.lru_cache(maxsize=None)
 def program():
-    """The program: the one that SW_PROGRAM names, else the one that tools/program chooses, which says whether it is the proved one."""
-    if "SW_PROGRAM" in os.environ:
-        return os.environ["SW_PROGRAM"]
-    found = subprocess.run([str(TOP / "tools" / "program")], stdout=subprocess.PIPE, text=True)
-    if found.returncode:
-        sys.exit("there is no program to measure")
-    return found.stdout.strip()
+    """The program: the one that SW_PROGRAM names, else the one that tools/program chooses. Standard error says which."""
+    return chosen.program(os.environ.get("SW_PROGRAM"))
 
 
 class Ring:
