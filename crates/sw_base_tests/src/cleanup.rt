@@ -1,9 +1,8 @@
 use crate::fixtures::{Named, are_these, names_of};
 use std::alloc::Global;
-use std::test::Fail;
 use sw_cleanup::{cleanup, laws, names_of_writes, obsolete, unlink_each};
 use sw_diskfile::{FileName, Picked, read_name};
-use sw_outside::FailingCall;
+use sw_outside::{FailingCall, NoMemory};
 use sw_timestamp::Tag;
 use sw_volume::{MemVolume, SoundVolume, Volume, VolumeError};
 
@@ -111,7 +110,7 @@ const FAILURES: [(u64, bool, &[&[u8]]); 7] = [
 ];
 
 /// Earlier data, a tombstone of its time and later data, in a volume of which one call fails.
-fn failing_volume(alloc: Global, call: u64, made: bool) -> Result<MemVolume, Fail> {
+fn failing_volume(alloc: Global, call: u64, made: bool) -> Result<MemVolume, VolumeError> {
     let failing = vec![in alloc; FailingCall { call, made }]?;
     let mut volume = MemVolume::new(alloc, failing);
     put_all(alloc, &mut volume, HASH, &[DATA_4, TS_4, DATA_5])?;
@@ -129,15 +128,18 @@ fn answer_of(call: u64) -> Result<Picked, VolumeError> {
     })
 }
 
+/// Whether cleaning up answers so, and leaves these files, where this call of the volume fails.
+fn cleans_up(alloc: Global, call: u64, made: bool, left: &[&[u8]]) -> Result<bool, VolumeError> {
+    let mut volume = failing_volume(alloc, call, made)?;
+    let answer = cleanup(alloc, &mut volume, HASH);
+    Ok(answer == answer_of(call) && has_files(alloc, &mut volume, HASH, left))
+}
+
 #[test]
-fn a_failed_listing_is_told_and_a_failed_unlink_stops_nothing(rt: HostRuntime) -> Result<(), Fail> {
-    let alloc = rt.alloc();
+fn a_failed_listing_is_told_and_a_failed_unlink_stops_nothing(rt: HostRuntime) {
     for (call, made, left) in FAILURES {
-        let mut volume = failing_volume(alloc, call, made)?;
-        assert!(rt; cleanup(alloc, &mut volume, HASH) == answer_of(call));
-        assert!(rt; has_files(alloc, &mut volume, HASH, left));
+        assert!(rt; cleans_up(rt.alloc(), call, made, left) == Ok(true));
     }
-    Ok(())
 }
 
 /// The number of the call that fails, whether its change is made, and the files that are left when two of three are
@@ -150,16 +152,19 @@ const UNLINKS: [(u64, bool, &[&[u8]]); 5] = [
     (9, false, &[DATA_4]),
 ];
 
-#[test]
-fn files_are_unlinked_one_by_one_in_the_order_given(rt: HostRuntime) -> Result<(), Fail> {
-    let alloc = rt.alloc();
+/// Whether these files are left of the two, where this call of the volume fails.
+fn unlinks(alloc: Global, call: u64, made: bool, left: &[&[u8]]) -> Result<bool, VolumeError> {
     let files = names_of(alloc, &[(500_000, Tag::Put), (400_000, Tag::Del)])?;
+    let mut volume = failing_volume(alloc, call, made)?;
+    unlink_each(&mut volume, HASH, &files);
+    Ok(has_files(alloc, &mut volume, HASH, left))
+}
+
+#[test]
+fn files_are_unlinked_one_by_one_in_the_order_given(rt: HostRuntime) {
     for (call, made, left) in UNLINKS {
-        let mut volume = failing_volume(alloc, call, made)?;
-        unlink_each(&mut volume, HASH, &files);
-        assert!(rt; has_files(alloc, &mut volume, HASH, left));
+        assert!(rt; unlinks(rt.alloc(), call, made, left) == Ok(true));
     }
-    Ok(())
 }
 
 /// Files of writes among others, as a volume lists them.
@@ -170,20 +175,21 @@ fn listed<V: Volume>(alloc: Global, volume: &mut V) -> Result<Vec<FileName>, Vol
     Ok(names_of_writes(alloc, listing.files.as_slice())?)
 }
 
-#[test]
-fn names_of_writes_are_told_in_the_order_of_the_listing(rt: HostRuntime) -> Result<(), Fail> {
-    let alloc = rt.alloc();
-    let wanted = names_of(
-        alloc,
-        &[
-            (400_000, Tag::Put),
-            (400_000, Tag::Del),
-            (900_000, Tag::Meta),
-        ],
-    )?;
+/// Whether these names are told of them.
+fn are_told(alloc: Global, wanted: &[Named]) -> Result<bool, VolumeError> {
+    let wanted = names_of(alloc, wanted)?;
     let found = listed(alloc, &mut SoundVolume::new(alloc))?;
-    assert!(rt; found.as_slice() == wanted.as_slice());
-    Ok(())
+    Ok(found.as_slice() == wanted.as_slice())
+}
+
+#[test]
+fn names_of_writes_are_told_in_the_order_of_the_listing(rt: HostRuntime) {
+    let wanted = [
+        (400_000, Tag::Put),
+        (400_000, Tag::Del),
+        (900_000, Tag::Meta),
+    ];
+    assert!(rt; are_told(rt.alloc(), &wanted) == Ok(true));
 }
 
 /// Names in no order, and those of them that are obsolete.
@@ -197,11 +203,16 @@ const NAMES: [Named; 5] = [
 
 const OBSOLETE: [Named; 3] = [(5, Tag::Put), (4, Tag::Meta), (4, Tag::Del)];
 
+/// Whether these of the names are obsolete.
+fn are_obsolete(alloc: Global, names: &[Named], wanted: &[Named]) -> Result<bool, NoMemory> {
+    let names = names_of(alloc, names)?;
+    let wanted = names_of(alloc, wanted)?;
+    Ok(obsolete(alloc, &names)?.as_slice() == wanted.as_slice())
+}
+
 #[test]
-fn obsolete_files_are_named_in_the_order_of_the_list(rt: HostRuntime) -> Result<(), Fail> {
-    let alloc = rt.alloc();
-    let found = obsolete(alloc, &names_of(alloc, &NAMES)?)?;
-    assert!(rt; found.as_slice() == names_of(alloc, &OBSOLETE)?.as_slice());
+fn obsolete_files_are_named_in_the_order_of_the_list(rt: HostRuntime) {
+    assert!(rt; are_obsolete(rt.alloc(), &NAMES, &OBSOLETE) == Ok(true));
     laws::obsolete_is_not_picked();
     laws::pick_is_state();
     laws::obsolete_add_nothing();
@@ -212,5 +223,4 @@ fn obsolete_files_are_named_in_the_order_of_the_list(rt: HostRuntime) -> Result<
     laws::left_is_picked();
     laws::no_fault_none_left();
     laws::faults_are_failures();
-    Ok(())
 }

@@ -1,7 +1,6 @@
 //! What a crash leaves of a disk in memory, at its worst and at its best: a double, which no contract reaches.
 
-use std::alloc::Global;
-use std::test::Fail;
+use std::alloc::{AllocError, Global};
 use sw_disk::Change;
 
 /// A file, and whether its bytes were synced.
@@ -43,7 +42,7 @@ pub(crate) struct LeftFile<'a> {
 }
 
 /// What a crash leaves of names that weren't synced.
-#[derive(Clone, Copy, Debug, PartialEq)]
+#[derive(Clone, Copy)]
 pub(crate) enum Left {
     /// What stood there when their folder was synced.
     Synced,
@@ -63,7 +62,7 @@ fn set<'a>(
     dir: &'a [u8],
     file: &'a [u8],
     now: Option<Kept<'a>>,
-) -> Result<(), Fail> {
+) -> Result<(), AllocError> {
     for name in names.iter_mut() {
         if name.dir == dir && name.file == file {
             name.now = now;
@@ -102,10 +101,15 @@ fn sync_names(names: &mut [Name], folders: &mut [Folder], dir: &[u8]) {
 }
 
 fn is_there(folders: &[Folder], dir: &[u8]) -> bool {
-    folders.iter().any(|folder| folder.dir == dir)
+    for folder in folders {
+        if folder.dir == dir {
+            return true;
+        }
+    }
+    false
 }
 
-fn see<'a>(seen: &mut Seen<'a>, change: &'a Change) -> Result<(), Fail> {
+fn see<'a>(seen: &mut Seen<'a>, change: &'a Change) -> Result<(), AllocError> {
     match change {
         Change::Created { dir, file, bytes } => {
             let bytes = bytes.as_slice();
@@ -163,24 +167,42 @@ fn see<'a>(seen: &mut Seen<'a>, change: &'a Change) -> Result<(), Fail> {
     }
 }
 
-/// The files of these that are in folders which are left, and not in the one for writing.
-fn files_left<'a>(alloc: Global, seen: &Seen<'a>, left: Left) -> Result<Vec<LeftFile<'a>>, Fail> {
+/// The folders of these that are left, each with all above it.
+fn folders_left<'a>(
+    alloc: Global,
+    folders: &[Folder<'a>],
+    left: Left,
+) -> Result<Vec<Folder<'a>>, AllocError> {
     let mut there: Vec<Folder<'a>> = Vec::new(alloc);
-    for folder in &seen.folders {
+    for folder in folders {
         let way = above(folder.dir);
-        if (left == Left::Made || folder.synced) && (way.is_empty() || is_there(&there, way)) {
+        let stands = folder.synced || matches!(left, Left::Made);
+        if stands && (way.is_empty() || is_there(&there, way)) {
             there.push(*folder)?;
         }
     }
+    Ok(there)
+}
+
+/// What is left at a name.
+fn left_at<'a>(name: &Name<'a>, left: Left) -> Option<Kept<'a>> {
+    match left {
+        Left::Made => name.now,
+        Left::Synced => name.was,
+    }
+}
+
+/// The files of these that are in folders which are left, and not in the one for writing.
+fn files_left<'a>(
+    alloc: Global,
+    names: &[Name<'a>],
+    there: &[Folder<'a>],
+    left: Left,
+) -> Result<Vec<LeftFile<'a>>, AllocError> {
     let mut files = Vec::new(alloc);
-    for name in &seen.names {
-        let stands = if left == Left::Made {
-            name.now
-        } else {
-            name.was
-        };
-        if let Some(kept) = stands {
-            if is_there(&there, name.dir) && name.dir != b"tmp".as_slice() {
+    for name in names {
+        if let Some(kept) = left_at(name, left) {
+            if is_there(there, name.dir) && name.dir != b"tmp".as_slice() {
                 files.push(LeftFile {
                     dir: name.dir,
                     file: name.file,
@@ -192,12 +214,8 @@ fn files_left<'a>(alloc: Global, seen: &Seen<'a>, left: Left) -> Result<Vec<Left
     Ok(files)
 }
 
-/// What a crash leaves of the files of a disk on which these changes were made: of one that wasn't synced no byte.
-pub(crate) fn crashed<'a>(
-    alloc: Global,
-    changes: &'a [Change],
-    left: Left,
-) -> Result<Vec<LeftFile<'a>>, Fail> {
+/// The names and folders that these changes made.
+fn seen_of<'a>(alloc: Global, changes: &'a [Change]) -> Result<Seen<'a>, AllocError> {
     let mut seen = Seen {
         names: Vec::new(alloc),
         folders: Vec::new(alloc),
@@ -205,5 +223,16 @@ pub(crate) fn crashed<'a>(
     for change in changes {
         see(&mut seen, change)?;
     }
-    files_left(alloc, &seen, left)
+    Ok(seen)
+}
+
+/// What a crash leaves of the files of a disk on which these changes were made: of one that wasn't synced no byte.
+pub(crate) fn crashed<'a>(
+    alloc: Global,
+    changes: &'a [Change],
+    left: Left,
+) -> Result<Vec<LeftFile<'a>>, AllocError> {
+    let seen = seen_of(alloc, changes)?;
+    let there = folders_left(alloc, &seen.folders, left)?;
+    files_left(alloc, &seen.names, &there, left)
 }

@@ -1,5 +1,5 @@
 use crate::fixtures::{Named, names_of};
-use std::test::Fail;
+use std::alloc::{AllocError, Global};
 use sw_diskfile::{FileName, NAME_ROOM, NotOurs, laws, pick, read_name, write_name};
 use sw_timestamp::{Tag, Timestamp};
 
@@ -35,9 +35,7 @@ fn is_name_of(text: &[u8], units: u64, tag: Tag) -> bool {
     let file = FileName { time, tag };
     let mut room = [b'-'; 48];
     let count = write_name(&file, &mut room);
-    read_name(text) == Ok(file)
-        && &room[..count] == text
-        && room[count..].iter().all(|b| *b == b'-')
+    read_name(text) == Ok(file) && &room[..count] == text && &room[count..] == &[b'-'; 48][count..]
 }
 
 #[test]
@@ -76,16 +74,27 @@ const PICKS: [(&[Named], Option<Named>, Option<Named>); 5] = [
 ];
 
 fn is_file(found: Option<FileName>, wanted: Option<Named>) -> bool {
-    found.map(|file| (file.time.units(), file.tag)) == wanted
+    match (found, wanted) {
+        (Some(file), Some((units, tag))) => file.time.units() == units && file.tag == tag,
+        (None, None) => true,
+        _ => false,
+    }
+}
+
+/// Whether these are picked of these names.
+fn picks(
+    alloc: Global,
+    pairs: &[Named],
+    base: Option<Named>,
+    meta: Option<Named>,
+) -> Result<bool, AllocError> {
+    let picked = pick(&names_of(alloc, pairs)?);
+    Ok(is_file(picked.base, base) && is_file(picked.meta, meta))
 }
 
 #[test]
-fn tombstones_win_over_data_and_data_over_metadata_of_the_same_time(
-    rt: HostRuntime,
-) -> Result<(), Fail> {
+fn tombstones_win_over_data_and_data_over_metadata_of_the_same_time(rt: HostRuntime) {
     for (pairs, base, meta) in PICKS {
-        let picked = pick(&names_of(rt.alloc(), pairs)?);
-        assert!(rt; is_file(picked.base, base) && is_file(picked.meta, meta));
+        assert!(rt; picks(rt.alloc(), pairs, base, meta) == Ok(true));
     }
-    Ok(())
 }

@@ -1,5 +1,4 @@
-use std::alloc::Global;
-use std::test::Fail;
+use std::alloc::{AllocError, Global};
 use sw_diskfile::FileName;
 use sw_outside::Bytes;
 use sw_timestamp::{Tag, Timestamp};
@@ -7,7 +6,7 @@ use sw_timestamp::{Tag, Timestamp};
 /// A file's name, as units of 10 microseconds and a kind.
 pub(crate) type Named = (u64, Tag);
 
-pub(crate) fn names_of(alloc: Global, pairs: &[Named]) -> Result<Vec<FileName>, Fail> {
+pub(crate) fn names_of(alloc: Global, pairs: &[Named]) -> Result<Vec<FileName>, AllocError> {
     let mut names = Vec::new(alloc);
     for (units, tag) in pairs {
         if let Some(time) = Timestamp::from_units(*units) {
@@ -19,7 +18,12 @@ pub(crate) fn names_of(alloc: Global, pairs: &[Named]) -> Result<Vec<FileName>, 
 
 /// Whether the byte strings are these, in their order.
 pub(crate) fn are_these(found: &[Bytes], wanted: &[&[u8]]) -> bool {
-    found.len() == wanted.len() && found.iter().zip(wanted).all(|(f, w)| f.as_slice() == *w)
+    for (bytes, text) in found.iter().zip(wanted) {
+        if bytes.as_slice() != *text {
+            return false;
+        }
+    }
+    found.len() == wanted.len()
 }
 
 /// Whether these bytes were found, or none.

@@ -1,5 +1,4 @@
 use std::alloc::Global;
-use std::test::Fail;
 use sw_hashpath::{
     BadFile, BadName, DecodeError, Name, NameError, Place, Secrets, first_fault, hash_path,
     hex_text, partition, stripe, suffix,
@@ -59,6 +58,10 @@ pub(crate) fn secrets(alloc: Global) -> Result<Secrets, NoMemory> {
     })
 }
 
+fn copied_secrets(alloc: Global) -> Result<Secrets, NoMemory> {
+    secrets(alloc)?.copy(alloc)
+}
+
 fn has_parts((hash, power, part, end, bits, lock): ([u8; 16], u8, u32, u16, u8, u8)) -> bool {
     if power < 1 || power > 32 || bits > 4 {
         return false;
@@ -81,48 +84,92 @@ fn is_known_place(place: &Place) -> bool {
         && place.hash == CONTAINER_HASH
 }
 
-#[test]
-fn paths_under_the_suffix_endcap_have_their_known_hashes_and_parts(
-    rt: HostRuntime,
-) -> Result<(), Fail> {
-    let secrets = secrets(rt.alloc())?;
+/// Whether a path of the account `a` has this hash.
+fn has_hash(
+    secrets: &Secrets,
+    container: Option<&[u8]>,
+    object: Option<&[u8]>,
+    hash: [u8; 16],
+) -> bool {
+    (container.is_some() || object.is_none())
+        && hash_path(secrets, b"a", container, object) == Ok(hash)
+}
+
+fn have_their_hashes(alloc: Global) -> Result<bool, NoMemory> {
+    let secrets = secrets(alloc)?;
     for (container, object, hash) in HASHES {
-        if container.is_some() || object.is_none() {
-            assert!(rt; hash_path(&secrets, b"a", container, object) == Ok(hash));
+        if !has_hash(&secrets, container, object, hash) {
+            return Ok(false);
         }
     }
+    Ok(true)
+}
+
+#[test]
+fn paths_under_the_suffix_endcap_have_their_known_hashes_and_parts(rt: HostRuntime) {
+    assert!(rt; have_their_hashes(rt.alloc()) == Ok(true));
     for parts in PARTS {
         assert!(rt; has_parts(parts));
     }
-    assert_eq!(rt;
-        &hex_text(&OBJECT_HASH),
-        b"06fbf0b514e5199dfc4e00f42eb5ea83"
-    );
-    Ok(())
+    assert!(rt; &hex_text(&OBJECT_HASH) == b"06fbf0b514e5199dfc4e00f42eb5ea83");
 }
 
-#[test]
-fn bad_names_are_refused_for_the_first_thing_that_is_wrong(rt: HostRuntime) -> Result<(), Fail> {
-    let secrets = secrets(rt.alloc())?;
+/// Whether this is the first thing that is wrong with a name.
+fn has_fault(
+    secrets: &Secrets,
+    account: &[u8],
+    container: &[u8],
+    object: &[u8],
+    bad: Option<BadName>,
+) -> bool {
+    first_fault(account, Some(container), Some(object)) == bad
+        && hash_path(secrets, account, Some(container), Some(object)).err() == bad
+}
+
+fn have_their_faults(alloc: Global) -> Result<bool, NoMemory> {
+    let secrets = secrets(alloc)?;
     for (account, container, object, bad) in NAMES {
-        assert!(rt; first_fault(account, Some(container), Some(object)) == bad);
-        let hash = hash_path(&secrets, account, Some(container), Some(object));
-        assert!(rt; hash.err() == bad);
+        if !has_fault(&secrets, account, container, object, bad) {
+            return Ok(false);
+        }
     }
-    Ok(())
+    Ok(true)
 }
 
 #[test]
-fn names_and_places_keep_their_parts_and_their_hash(rt: HostRuntime) -> Result<(), Fail> {
-    let alloc = rt.alloc();
-    let secrets = secrets(alloc)?.copy(alloc)?;
-    let name = Name::new(alloc, &secrets, b"a", b"c", b"o")?.copy(alloc)?;
-    assert!(rt; is_known_name(&name));
-    let place = Place::new(alloc, &secrets, b"a", b"c")?.copy(alloc)?;
-    assert!(rt; is_known_place(&place));
-    let slash = Place::new(alloc, &secrets, b"a", b"c/d").map(|place| place.hash);
-    assert!(rt; slash == Err(NameError::Bad(BadName::Slash)));
-    Ok(())
+fn bad_names_are_refused_for_the_first_thing_that_is_wrong(rt: HostRuntime) {
+    assert!(rt; have_their_faults(rt.alloc()) == Ok(true));
+}
+
+fn is_name_kept(alloc: Global, secrets: &Secrets) -> Result<bool, NameError> {
+    let name = Name::new(alloc, secrets, b"a", b"c", b"o")?;
+    Ok(is_known_name(&name.copy(alloc)?))
+}
+
+fn is_place_kept(alloc: Global, secrets: &Secrets) -> Result<bool, NameError> {
+    let place = Place::new(alloc, secrets, b"a", b"c")?;
+    Ok(is_known_place(&place.copy(alloc)?))
+}
+
+fn is_slash_refused(alloc: Global, secrets: &Secrets) -> bool {
+    match Place::new(alloc, secrets, b"a", b"c/d") {
+        Ok(_place) => false,
+        Err(error) => error == NameError::Bad(BadName::Slash),
+    }
+}
+
+fn are_kept(alloc: Global) -> Result<bool, NameError> {
+    let secrets = copied_secrets(alloc)?;
+    Ok(
+        is_name_kept(alloc, &secrets)?
+            && is_place_kept(alloc, &secrets)?
+            && is_slash_refused(alloc, &secrets),
+    )
+}
+
+#[test]
+fn names_and_places_keep_their_parts_and_their_hash(rt: HostRuntime) {
+    assert!(rt; are_kept(rt.alloc()) == Ok(true));
 }
 
 #[test]

@@ -1,10 +1,8 @@
-use std::alloc::Global;
-use std::test::Fail;
+use std::alloc::{AllocError, Global};
 use sw_disk::{Disk, MemDisk};
 use sw_outside::FailingCall;
 
 /// A call of a disk.
-#[derive(Clone, Copy, Debug, PartialEq)]
 enum Call {
     MakeFolder,
     Create,
@@ -18,7 +16,7 @@ enum Call {
 }
 
 /// Calls in their order, none of which fails on a disk with nothing on it, and whether each makes a change.
-const CALLS: [(Call, bool); 9] = [
+static CALLS: [(Call, bool); 9] = [
     (Call::MakeFolder, true),
     (Call::Create, true),
     (Call::SyncFile, true),
@@ -31,7 +29,7 @@ const CALLS: [(Call, bool); 9] = [
 ];
 
 /// Whether the call is answered.
-fn is_answered(alloc: Global, disk: &mut MemDisk, call: Call) -> bool {
+fn is_answered(alloc: Global, disk: &mut MemDisk, call: &Call) -> bool {
     match call {
         Call::MakeFolder => disk.make_folder(b"d").is_ok(),
         Call::Create => disk.create(b"d", b"f", b"bytes").is_ok(),
@@ -45,37 +43,43 @@ fn is_answered(alloc: Global, disk: &mut MemDisk, call: Call) -> bool {
     }
 }
 
-/// Whether the calls before this one are answered, it fails, and a further one is answered; and whether what was changed is what these made.
-fn goes_as_planned(alloc: Global, at: usize, made: bool) -> Result<bool, Fail> {
-    let failing = vec![in alloc;
-        FailingCall {
-            call: at as u64,
-            made
-        },
-    ]?;
-    let mut disk = MemDisk::new(alloc, failing);
+/// How many changes were wanted of the calls up to this one, which alone fails, with its change made or not. None where one is answered otherwise.
+fn changes_up_to(alloc: Global, disk: &mut MemDisk, at: usize, made: bool) -> Option<usize> {
     let mut wanted = 0usize;
     for (number, (call, changes)) in CALLS.iter().enumerate() {
         if number > at {
             break;
         }
-        if is_answered(alloc, &mut disk, *call) != (number < at) {
-            return Ok(false);
+        if is_answered(alloc, disk, call) != (number < at) {
+            return None;
         }
         if *changes && (number < at || made) {
             wanted = wanted.saturating_add(1);
         }
     }
-    let is_planned = disk.changes().len() == wanted;
-    Ok(is_planned && is_answered(alloc, &mut disk, Call::MakeFolder))
+    Some(wanted)
+}
+
+/// Whether the calls before this one are answered, it fails, and a further one is answered; and whether what was changed is what these made.
+fn goes_as_planned(alloc: Global, at: usize, made: bool) -> Result<bool, AllocError> {
+    let call = at as u64;
+    let mut disk = MemDisk::new(
+        alloc,
+        Vec::from_slice(alloc, &[FailingCall { call, made }])?,
+    );
+    let wanted = changes_up_to(alloc, &mut disk, at, made);
+    let is_planned = wanted == Some(disk.changes().len());
+    Ok(is_planned && is_answered(alloc, &mut disk, &Call::MakeFolder))
 }
 
 #[test]
-fn a_disk_in_memory_fails_where_it_is_planned_to(rt: HostRuntime) -> Result<(), Fail> {
+fn a_disk_in_memory_fails_where_it_is_planned_to(rt: HostRuntime) {
     for at in 0..CALLS.len() {
         for made in [false, true] {
-            assert!(rt; goes_as_planned(rt.alloc(), at, made)?, "{at} {made}");
+            assert!(rt;
+                goes_as_planned(rt.alloc(), at, made) == Ok(true),
+                "{at} {made}"
+            );
         }
     }
-    Ok(())
 }

@@ -1,48 +1,29 @@
+use crate::fixtures::are_these;
 use std::alloc::{AllocError, Global};
 use std::io;
 use std::io::{ErrorKind, Read, Write};
 use std::rt::Clock as HostTime;
-use std::test::Fail;
 use std::time::{Duration, SystemTime, UNIX_EPOCH};
 use sw_outside::{
-    Bytes, BytesList, Clock, Failed, FailingPut, HostClock, MemClock, MemSink, MemSource,
+    Bytes, BytesList, Clock, Failed, FailingPut, HostClock, MemClock, MemSink, MemSource, NoMemory,
     ReaderSource, Sequence, Sink, SoundSink, SoundSource, Source, WriterSink, is_utf8,
 };
 
-/// A writer that takes at most two bytes a call, and fails once it is full.
+/// A writer whose calls take at most so many bytes, or fail, each in its turn.
 #[derive(Drop)]
-struct Narrow {
-    room: usize,
+struct Told {
+    answers: &'static [Result<usize, ErrorKind>],
 }
 
-impl Write for Narrow {
+impl Write for Told {
     fn write(&mut self, buf: &[u8]) -> io::Result<usize> {
-        if self.room == 0 {
+        let [answer, rest @ ..] = self.answers else {
             return Err(io::Error::from(ErrorKind::WriteZero));
-        }
-        let taken = buf.len().min(2).min(self.room);
-        self.room -= taken;
-        Ok(taken)
-    }
-
-    fn flush(&mut self) -> io::Result<()> {
-        Ok(())
-    }
-}
-
-/// A writer that takes all, and whose second and third calls fail.
-#[derive(Drop)]
-struct Halting {
-    writes: u8,
-}
-
-impl Write for Halting {
-    fn write(&mut self, buf: &[u8]) -> io::Result<usize> {
-        self.writes = self.writes.saturating_add(1);
-        match self.writes {
-            2 => Err(io::Error::from(ErrorKind::Interrupted)),
-            3 => Err(io::Error::from(ErrorKind::TimedOut)),
-            _ => Ok(buf.len()),
+        };
+        self.answers = rest;
+        match answer {
+            Ok(most) => Ok(buf.len().min(*most)),
+            Err(kind) => Err(io::Error::from(*kind)),
         }
     }
 
@@ -50,6 +31,28 @@ impl Write for Halting {
         Ok(())
     }
 }
+
+/// The second and the third call fail.
+static HALTING: [Result<usize, ErrorKind>; 4] = [
+    Ok(9),
+    Err(ErrorKind::Interrupted),
+    Err(ErrorKind::TimedOut),
+    Ok(9),
+];
+
+/// What is put to that one, and whether it is taken: nothing is written of nothing.
+static TAKEN_BETWEEN: [(&[u8], bool); 5] = [
+    (b"a", true),
+    (b"b", false),
+    (b"", true),
+    (b"c", false),
+    (b"d", true),
+];
+
+/// Two bytes a call, until five are taken.
+static NARROW: [Result<usize, ErrorKind>; 4] = [Ok(2), Ok(2), Ok(1), Err(ErrorKind::WriteZero)];
+
+static TAKEN_UP_TO_FIVE: [(&[u8], bool); 3] = [(b"abc", true), (b"defg", false), (b"", true)];
 
 /// A host's time that is set by hand, or isn't known.
 #[derive(Clone, Copy)]
@@ -134,80 +137,92 @@ fn bytes_of(alloc: Global, texts: &[&[u8]]) -> Result<Vec<Bytes>, AllocError> {
     Ok(vec)
 }
 
-/// Whether the byte strings are these texts, in order.
-fn are(list: &[Bytes], texts: &[&[u8]]) -> bool {
-    list.len() == texts.len()
-        && list
-            .iter()
-            .zip(texts)
-            .all(|(bytes, text)| bytes.as_slice() == *text)
-}
+/// What reads of four bytes give: of six bytes in pieces, of which the second call fails; of five bytes as they are; and of a reader that fails.
+static CUT: [Option<&[u8]>; 5] = [Some(b"ab"), None, Some(b"c"), Some(b"def"), Some(b"")];
 
-#[test]
-fn sources_give_their_bytes_in_pieces_and_fail_where_they_are_told(
-    rt: HostRuntime,
-) -> Result<(), Fail> {
-    let alloc = rt.alloc();
+static WHOLE: [Option<&[u8]>; 3] = [Some(b"abcd"), Some(b"e"), Some(b"")];
+
+static READ: [Option<&[u8]>; 4] = [Some(&[1]), None, None, Some(&[4])];
+
+/// A source of six bytes, which gives them in these pieces, and whose second call fails.
+fn cut_source(alloc: Global) -> Result<MemSource, NoMemory> {
     let bytes = Bytes::copy(alloc, b"abcdef")?;
-    let mut cut = MemSource::new(bytes, vec![in alloc; 2, 0, 1]?, vec![in alloc; 1]?);
-    let wants: [Option<&[u8]>; 5] = [Some(b"ab"), None, Some(b"c"), Some(b"def"), Some(b"")];
-    assert!(rt; gives_each(&mut cut, &wants));
+    let pieces = Vec::from_slice(alloc, &[2, 0, 1])?;
+    Ok(MemSource::new(bytes, pieces, Vec::from_slice(alloc, &[1])?))
+}
+
+fn cut_gives_its_pieces(alloc: Global) -> Result<bool, NoMemory> {
+    Ok(gives_each(&mut cut_source(alloc)?, &CUT))
+}
+
+fn sound_gives_all(alloc: Global) -> Result<bool, NoMemory> {
     let mut sound = SoundSource::new(Bytes::copy(alloc, b"abcde")?);
-    let wants: [Option<&[u8]>; 3] = [Some(b"abcd"), Some(b"e"), Some(b"")];
-    assert!(rt; gives_each(&mut sound, &wants));
+    Ok(gives_each(&mut sound, &WHOLE))
+}
+
+/// Whether a reader's failures are told, and counted with its calls.
+fn reader_gives_what_is_read() -> bool {
     let mut read = ReaderSource::new(Broken { reads: 0 });
-    let wants: [Option<&[u8]>; 4] = [Some(&[1]), None, None, Some(&[4])];
-    assert!(rt; gives_each(&mut read, &wants));
-    assert_eq!(rt; (read.calls(), read.faults()), (4, 2));
-    Ok(())
+    gives_each(&mut read, &READ) && read.calls() == 4 && read.faults() == 2
 }
 
 #[test]
-fn sinks_take_all_or_fail_where_they_are_told(rt: HostRuntime) -> Result<(), Fail> {
+fn sources_give_their_bytes_in_pieces_and_fail_where_they_are_told(rt: HostRuntime) {
     let alloc = rt.alloc();
-    let failing = vec![in alloc;
-        FailingPut { call: 1, taken: 2 },
-        FailingPut { call: 3, taken: 9 },
-        FailingPut { call: 5, taken: 3 },
-        FailingPut { call: 6, taken: 0 },
-    ]?;
-    let mut kept = MemSink::new(alloc, failing);
-    let puts: [(&[u8], bool); 8] = [
-        (b"abc", true),
-        (b"def", false),
-        (b"g", true),
-        (b"hij", false),
-        (b"", true),
-        (b"", false),
-        (b"no", false),
-        (b"k", true),
-    ];
-    assert!(rt; takes_each(&mut kept, &puts));
-    assert_eq!(rt; kept.bytes(), b"abcdeghijk".as_slice());
-    assert_eq!(rt; kept.starved(), 0);
-    let mut written = WriterSink::new(Narrow { room: 5 });
-    let puts: [(&[u8], bool); 3] = [(b"abc", true), (b"defg", false), (b"", true)];
-    assert!(rt; takes_each(&mut written, &puts));
-    let puts: [(&[u8], bool); 5] = [
-        (b"a", true),
-        (b"b", false),
-        (b"", true),
-        (b"c", false),
-        (b"d", true),
-    ];
-    assert!(rt; takes_each(&mut WriterSink::new(Halting { writes: 0 }), &puts));
-    let puts: [(&[u8], bool); 2] = [(b"anything", true), (b"", true)];
-    assert!(rt; takes_each(&mut SoundSink::new(), &puts));
-    Ok(())
+    assert!(rt; cut_gives_its_pieces(alloc) == Ok(true));
+    assert!(rt; sound_gives_all(alloc) == Ok(true));
+    assert!(rt; reader_gives_what_is_read());
+}
+
+/// What is put to a sink in memory, and whether it is taken.
+static TAKEN_BY_PLAN: [(&[u8], bool); 8] = [
+    (b"abc", true),
+    (b"def", false),
+    (b"g", true),
+    (b"hij", false),
+    (b"", true),
+    (b"", false),
+    (b"no", false),
+    (b"k", true),
+];
+
+/// The puts among them that fail, and how much each takes.
+const FAILING: [FailingPut; 4] = [
+    FailingPut { call: 1, taken: 2 },
+    FailingPut { call: 3, taken: 9 },
+    FailingPut { call: 5, taken: 3 },
+    FailingPut { call: 6, taken: 0 },
+];
+
+fn mem_takes_what_it_is_told(alloc: Global) -> Result<bool, AllocError> {
+    let mut kept = MemSink::new(alloc, Vec::from_slice(alloc, &FAILING)?);
+    let taken = takes_each(&mut kept, &TAKEN_BY_PLAN);
+    Ok(taken && kept.bytes() == b"abcdeghijk".as_slice() && kept.starved() == 0)
+}
+
+/// Whether puts over a writer with these answers are taken or fail as the table says.
+fn writer_takes(answers: &'static [Result<usize, ErrorKind>], puts: &[(&[u8], bool)]) -> bool {
+    takes_each(&mut WriterSink::new(Told { answers }), puts)
 }
 
 #[test]
-fn clocks_show_their_readings_in_order_and_then_the_last(rt: HostRuntime) -> Result<(), Fail> {
-    let alloc = rt.alloc();
-    let mut clock = MemClock::new(vec![in alloc; 5, 7]?);
-    assert!(rt; shows_each(&mut clock, &[5, 7, 7]));
-    assert!(rt; shows_each(&mut MemClock::new(Vec::new(alloc)), &[0, 0]));
-    Ok(())
+fn sinks_take_all_or_fail_where_they_are_told(rt: HostRuntime) {
+    assert!(rt; mem_takes_what_it_is_told(rt.alloc()) == Ok(true));
+    assert!(rt; writer_takes(&NARROW, &TAKEN_UP_TO_FIVE));
+    assert!(rt; writer_takes(&HALTING, &TAKEN_BETWEEN));
+    assert!(rt; takes_each(&mut SoundSink::new(), &[(b"anything", true), (b"", true)]));
+}
+
+/// Whether a clock with these readings shows what is wanted.
+fn mem_shows(alloc: Global, readings: &[u64], wants: &[u64]) -> Result<bool, AllocError> {
+    let mut clock = MemClock::new(Vec::from_slice(alloc, readings)?);
+    Ok(shows_each(&mut clock, wants))
+}
+
+#[test]
+fn clocks_show_their_readings_in_order_and_then_the_last(rt: HostRuntime) {
+    assert!(rt; mem_shows(rt.alloc(), &[5, 7], &[5, 7, 7]) == Ok(true));
+    assert!(rt; mem_shows(rt.alloc(), &[], &[0, 0]) == Ok(true));
 }
 
 /// The whole seconds that the host's clock shows.
@@ -215,39 +230,67 @@ fn shown(time: &impl HostTime) -> u64 {
     HostClock::new(time).now()
 }
 
-/// How many whole seconds have gone since 1970.
-fn seconds(rt: &HostRuntime) -> Result<u64, Fail> {
-    let since = SystemTime::now(rt)?.duration_since(UNIX_EPOCH);
-    Ok(since.map_or(0, |since| since.as_secs()))
+/// How many whole seconds have gone since 1970, where that is known.
+fn seconds(rt: &HostRuntime) -> Option<u64> {
+    let now = SystemTime::now(rt).ok()?;
+    Some(now.duration_since(UNIX_EPOCH).ok()?.as_secs())
+}
+
+/// Whether the host's clock shows a time between two looks at the host's own.
+fn shows_the_time(rt: &HostRuntime) -> Option<bool> {
+    let before = seconds(rt)?;
+    let now = shown(rt);
+    let after = seconds(rt)?;
+    Some(1_700_000_000 < before && before <= now && now <= after)
 }
 
 #[test]
-fn the_hosts_clock_shows_whole_seconds(rt: HostRuntime) -> Result<(), Fail> {
-    let before = seconds(&rt)?;
-    let now = shown(&rt);
-    assert!(rt; 1_700_000_000 < before && before <= now && now <= seconds(&rt)?);
+fn the_hosts_clock_shows_whole_seconds(rt: HostRuntime) {
+    assert!(rt; shows_the_time(&rt) == Some(true));
     let cases = [(Some(7_999), 7), (Some(8_000), 8), (Some(0), 0), (None, 0)];
     for (millis, wanted) in cases {
-        assert_eq!(rt; shown(&SetTime { millis }), wanted);
+        assert!(rt; shown(&SetTime { millis }) == wanted);
     }
-    Ok(())
+}
+
+/// Whether the copy of a list of these texts has them, and gives them back.
+fn are_copied(alloc: Global, texts: &[&[u8]]) -> Result<bool, NoMemory> {
+    let list = BytesList::from(bytes_of(alloc, texts)?);
+    let copy = list.copy(alloc)?;
+    let same = are_these(copy.as_slice(), texts);
+    let given: Vec<Bytes> = copy.into();
+    Ok(same && are_these(&given, texts))
+}
+
+fn new_list_is_copied(alloc: Global) -> Result<bool, NoMemory> {
+    Ok(BytesList::new(alloc).copy(alloc)?.as_slice().is_empty())
+}
+
+/// Whether a byte string gives these bytes back.
+fn is_given_back(alloc: Global, text: &[u8]) -> Result<bool, NoMemory> {
+    let bytes: Vec<u8> = Bytes::copy(alloc, text)?.into();
+    Ok(bytes.as_slice() == text)
+}
+
+/// Whether the copy of a sequence of these has them.
+fn numbers_are_copied(alloc: Global, numbers: &[u64]) -> Result<bool, NoMemory> {
+    let sequence = Sequence::from(Vec::from_slice(alloc, numbers)?);
+    Ok(sequence.copy(alloc)?.as_slice() == numbers)
+}
+
+/// Whether the copy of a sequence of these has them.
+fn small_are_copied(alloc: Global, numbers: &[u8]) -> Result<bool, NoMemory> {
+    let sequence = Sequence::from(Vec::from_slice(alloc, numbers)?);
+    Ok(sequence.copy(alloc)?.as_slice() == numbers)
 }
 
 #[test]
-fn byte_strings_and_lists_of_them_are_copied_and_given_back(rt: HostRuntime) -> Result<(), Fail> {
+fn byte_strings_and_lists_of_them_are_copied_and_given_back(rt: HostRuntime) {
     let alloc = rt.alloc();
-    let texts: [&[u8]; 2] = [b"sda", b""];
-    let copy = BytesList::from(bytes_of(alloc, &texts)?).copy(alloc)?;
-    assert!(rt; are(copy.as_slice(), &texts));
-    let given: Vec<Bytes> = copy.into();
-    assert!(rt; are(&given, &texts));
-    let bytes: Vec<u8> = Bytes::copy(alloc, b"abc")?.into();
-    assert_eq!(rt; bytes.as_slice(), b"abc".as_slice());
-    assert!(rt; BytesList::new(alloc).copy(alloc)?.as_slice().is_empty());
-    let numbers = Sequence::from(vec![in alloc; 0u64, 3]?).copy(alloc)?;
-    assert_eq!(rt; numbers.as_slice(), [0, 3].as_slice());
-    let small = Sequence::from(vec![in alloc; 0u8, 3]?).copy(alloc)?;
-    assert_eq!(rt; small.as_slice(), [0, 3].as_slice());
+    assert!(rt; are_copied(alloc, &[b"sda", b""]) == Ok(true));
+    assert!(rt; new_list_is_copied(alloc) == Ok(true));
+    assert!(rt; is_given_back(alloc, b"abc") == Ok(true));
+    assert!(rt; numbers_are_copied(alloc, &[0, 3]) == Ok(true));
+    assert!(rt; small_are_copied(alloc, &[0, 3]) == Ok(true));
     assert!(rt; is_utf8(b"\xc3\xa4") && !is_utf8(b"\xc3"));
-    Ok(())
 }

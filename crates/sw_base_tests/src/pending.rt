@@ -1,8 +1,7 @@
 use crate::hashpath::{OBJECT_HASH, secrets};
 use std::alloc::Global;
-use std::test::Fail;
 use sw_hashpath::{BadFile, DecodeError, Secrets};
-use sw_outside::Bytes;
+use sw_outside::NoMemory;
 use sw_pending::{
     Filed, NAME_ROOM, RecordKey, decode, encode, folder, laws, read_name, write_name,
 };
@@ -43,25 +42,36 @@ done 0,9,10,99,100,255
 ",
 ];
 
-/// The text of the record that this text is.
-fn text_again(alloc: Global, secrets: &Secrets, text: &[u8]) -> Result<Bytes, DecodeError> {
-    let filed = decode(alloc, secrets, text)?.copy(alloc)?;
-    Ok(encode(alloc, &filed)?)
+/// The copy of the record that this text is.
+fn record_of(alloc: Global, secrets: &Secrets, text: &[u8]) -> Result<Filed, DecodeError> {
+    Ok(decode(alloc, secrets, text)?.copy(alloc)?)
+}
+
+/// Whether the record that this text is has this text.
+fn is_written_alike(alloc: Global, secrets: &Secrets, text: &[u8]) -> Result<bool, DecodeError> {
+    let filed = record_of(alloc, secrets, text)?;
+    Ok(encode(alloc, &filed)?.as_slice() == text)
+}
+
+fn are_written_alike(alloc: Global) -> Result<bool, DecodeError> {
+    let secrets = secrets(alloc)?;
+    for text in RECORDS {
+        if !is_written_alike(alloc, &secrets, text)? {
+            return Ok(false);
+        }
+    }
+    Ok(true)
 }
 
 #[test]
-fn records_are_read_and_written_alike(rt: HostRuntime) -> Result<(), Fail> {
-    let secrets = secrets(rt.alloc())?;
-    for text in RECORDS {
-        assert_eq!(rt; text_again(rt.alloc(), &secrets, text)?.as_slice(), text);
-    }
+fn records_are_read_and_written_alike(rt: HostRuntime) {
+    assert!(rt; are_written_alike(rt.alloc()) == Ok(true));
     laws::one_spelling();
     laws::reads_back();
     laws::some_outcome();
     laws::one_outcome();
     laws::decoded_is_outcome();
     laws::decoded_reads_back();
-    Ok(())
 }
 
 /// Bytes that are no record, and the first fault that they have.
@@ -109,23 +119,44 @@ const ENDS: [(&[u8], BadFile); 14] = [
     (b"0\ndone 0\n\nabc", BadFile::Length),
 ];
 
+/// Whether the first fault of these bytes is this one.
+fn has_fault(alloc: Global, secrets: &Secrets, bytes: &[u8], bad: BadFile) -> bool {
+    match decode(alloc, secrets, bytes) {
+        Ok(_filed) => false,
+        Err(error) => error == DecodeError::Bad(bad),
+    }
+}
+
 /// Whether the first fault of a record with this end is this one.
-fn has_fault(alloc: Global, secrets: &Secrets, end: &[u8], bad: BadFile) -> Result<bool, Fail> {
+fn ends_in_fault(
+    alloc: Global,
+    secrets: &Secrets,
+    end: &[u8],
+    bad: BadFile,
+) -> Result<bool, NoMemory> {
     let mut bytes = Vec::from_slice(alloc, FRONT)?;
     bytes.extend_from_slice(end)?;
-    Ok(decode(alloc, secrets, &bytes).err() == Some(DecodeError::Bad(bad)))
+    Ok(has_fault(alloc, secrets, &bytes, bad))
+}
+
+fn have_their_faults(alloc: Global) -> Result<bool, NoMemory> {
+    let secrets = secrets(alloc)?;
+    for (bytes, bad) in FAULTS {
+        if !has_fault(alloc, &secrets, bytes, bad) {
+            return Ok(false);
+        }
+    }
+    for (end, bad) in ENDS {
+        if !ends_in_fault(alloc, &secrets, end, bad)? {
+            return Ok(false);
+        }
+    }
+    Ok(true)
 }
 
 #[test]
-fn bytes_that_are_no_record_have_the_first_fault_that_holds(rt: HostRuntime) -> Result<(), Fail> {
-    let secrets = secrets(rt.alloc())?;
-    for (bytes, bad) in FAULTS {
-        assert!(rt; decode(rt.alloc(), &secrets, bytes).err() == Some(DecodeError::Bad(bad)));
-    }
-    for (end, bad) in ENDS {
-        assert!(rt; has_fault(rt.alloc(), &secrets, end, bad)?);
-    }
-    Ok(())
+fn bytes_that_are_no_record_have_the_first_fault_that_holds(rt: HostRuntime) {
+    assert!(rt; have_their_faults(rt.alloc()) == Ok(true));
 }
 
 /// Devices as they are marked, and the line of those that are done then.
@@ -138,23 +169,33 @@ const MARKS: [(u8, &[u8]); 5] = [
 ];
 
 /// Whether the device is done once it is marked, and the record ends so.
-fn is_marked(alloc: Global, filed: &mut Filed, device: u8, end: &[u8]) -> Result<bool, Fail> {
+fn is_marked(alloc: Global, filed: &mut Filed, device: u8, end: &[u8]) -> Result<bool, NoMemory> {
     filed.mark(alloc, device)?;
     Ok(filed.is_done(device) && encode(alloc, filed)?.as_slice().ends_with(end))
 }
 
-#[test]
-fn devices_are_marked_in_order(rt: HostRuntime) -> Result<(), Fail> {
-    let secrets = secrets(rt.alloc())?;
-    let mut filed = decode(rt.alloc(), &secrets, RECORD)?;
-    assert!(rt; filed.are_done(&[]) && !filed.are_done(&[1]));
+/// The record of which nobody was told.
+fn new_record(alloc: Global) -> Result<Filed, DecodeError> {
+    let secrets = secrets(alloc)?;
+    decode(alloc, &secrets, RECORD)
+}
+
+fn are_marked(alloc: Global) -> Result<bool, DecodeError> {
+    let mut filed = new_record(alloc)?;
+    let new = filed.are_done(&[]) && !filed.are_done(&[1]);
     for (device, end) in MARKS {
-        assert!(rt; is_marked(rt.alloc(), &mut filed, device, end)?);
+        if !is_marked(alloc, &mut filed, device, end)? {
+            return Ok(false);
+        }
     }
-    assert!(rt; filed.are_done(&[1, 0]) && !filed.are_done(&[0, 2]));
+    Ok(new && filed.are_done(&[1, 0]) && !filed.are_done(&[0, 2]))
+}
+
+#[test]
+fn devices_are_marked_in_order(rt: HostRuntime) {
+    assert!(rt; are_marked(rt.alloc()) == Ok(true));
     laws::marks_add();
     laws::marks_are_once();
-    Ok(())
 }
 
 /// The name of that record's file.
@@ -176,24 +217,29 @@ fn is_name_of(text: &[u8], key: &RecordKey) -> bool {
     let count = write_name(key, &mut room);
     read_name(text) == Some(*key)
         && &room[..count] == text
-        && room[count..].iter().all(|b| *b == b'x')
+        && &room[count..] == &[b'x'; NAME_ROOM][count..]
+}
+
+/// Whether that record has this key.
+fn is_key_of_record(key: &RecordKey) -> bool {
+    key.hash == OBJECT_HASH && Some(key.time) == Timestamp::from_units(500_000)
+}
+
+fn is_in_its_place(alloc: Global) -> Result<bool, DecodeError> {
+    let key = new_record(alloc)?.key();
+    Ok(
+        is_key_of_record(&key)
+            && folder(&key.hash).as_slice() == b"async_pending/a83".as_slice()
+            && is_name_of(NAME, &key),
+    )
 }
 
 #[test]
-fn a_record_has_its_place(rt: HostRuntime) -> Result<(), Fail> {
-    let secrets = secrets(rt.alloc())?;
-    let key = decode(rt.alloc(), &secrets, RECORD)?.key();
-    assert_eq!(rt; key.hash, OBJECT_HASH);
-    assert!(rt; Some(key.time) == Timestamp::from_units(500_000));
-    assert_eq!(rt;
-        folder(&key.hash).as_slice(),
-        b"async_pending/a83".as_slice()
-    );
-    assert!(rt; is_name_of(NAME, &key));
+fn a_record_has_its_place(rt: HostRuntime) {
+    assert!(rt; is_in_its_place(rt.alloc()) == Ok(true));
     for text in OTHERS {
         assert!(rt; read_name(text).is_none());
     }
     laws::named_is();
     laws::names_differ();
-    Ok(())
 }

@@ -1,14 +1,12 @@
 use crate::hashpath::secrets;
 use std::alloc::Global;
-use std::test::Fail;
 use sw_hashpath::{BadFile, Secrets};
-use sw_outside::{Failed, FailingCall};
+use sw_outside::{Failed, FailingCall, NoMemory};
 use sw_pending::{Filed, RecordKey, decode, encode};
 use sw_pending_dir::{ReadFault, laws, put_record, read_record, records, unlink_record};
 use sw_volume::{MemVolume, SoundVolume, Volume};
 
 /// A call, with what it is told.
-#[derive(Clone, Copy)]
 enum Call<'a> {
     Put(&'a [u8]),
     Read(&'a [u8], bool),
@@ -61,7 +59,7 @@ const OTHER_NAME: &[u8] = b"6dab1334c129520eb96d6c65497f8206-0000000005.00000";
 
 /// Calls in their order, and what each comes to. Those that make more than one call of the volume are `All`: a listing of the whole, one of each
 /// folder of three digits, and a read of each file that is named as a record of its folder.
-const CALLS: [(Call, Result<(), ReadFault>); 22] = [
+static CALLS: [(Call, Result<(), ReadFault>); 22] = [
     (All(&[]), Ok(())),
     (Put(EARLY), Err(ReadFault::Failed)),
     (Read(EARLY, false), Ok(())),
@@ -139,25 +137,37 @@ fn have_texts(alloc: Global, found: &[Filed], texts: &[&[u8]]) -> Result<bool, R
     Ok(found.len() == texts.len())
 }
 
+fn key_of(alloc: Global, secrets: &Secrets, text: &[u8]) -> Result<RecordKey, ReadFault> {
+    Ok(decode(alloc, secrets, text)?.key())
+}
+
+fn puts<V: Volume>(
+    alloc: Global,
+    volume: &mut V,
+    secrets: &Secrets,
+    text: &[u8],
+) -> Result<bool, ReadFault> {
+    let filed = decode(alloc, secrets, text)?;
+    put_record(alloc, volume, &filed)?;
+    Ok(true)
+}
+
 /// Whether the call tells what it is to tell, where it doesn't fail.
 fn is_as_told<V: Volume>(
     alloc: Global,
     volume: &mut V,
     secrets: &Secrets,
-    call: Call,
+    call: &Call,
 ) -> Result<bool, ReadFault> {
     match call {
-        Put(text) => {
-            put_record(alloc, volume, &decode(alloc, secrets, text)?)?;
-            Ok(true)
-        }
+        Put(text) => puts(alloc, volume, secrets, text),
         Read(text, stands) => {
-            let key = decode(alloc, secrets, text)?.key();
+            let key = key_of(alloc, secrets, text)?;
             let found = read_record(alloc, volume, secrets, &key)?;
-            Ok(stands_as(&key, &found, stands))
+            Ok(stands_as(&key, &found, *stands))
         }
         Unlink(text) => {
-            let key = decode(alloc, secrets, text)?.key();
+            let key = key_of(alloc, secrets, text)?;
             match unlink_record(volume, &key) {
                 Ok(()) => Ok(true),
                 Err(Failed) => Err(ReadFault::Failed),
@@ -175,32 +185,34 @@ fn is_as_told<V: Volume>(
 fn first_other<V: Volume>(
     alloc: Global,
     volume: &mut V,
-    secrets: &Secrets,
     calls: &[(Call, Result<(), ReadFault>)],
-) -> Option<usize> {
+) -> Result<Option<usize>, NoMemory> {
+    let secrets = secrets(alloc)?;
     for (number, (call, wanted)) in calls.iter().enumerate() {
         let wanted = match wanted {
             Ok(()) => Ok(true),
             Err(fault) => Err(*fault),
         };
-        if is_as_told(alloc, volume, secrets, *call) != wanted {
-            return Some(number);
+        if is_as_told(alloc, volume, &secrets, call) != wanted {
+            return Ok(Some(number));
         }
     }
-    None
+    Ok(None)
+}
+
+/// The same over a volume that fails as it is planned to.
+fn first_other_of_failing(alloc: Global) -> Result<Option<usize>, NoMemory> {
+    let mut volume = MemVolume::new(alloc, Vec::from_slice(alloc, &FAILING)?);
+    first_other(alloc, &mut volume, &CALLS)
 }
 
 #[test]
-fn records_stand_at_their_keys_through_calls_that_fail(rt: HostRuntime) -> Result<(), Fail> {
-    let alloc = rt.alloc();
-    let secrets = secrets(alloc)?;
-    let mut volume = MemVolume::new(alloc, Vec::from_slice(alloc, &FAILING)?);
-    assert_eq!(rt; first_other(alloc, &mut volume, &secrets, &CALLS), None);
-    Ok(())
+fn records_stand_at_their_keys_through_calls_that_fail(rt: HostRuntime) {
+    assert_eq!(rt; first_other_of_failing(rt.alloc()), Ok(None));
 }
 
 /// The same without a failure.
-const SOUND: [(Call, Result<(), ReadFault>); 6] = [
+static SOUND: [(Call, Result<(), ReadFault>); 6] = [
     (Put(LATE), Ok(())),
     (Put(OTHER), Ok(())),
     (Put(EARLY), Ok(())),
@@ -210,16 +222,16 @@ const SOUND: [(Call, Result<(), ReadFault>); 6] = [
 ];
 
 #[test]
-fn all_records_are_told_in_order_of_their_folders(rt: HostRuntime) -> Result<(), Fail> {
+fn all_records_are_told_in_order_of_their_folders(rt: HostRuntime) {
     let alloc = rt.alloc();
-    let secrets = secrets(alloc)?;
-    let mut volume = SoundVolume::new(alloc);
-    assert_eq!(rt; first_other(alloc, &mut volume, &secrets, &SOUND), None);
+    assert_eq!(rt;
+        first_other(alloc, &mut SoundVolume::new(alloc), &SOUND),
+        Ok(None)
+    );
     laws::place_is_of_key();
     laws::what_stands_is_of_key();
     laws::one_reading();
     laws::order_is_told();
     laws::elsewhere_keeps();
     laws::objects_stay();
-    Ok(())
 }

@@ -1,9 +1,9 @@
 use std::alloc::{AllocError, Global};
-use std::test::Fail;
+use sw_outside::NoMemory;
 use sw_ring::{BadRing, DeviceList, Ring, RingError, Which, read};
 
 /// The ring of the worked examples.
-const WORKED: &str =
+pub(crate) const WORKED: &str =
     "{\"devices\":[\"sda\",\"sdb\"],\"part_power\":2,\"lock_bits\":2,\"replicas\":2,\"hash_prefix\":\"\",\"hash_suffix\":\"endcap\",\"object\":[[0,1],[1,0],\
       [0,1],[1,0]],\"container\":[[0,1],[1,0],[0,1],[1,0]]}";
 
@@ -97,8 +97,12 @@ const TEXTS: [(&[u8], u8); 4] = [
 
 /// What stands at a key.
 fn value_at(changes: Changes, key: &str, good: &'static str) -> &'static str {
-    let change = changes.iter().find(|change| change.0 == key);
-    change.map_or(good, |change| change.1)
+    for (changed, value) in changes {
+        if *changed == key {
+            return *value;
+        }
+    }
+    good
 }
 
 /// The text of a good ring with these changes.
@@ -115,6 +119,14 @@ fn text_of(alloc: Global, changes: Changes) -> Result<String, AllocError> {
     )
 }
 
+/// The good ring as it is.
+fn good_ring(alloc: Global) -> Result<Ring, RingError> {
+    match text_of(alloc, &[]) {
+        Ok(text) => read(alloc, text.as_bytes()),
+        Err(_) => Err(RingError::NoMemory),
+    }
+}
+
 /// The number of what is wrong with a text, or 0. Want of memory has none.
 fn number_of(alloc: Global, text: &[u8]) -> Option<u8> {
     match read(alloc, text) {
@@ -125,7 +137,7 @@ fn number_of(alloc: Global, text: &[u8]) -> Option<u8> {
 }
 
 /// Other threads may have and share a ring.
-fn crosses<T: Send + Sync>(_value: &T) {}
+pub(crate) fn crosses<T: Send + Sync>(_value: &T) {}
 
 /// Whether the ring is that of the worked examples.
 fn is_worked(ring: &Ring) -> bool {
@@ -149,37 +161,58 @@ fn has_good_rows(ring: &Ring) -> bool {
         && ring.row(Which::Container, 1) == [0, 1].as_slice()
 }
 
-#[test]
-fn the_worked_ring_reads_to_its_values(rt: HostRuntime) -> Result<(), Fail> {
-    let alloc = rt.alloc();
-    let ring = read(alloc, WORKED.as_bytes())?.copy(alloc)?;
-    assert!(rt; is_worked(&ring));
-    Ok(())
+fn worked_is_read(alloc: Global) -> Result<bool, RingError> {
+    let ring = read(alloc, WORKED.as_bytes())?;
+    Ok(is_worked(&ring.copy(alloc)?))
 }
 
 #[test]
-fn each_table_has_its_own_rows(rt: HostRuntime) -> Result<(), Fail> {
-    let alloc = rt.alloc();
-    let text = text_of(alloc, &[])?;
-    let ring = read(alloc, text.as_bytes())?;
-    assert!(rt; has_good_rows(&ring));
-    let rows: Vec<DeviceList> = ring.object.copy(alloc)?.into();
-    assert!(rt; rows.len() == 2);
-    let first: Vec<u8> = rows[0].copy(alloc)?.into();
-    assert!(rt; first.as_slice() == [0, 1].as_slice());
-    Ok(())
+fn the_worked_ring_reads_to_its_values(rt: HostRuntime) {
+    assert!(rt; worked_is_read(rt.alloc()) == Ok(true));
+}
+
+/// The rows of a table's copy.
+fn rows_of(alloc: Global, ring: &Ring) -> Result<Vec<DeviceList>, NoMemory> {
+    Ok(ring.object.copy(alloc)?.into())
+}
+
+/// Whether the copy of a row has these devices.
+fn is_row(alloc: Global, row: &DeviceList, devices: &[u8]) -> Result<bool, NoMemory> {
+    let copy: Vec<u8> = row.copy(alloc)?.into();
+    Ok(copy.as_slice() == devices)
+}
+
+fn good_has_its_rows(alloc: Global) -> Result<bool, RingError> {
+    let ring = good_ring(alloc)?;
+    let rows = rows_of(alloc, &ring)?;
+    let is_first = match rows.as_slice() {
+        [first, _] => is_row(alloc, first, &[0, 1])?,
+        _ => false,
+    };
+    Ok(is_first && has_good_rows(&ring))
 }
 
 #[test]
-fn rings_are_read_or_refused_by_the_first_of_their_faults(rt: HostRuntime) -> Result<(), Fail> {
+fn each_table_has_its_own_rows(rt: HostRuntime) {
+    assert!(rt; good_has_its_rows(rt.alloc()) == Ok(true));
+}
+
+/// The number of what is wrong with the good ring under these changes, or 0. Want of memory has none.
+fn number_with(alloc: Global, changes: Changes) -> Option<u8> {
+    match text_of(alloc, changes) {
+        Ok(text) => number_of(alloc, text.as_bytes()),
+        Err(_) => None,
+    }
+}
+
+#[test]
+fn rings_are_read_or_refused_by_the_first_of_their_faults(rt: HostRuntime) {
     let alloc = rt.alloc();
     for (changes, number) in RINGS {
-        let text = text_of(alloc, changes)?;
-        assert!(rt; number_of(alloc, text.as_bytes()) == Some(number), "{text}");
+        assert!(rt; number_with(alloc, changes) == Some(number), "{changes:?}");
     }
     for (text, number) in TEXTS {
         assert!(rt; number_of(alloc, text) == Some(number));
     }
     assert!(rt; BadRing::NotJson.number() == 1 && BadRing::TooLarge.number() == 8);
-    Ok(())
 }

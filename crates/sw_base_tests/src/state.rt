@@ -1,7 +1,6 @@
 ghost use Rattle.std.specs.Prelude.{◌≡◌, IfOk};
 
 use std::alloc::Global;
-use std::test::Fail;
 use sw_outside::{Bytes, NoMemory, is_utf8};
 use sw_state::{
     Base, Content, Head, HeadList, Heads, Kind, LATEST_DELETE_AT, NotHeads, State, Write, laws,
@@ -9,7 +8,6 @@ use sw_state::{
 use sw_timestamp::{Tag, Timestamp};
 
 /// A write, by its time in seconds and its kind, and by the body that a put gives or the color that a meta gives.
-#[derive(Clone, Copy)]
 struct Given {
     seconds: u64,
     tag: Tag,
@@ -53,7 +51,7 @@ const META_AT_9: Given = Given {
 };
 
 /// The writes of the worked example.
-const WORKED: [Given; 4] = [DATA_AT_5, META_AT_9, TOMBSTONE_AT_7, DATA_AT_8];
+static WORKED: [Given; 4] = [DATA_AT_5, META_AT_9, TOMBSTONE_AT_7, DATA_AT_8];
 
 /// Every order in which the four can arrive.
 const ORDERS: [[usize; 4]; 24] = [
@@ -84,7 +82,7 @@ const ORDERS: [[usize; 4]; 24] = [
 ];
 
 /// Writes that come to one state in this order, and whether each changes it.
-const ARRIVALS: [(Given, bool); 9] = [
+static ARRIVALS: [(Given, bool); 9] = [
     (DATA_AT_8, true),
     (DATA_AT_8, false),
     (DATA_AT_5, false),
@@ -96,8 +94,11 @@ const ARRIVALS: [(Given, bool); 9] = [
     (TOMBSTONE_AT_7, false),
 ];
 
-/// Writes that come to one of two states in this order, and whether each state is then at least the other.
-const EXCHANGES: [(bool, Given, bool, bool); 5] = [
+/// Whether a write comes to the first of two states, the write, and whether each state is then at least the other.
+type Exchange = (bool, Given, bool, bool);
+
+/// Such writes in their order.
+static EXCHANGES: [Exchange; 5] = [
     (true, DATA_AT_5, true, false),
     (true, META_AT_9, true, false),
     (false, TOMBSTONE_AT_7, false, false),
@@ -132,10 +133,11 @@ fn heads(alloc: Global, color: &[u8]) -> Result<Heads, NoMemory> {
     })
 }
 
-fn content(alloc: Global, body: &[u8]) -> Result<Content, Fail> {
+/// A text of this body. Its ETag is that of no body: nobody looks at it. A type that is no text is told as want of memory.
+pub(crate) fn content(alloc: Global, body: &[u8]) -> Result<Content, NoMemory> {
     let content_type = b"text/plain";
     if !is_utf8(content_type) {
-        return Err(Fail::from("no text"));
+        return Err(NoMemory);
     }
     Ok(Content {
         body: Bytes::copy(alloc, body)?,
@@ -145,18 +147,15 @@ fn content(alloc: Global, body: &[u8]) -> Result<Content, Fail> {
     })
 }
 
-fn time_of(given: Given) -> Option<Timestamp> {
-    Timestamp::from_units(given.seconds.saturating_mul(100_000))
-}
-
-fn write_of(alloc: Global, given: Given) -> Result<Write, Fail> {
-    let time = time_of(given).ok_or("no time")?;
+/// None where there is no memory.
+fn write_of(alloc: Global, given: &Given) -> Option<Write> {
+    let time = Timestamp::from_units(given.seconds.saturating_mul(100_000))?;
     let kind = match given.tag {
-        Tag::Put => Kind::Put(content(alloc, given.text)?),
+        Tag::Put => Kind::Put(content(alloc, given.text).ok()?),
         Tag::Del => Kind::Del,
-        Tag::Meta => Kind::Meta(heads(alloc, given.text)?),
+        Tag::Meta => Kind::Meta(heads(alloc, given.text).ok()?),
     };
-    Ok(Write { time, kind })
+    Some(Write { time, kind })
 }
 
 /// Whether a state has the data of 8 seconds, with the color and the time of the meta of 9.
@@ -187,67 +186,98 @@ fn is_deleted(state: &State) -> bool {
         && state.object_time().is_none()
 }
 
-/// Whether the write would change the state, by its time and tag.
-fn would_change(state: &State, given: Given) -> bool {
-    time_of(given).is_some_and(|time| state.adds(time, given.tag))
-}
-
-#[test]
-fn every_order_of_arrival_leaves_the_new_data_and_the_meta(rt: HostRuntime) -> Result<(), Fail> {
-    let alloc = rt.alloc();
-    for order in ORDERS {
-        let mut state = State::empty();
-        for at in order {
-            let _changed = state.join(write_of(alloc, WORKED[at % 4])?);
-        }
-        assert!(rt; is_new_data_with_meta(&state), "{order:?}");
-    }
-    Ok(())
-}
-
-#[test]
-fn a_deletion_wins_at_the_time_of_a_put_and_repeats_change_nothing(
-    rt: HostRuntime,
-) -> Result<(), Fail> {
-    let alloc = rt.alloc();
+/// Whether the writes that stand at these places leave the new data and the meta.
+fn leave_new_data_with_meta(alloc: Global, places: &[usize; 4]) -> Option<bool> {
     let mut state = State::empty();
-    for (given, changes) in ARRIVALS {
-        let told = would_change(&state, given);
-        let changed = state.join(write_of(alloc, given)?);
-        assert!(rt; told == changes && changed == changes, "{}", given.seconds);
+    for at in places {
+        let _changed = state.join(write_of(alloc, &WORKED[at % 4])?);
     }
-    assert!(rt; is_deleted(&state));
-    Ok(())
+    Some(is_new_data_with_meta(&state))
 }
 
 #[test]
-fn two_replicas_are_at_least_each_other_once_each_has_the_other_s_writes(
-    rt: HostRuntime,
-) -> Result<(), Fail> {
-    let alloc = rt.alloc();
+fn every_order_of_arrival_leaves_the_new_data_and_the_meta(rt: HostRuntime) {
+    for order in &ORDERS {
+        assert!(rt;
+            leave_new_data_with_meta(rt.alloc(), order) == Some(true),
+            "{order:?}"
+        );
+    }
+}
+
+/// Whether the write changes the state, and would by its time and tag, as it is said to.
+fn arrives(alloc: Global, state: &mut State, given: &Given, changes: bool) -> Option<bool> {
+    let write = write_of(alloc, given)?;
+    let told = state.adds(write.time, given.tag);
+    let changed = state.join(write);
+    Some(told == changes && changed == changes)
+}
+
+/// Whether each write arrives as it is said to, and the state is deleted then.
+fn all_arrive(alloc: Global) -> Option<bool> {
+    let mut state = State::empty();
+    for (given, changes) in &ARRIVALS {
+        if !arrives(alloc, &mut state, given, *changes)? {
+            return Some(false);
+        }
+    }
+    Some(is_deleted(&state))
+}
+
+#[test]
+fn a_deletion_wins_at_the_time_of_a_put_and_repeats_change_nothing(rt: HostRuntime) {
+    assert!(rt; all_arrive(rt.alloc()) == Some(true));
+}
+
+/// Whether each state is at least the other as it is said to be, once the write came to one of them.
+fn is_exchanged(
+    alloc: Global,
+    one: &mut State,
+    other: &mut State,
+    (to_one, given, one_has_all, other_has_all): &Exchange,
+) -> Option<bool> {
+    let write = write_of(alloc, given)?;
+    let _changed = if *to_one {
+        one.join(write)
+    } else {
+        other.join(write)
+    };
+    Some(one.at_least(other) == *one_has_all && other.at_least(one) == *other_has_all)
+}
+
+fn all_are_exchanged(alloc: Global) -> Option<bool> {
     let mut one = State::empty();
     let mut other = State::empty();
-    for (to_one, given, one_has_all, other_has_all) in EXCHANGES {
-        let write = write_of(alloc, given)?;
-        let _changed = if to_one {
-            one.join(write)
-        } else {
-            other.join(write)
-        };
-        assert!(rt; one.at_least(&other) == one_has_all && other.at_least(&one) == other_has_all);
+    for exchange in &EXCHANGES {
+        if !is_exchanged(alloc, &mut one, &mut other, exchange)? {
+            return Some(false);
+        }
     }
-    Ok(())
+    Some(true)
 }
 
 #[test]
-fn a_copy_of_a_state_is_equal(rt: HostRuntime) -> Result<(), Fail> {
-    let alloc = rt.alloc();
+fn two_replicas_are_at_least_each_other_once_each_has_the_other_s_writes(rt: HostRuntime) {
+    assert!(rt; all_are_exchanged(rt.alloc()) == Some(true));
+}
+
+/// The copy of a write.
+fn copy_of(alloc: Global, given: &Given) -> Option<Write> {
+    write_of(alloc, given)?.copy(alloc).ok()
+}
+
+/// Whether the copy of a state of copies of writes is the state of the writes.
+fn is_copied(alloc: Global) -> Option<bool> {
     let mut state = State::empty();
-    for given in WORKED {
-        let _changed = state.join(write_of(alloc, given)?.copy(alloc)?);
+    for given in &WORKED {
+        let _changed = state.join(copy_of(alloc, given)?);
     }
-    assert!(rt; is_new_data_with_meta(&state.copy(alloc)?));
-    Ok(())
+    Some(is_new_data_with_meta(&state.copy(alloc).ok()?))
+}
+
+#[test]
+fn a_copy_of_a_state_is_equal(rt: HostRuntime) {
+    assert!(rt; is_copied(rt.alloc()) == Some(true));
 }
 
 /// Whether the list has the last value of each name.
@@ -259,20 +289,36 @@ fn keeps_the_last(list: &HeadList) -> bool {
         && list.get(b"d").is_none()
 }
 
-#[test]
-fn a_list_keeps_the_last_item_of_a_name_in_order(rt: HostRuntime) -> Result<(), Fail> {
-    let alloc = rt.alloc();
+/// Whether the items of the list make no list the other way round.
+fn is_no_list_turned(alloc: Global, list: &HeadList) -> Result<bool, NoMemory> {
+    let mut turned: Vec<Head> = list.copy(alloc)?.into();
+    turned.reverse();
+    Ok(matches!(HeadList::from_heads(turned), Err(NotHeads)))
+}
+
+/// Whether the items of the list make the same list.
+fn is_made_again(list: HeadList) -> bool {
+    let items: Vec<Head> = list.into();
+    match HeadList::from_heads(items) {
+        Ok(list) => keeps_the_last(&list),
+        Err(NotHeads) => false,
+    }
+}
+
+fn is_list(alloc: Global) -> Result<bool, NoMemory> {
     let list = list_of(
         alloc,
         &[(b"b", b"1"), (b"c", b"2"), (b"a", b"3"), (b"c", b"4")],
     )?;
-    assert!(rt; keeps_the_last(&list));
-    let mut turned: Vec<Head> = list.copy(alloc)?.into();
-    turned.reverse();
-    assert!(rt; matches!(HeadList::from_heads(turned), Err(NotHeads)));
-    let items: Vec<Head> = list.into();
-    assert!(rt; HeadList::from_heads(items).is_ok_and(|list| keeps_the_last(&list)));
-    Ok(())
+    let keeps = keeps_the_last(&list);
+    let turned = is_no_list_turned(alloc, &list)?;
+    let again = is_made_again(list);
+    Ok(keeps && turned && again)
+}
+
+#[test]
+fn a_list_keeps_the_last_item_of_a_name_in_order(rt: HostRuntime) {
+    assert!(rt; is_list(rt.alloc()) == Ok(true));
 }
 
 #[test]

@@ -1,13 +1,11 @@
-use crate::fixtures::secrets;
+use crate::hashpath::secrets;
 use std::alloc::Global;
-use std::test::Fail;
 use sw_expiry::{Due, QUEUE_ACCOUNT, laws, queue_name, read_entry};
 use sw_hashpath::{BadName, Name, NameError, Secrets, hex_text};
 use sw_outside::{Bytes, NoMemory};
 use sw_pending::Filed;
 
 /// An object that is to be deleted, with the entry that it has by OpenStack Swift's rules, and the MD5 of the entry's own path.
-#[derive(Clone, Copy)]
 struct Row {
     secrets: (&'static [u8], &'static [u8]),
     path: (&'static [u8], &'static [u8], &'static [u8]),
@@ -17,7 +15,7 @@ struct Row {
     hash: &'static [u8; 32],
 }
 
-const ROWS: [Row; 22] = [
+static ROWS: [Row; 22] = [
     Row {
         secrets: (b"", b"endcap"),
         path: (b"a", b"c", b"o"),
@@ -266,11 +264,15 @@ fn is_due(found: &Option<Due>, row: &Row) -> bool {
     }
 }
 
+fn has_its_entry(alloc: Global, row: &Row) -> Result<bool, NameError> {
+    let secrets = secrets_of(alloc, row)?;
+    Ok(is_entry(&entry_of(alloc, &secrets, row)?, row))
+}
+
 #[test]
-fn objects_that_expire_have_the_entries_of_swift(rt: HostRuntime) -> Result<(), Fail> {
+fn objects_that_expire_have_the_entries_of_swift(rt: HostRuntime) {
     for row in &ROWS {
-        let secrets = secrets_of(rt.alloc(), row)?;
-        assert!(rt; is_entry(&entry_of(rt.alloc(), &secrets, row)?, row));
+        assert!(rt; has_its_entry(rt.alloc(), row) == Ok(true));
     }
     assert!(rt; Filed::is_queue_account(QUEUE_ACCOUNT));
     laws::account_is_swifts();
@@ -278,46 +280,58 @@ fn objects_that_expire_have_the_entries_of_swift(rt: HostRuntime) -> Result<(), 
     laws::entries_are_in_order();
     laws::containers_are_in_order();
     laws::containers_are_near();
-    Ok(())
+}
+
+fn all_are_read(alloc: Global) -> Result<bool, NoMemory> {
+    let secrets = secrets(alloc)?;
+    for row in &ROWS {
+        if !is_due(&read_entry(alloc, &secrets, row.entry)?, row) {
+            return Ok(false);
+        }
+    }
+    Ok(true)
 }
 
 #[test]
-fn entries_are_read_as_their_deletions(rt: HostRuntime) -> Result<(), Fail> {
-    let secrets = secrets(rt.alloc())?;
-    for row in &ROWS {
-        assert!(rt; is_due(&read_entry(rt.alloc(), &secrets, row.entry)?, row));
-    }
+fn entries_are_read_as_their_deletions(rt: HostRuntime) {
+    assert!(rt; all_are_read(rt.alloc()) == Ok(true));
     laws::written_tells();
     laws::tells_of_one();
-    Ok(())
 }
 
-#[test]
-fn names_that_are_no_entries_are_passed_over(rt: HostRuntime) -> Result<(), Fail> {
-    let secrets = secrets(rt.alloc())?;
+fn all_are_passed_over(alloc: Global) -> Result<bool, NoMemory> {
+    let secrets = secrets(alloc)?;
     for name in OTHERS {
-        assert!(rt; read_entry(rt.alloc(), &secrets, name)?.is_none());
+        if read_entry(alloc, &secrets, name)?.is_some() {
+            return Ok(false);
+        }
     }
-    Ok(())
-}
-
-/// Whether this is what is wrong with the entry of an object with a name of this many bytes.
-fn has_fault(
-    alloc: Global,
-    secrets: &Secrets,
-    size: usize,
-    fault: Option<NameError>,
-) -> Result<bool, Fail> {
-    let object = vec![in alloc; b'o'; size]?;
-    let name = Name::new(alloc, secrets, b".a", b"c", &object)?;
-    Ok(queue_name(alloc, secrets, &name, 1_401_230_000).err() == fault)
+    Ok(true)
 }
 
 #[test]
-fn paths_of_more_than_2035_bytes_have_no_entry(rt: HostRuntime) -> Result<(), Fail> {
-    let secrets = secrets(rt.alloc())?;
-    for (size, fault) in SIZES {
-        assert!(rt; has_fault(rt.alloc(), &secrets, size, fault)?);
+fn names_that_are_no_entries_are_passed_over(rt: HostRuntime) {
+    assert!(rt; all_are_passed_over(rt.alloc()) == Ok(true));
+}
+
+/// The name of an object that has this many bytes.
+fn name_of_size(alloc: Global, secrets: &Secrets, size: usize) -> Result<Name, NameError> {
+    match vec![in alloc; b'o'; size] {
+        Ok(object) => Name::new(alloc, secrets, b".a", b"c", &object),
+        Err(_) => Err(NameError::NoMemory),
     }
-    Ok(())
+}
+
+/// What is wrong with the entry of an object with a name of this many bytes.
+fn fault_of(alloc: Global, size: usize) -> Result<Option<NameError>, NameError> {
+    let secrets = secrets(alloc)?;
+    let name = name_of_size(alloc, &secrets, size)?;
+    Ok(queue_name(alloc, &secrets, &name, 1_401_230_000).err())
+}
+
+#[test]
+fn paths_of_more_than_2035_bytes_have_no_entry(rt: HostRuntime) {
+    for (size, fault) in SIZES {
+        assert!(rt; fault_of(rt.alloc(), size) == Ok(fault));
+    }
 }
