@@ -1,8 +1,7 @@
 -- How the turns of a session's loop make up a session.
 use Rattle.std.proofs.Common.{◌≡◌, ℕ, ◌+◌, ◌<◌, Bool, List, [], ◌∷◌, ◌++◌, length, Option, Some, None, refl, sym, ap, ◌∙◌, subst}
-use Rattle.std.proofs.Common.{All, Result, append_assoc, append-nil, arith, length-append, inl, inr, Ok, Err, true, false, ◌⊎◌, ◌-◌}
+use Rattle.std.proofs.Common.{All, Result, append_assoc, append-nil, length-append, inl, inr, Ok, Err, true, false, ◌⊎◌}
 use Rattle.std.specs.List.{flat_map}
-use Rattle.std.specs.Prelude.{⊤}
 use Rattle.std.specs.Io.KnownBytes.{Appends, Consumes, IsAtEnd, prepend_known}
 use Rattle.std.proofs.KnownBytes.{Appends-trans, Appends-nil, Consumes-nil, Consumes-trans}
 use Rattle.std.proofs.lemmas.Grind.{flat_map-append}
@@ -21,8 +20,8 @@ use Rattle.sw_message.specs.declared.response.Response.{Response}
 use Rattle.sw_session.specs.Passages.{Passage}
 use Rattle.sw_session.specs.Replies.{Halts, Serves, Replies, written_for}
 use Rattle.sw_session.specs.Session.{SoFar, Closed, Complete, Full, Broken, HaltedAt, IsSession, IsSound, IsWhole, most_requests}
-use Rattle.sw_session.specs.Session.{IsBetween, OwnPuts, OwnPutsAtOneMore, OwnPutsBehind, PutsBehind, PutsForSession, WaitsForMore, puts_for}
-use Rattle.sw_session.specs.Turn.{AnswersByPuts, Halted, MayTell, MayTellAndPuts, PutsForTurn, TakesAndTells}
+use Rattle.sw_session.specs.Session.{IsBetween, OwnPuts, OwnPutsAtOneMore, OwnPutsBehind, WaitsForMore, puts_for}
+use Rattle.sw_session.specs.Turn.{AnswersByPuts, Halted, MayTell, MayTellAndPuts, PutsForTurn}
 use Rattle.sw_session.specs.Turn.{CutsReply, HaltsTurn, Idles, IsCounted, IsTurn, Replied, StopsBetween}
 use Rattle.sw_session.specs.declared.server.ServerFault.{ServerFault}
 use Rattle.sw_session.specs.declared.server.ServerFault.TheVariants as servers
@@ -351,14 +350,6 @@ puts_for-one : (requests : List Request) (request : Request) (calls : ℕ)
 puts_for-one [] request calls = refl
 puts_for-one (r ∷ requests) request calls = puts_for-one requests request (raised (puts_after r.fields calls))
 
--- a turn kept one moment more
-one_longer : (moments moments_now : List ℕ) (moment : ℕ) → moments_now ≡ moments ++ moment ∷ [] → length moments_now ≡ length moments + 1
-one_longer moments moments_now moment is = ap length is ∙ length-append moments (moment ∷ [])
-
--- without the last one there are as many as there were before the turn that kept it
-one_fewer : (moments moments_now : List ℕ) (moment : ℕ) → moments_now ≡ moments ++ moment ∷ [] → length moments ≡ length moments_now - 1
-one_fewer moments moments_now moment is = let longer = one_longer moments moments_now moment is in omega arith
-
 -- one request more was answered
 pub turn_put : {S : Type 0} (last : Request → Bool) (may : Serves S) (start mid after : S) (input left rest taken then now : Option (List ℕ))
     (moments moments_now : List ℕ) (calls calls_then calls_now : ℕ)
@@ -492,111 +483,6 @@ waits_behind last may halts start mid after input left rest taken then now sourc
     let idles = (subst (λ (f : SessionFault). IsTurn last may halts mid after moments moments_now left rest then now (Err f)) is turn).0 in
     ends_idle last may start mid after input left taken then moments moments_now calls calls_then
     (λ rest mid told_by. IfSeen rest source_left (IsCutShort mid now told_by calls_now)) so_far idles seen
-
--- ---- the same, told by the number of requests
-
--- as many requests as moments were answered
-as_many : {S : Type 0} (may : Serves S) (start after : S) (requests : List Request) (moments text : List ℕ) → Replies may start requests moments text after
-    → length requests ≡ length moments
-as_many may start after [] moments text replied = sym (ap length replied.0)
-as_many may start after (r ∷ requests) moments text replied =
-    let tail = as_many may replied.1 after requests replied.3 replied.4 replied.8 in
-    let here = ap length replied.6 in
-    omega arith
-
-counted_behind : {S : Type 0} (last : Request → Bool) (may : Serves S) (start after : S) (input taken : Option (List ℕ)) (moments : List ℕ) (calls count : ℕ)
-    (ends : Option (List ℕ) → Option (List ℕ) → ℕ → Type 0) (counted : Option (List ℕ) → ℕ → Type 0)
-    → length moments ≡ count → ((rest mid : Option (List ℕ)) (told : ℕ) → ends rest mid told → counted rest told)
-    → OwnPutsBehind last may start after input taken moments calls ends → PutsBehind input count calls counted
-counted_behind last may start after input taken moments calls count ends counted is step own = record {
-  requests = own.done.requests;
-  count_is = as_many may start after own.done.requests moments own.done.text own.done.replied ∙ is;
-  rest = own.rest;
-  begins = own.done.begins;
-  end = step own.rest own.mid (puts_for own.done.requests calls) own.end;
-}
-
-counted : {S : Type 0} (last : Request → Bool) (may : Serves S) (halts : Halts S) (start after : S) (input taken taken_now : Option (List ℕ))
-    (moments : List ℕ) (calls calls_now : ℕ) (result : Result ⊤ SessionFault)
-    → OwnPuts last may halts start after input taken taken_now moments calls calls_now result → PutsForSession input moments calls calls_now result
-counted {S} last may halts start after input taken taken_now moments calls calls_now result own = by result own
-  where
-    behind : (ends : Option (List ℕ) → ℕ → Type 0) → OwnPutsBehind last may start after input taken moments calls (λ rest mid told. ends rest told)
-        → PutsBehind input (length moments) calls ends
-    behind ends own =
-        counted_behind last may start after input taken moments calls (length moments) (λ rest mid told. ends rest told) ends refl
-        (λ rest mid told end. end) own
-
-    one : (ends : Option (List ℕ) → ℕ → Type 0) → OwnPutsAtOneMore last may start input taken moments calls (λ then moment rest mid told. ends rest told)
-        → PutsBehind input (length moments - 1) calls ends
-    one ends own =
-        counted_behind last may start own.0 input taken own.1 calls (length moments - 1) (λ rest mid told. ends rest told) ends
-        (one_fewer own.1 moments own.2 own.3) (λ rest mid told end. end) own.4
-
-    closed : OwnPutsAtOneMore last may start input taken moments calls (λ then moment rest mid told. (behind : Option (List ℕ))
-        × ((reply : Replied may then after rest behind mid taken_now moment) × (last (request_of reply.turn.parts) ≡ true)
-        × (calls_now ≡ raised (puts_after (request_of reply.turn.parts).fields told)))) → PutsBehind input (length moments) calls (λ rest mid. calls_now ≡ mid)
-    closed own =
-        let so_far = own.4.done in
-        let reply = own.4.end.1.0 in
-        let request = request_of reply.turn.parts in
-        let many = as_many may start own.0 so_far.requests own.1 so_far.text so_far.replied in
-        record {
-          requests = so_far.requests ++ request ∷ [];
-          count_is = length-append so_far.requests (request ∷ []) ∙ ap (λ (n : ℕ). n + 1) many ∙ sym (one_longer own.1 moments own.2 own.3);
-          rest = own.4.end.0;
-          begins = begins_with_more input own.4.rest own.4.end.0 so_far.requests reply.turn.parts so_far.begins reply.turn.are_parts reply.turn.consumed;
-          end = own.4.end.1.2 ∙ sym (puts_for-one so_far.requests request calls);
-        }
-
-    by : (result : Result ⊤ SessionFault) → OwnPuts last may halts start after input taken taken_now moments calls calls_now result
-        → PutsForSession input moments calls calls_now result
-    by (Ok _) (inl own) = behind (λ rest mid. calls_now ≡ mid) own
-    by (Ok _) (inr own) = closed own
-    by (Err faults.ReadFault) own = behind (λ rest mid. MayTell rest mid calls_now) own
-    by (Err faults.WriteFault) (inl own) = inl (behind (λ rest mid. MayTellAndPuts rest mid calls_now) own)
-    by (Err faults.WriteFault) (inr own) = inr (one (λ rest mid. MayTellAndPuts rest mid calls_now) own)
-    by (Err faults.TooLong) own = behind (λ rest mid. calls_now ≡ mid) own
-    by (Err faults.BadInput) own = behind (λ rest mid. MayTellAndPuts rest mid calls_now) own
-    by (Err faults.ServerFault) own =
-        counted_behind last may start own.0 input taken own.1 calls (length moments - 1)
-        (λ rest mid told. (behind : Option (List ℕ)) × ((halt : Halted halts own.0 after rest behind mid taken_now own.2 servers.Failed)
-        × (calls_now ≡ puts_after (request_of halt.parts).fields told)))
-        (λ rest mid. (behind : Option (List ℕ)) × TakesAndTells rest behind mid calls_now)
-        (one_fewer own.1 moments own.2 own.3)
-        (λ rest mid told end. (
-          end.0,
-          record { parts = end.1.0.parts; are_parts = end.1.0.are_parts; consumed = end.1.0.consumed; told = end.1.1 },
-        )) own.4
-    by (Err faults.NoMemory) (inl own) = inl (behind (λ rest mid. MayTell rest mid calls_now) own)
-    by (Err faults.NoMemory) (inr own) = inr (one (λ rest mid. MayTell rest mid calls_now) own)
-
-pub fault_counted : {S : Type 0} (last : Request → Bool) (may : Serves S) (halts : Halts S) (start mid after : S)
-    (input left rest taken then now : Option (List ℕ)) (moments moments_now : List ℕ) (calls calls_then calls_now : ℕ)
-    → PutsSoFar last may start input left taken then moments mid calls calls_then → (fault : SessionFault)
-    → IsTurn last may halts mid after moments moments_now left rest then now (Err fault)
-    → PutsForTurn last may halts mid after moments moments_now left rest then now calls_then calls_now (Err fault)
-    → PutsForSession input moments_now calls calls_now (Err fault)
-fault_counted last may halts start mid after input left rest taken then now moments moments_now calls calls_then calls_now so_far fault turn puts =
-    counted last may halts start after input taken now moments_now calls calls_now (Err fault)
-    (fault_put last may halts start mid after input left rest taken then now moments moments_now calls calls_then calls_now so_far fault turn puts)
-
-pub well_counted : {S : Type 0} (last : Request → Bool) (may : Serves S) (halts : Halts S) (start mid after : S)
-    (input left rest taken then now : Option (List ℕ)) (moments moments_now : List ℕ) (calls calls_then calls_now : ℕ) (turned : Turned)
-    → (turned ≡ turns.Closed) ⊎ (turned ≡ turns.Ended) → PutsSoFar last may start input left taken then moments mid calls calls_then
-    → IsTurn last may halts mid after moments moments_now left rest then now (Ok turned)
-    → PutsForTurn last may halts mid after moments moments_now left rest then now calls_then calls_now (Ok turned)
-    → PutsForSession input moments_now calls calls_now (Ok tt)
-well_counted last may halts start mid after input left rest taken then now moments moments_now calls calls_then calls_now turned is so_far turn puts =
-    counted last may halts start after input taken now moments_now calls calls_now (Ok tt)
-    (well_put last may halts start mid after input left rest taken then now moments moments_now calls calls_then calls_now turned is so_far turn puts)
-
-pub full_counted : {S : Type 0} (last : Request → Bool) (may : Serves S) (halts : Halts S) (start after : S) (input left taken now : Option (List ℕ))
-    (moments : List ℕ) (calls calls_now : ℕ)
-    → PutsSoFar last may start input left taken now moments after calls calls_now → PutsForSession input moments calls calls_now (Err faults.TooLong)
-full_counted last may halts start after input left taken now moments calls calls_now so_far =
-    counted last may halts start after input taken now moments calls calls_now (Err faults.TooLong)
-    (full_put last may halts start after input left taken now moments calls calls_now so_far)
 
 -- ---- reads
 

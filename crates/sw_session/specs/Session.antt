@@ -2,7 +2,7 @@
 --
 -- How bytes become requests is the grammar's, in `BeginsWith`; who answers them is a relation, and how that one may halt is another.
 -- Which requests are the last ones of their sessions is a test. `SoFar` is the one statement that every way to end a session begins with.
-use Rattle.std.specs.Prelude.{◌≡◌, ℕ, ◌-◌, ◌<◌, Bool, true, false, List, [], ◌∷◌, ◌++◌, length, map, All, ⊤, Option, IfSome, Result, Ok, Err, ◌⊎◌}
+use Rattle.std.specs.Prelude.{◌≡◌, ℕ, ◌<◌, Bool, true, false, List, [], ◌∷◌, ◌++◌, length, map, All, ⊤, Option, IfSome, Result, Ok, Err, ◌⊎◌}
 use Rattle.std.specs.Io.KnownBytes.{Appends, IsAtEnd}
 use Rattle.sw_outside.specs.Counts.{raised}
 use Rattle.sw_http.specs.Continue.{IsCutShort, NeedsMore, puts_after}
@@ -12,7 +12,7 @@ use Rattle.sw_http.specs.Request.{IsSkipped, Parts, request_of}
 use Rattle.sw_message.specs.declared.request.Request.{Request}
 use Rattle.sw_session.specs.Passages.{Passage}
 use Rattle.sw_session.specs.Replies.{Halts, Replies, Serves}
-use Rattle.sw_session.specs.Turn.{Halted, MayTell, MayTellAndPuts, RefusesRest, Replied, RepliedPart, StopsBetween, TakesAndTells, TellsWhole}
+use Rattle.sw_session.specs.Turn.{Halted, MayTell, MayTellAndPuts, RefusesRest, Replied, RepliedPart, StopsBetween, TellsWhole}
 use Rattle.sw_session.specs.declared.server.ServerFault.{ServerFault}
 use Rattle.sw_session.specs.declared.server.ServerFault.TheVariants as servers
 use Rattle.sw_session.specs.declared.session.SessionFault.{SessionFault}
@@ -150,14 +150,6 @@ abbrev pub puts_for : List Request → ℕ → ℕ
 puts_for [] calls = calls
 puts_for (request ∷ requests) calls = puts_for requests (raised (puts_after request.fields calls))
 
--- this many first requests of the input were answered, and `ends` tells of the rest of the input and of the calls that there were by then
-pub record PutsBehind (input : Option (List ℕ)) (count calls : ℕ) (ends : Option (List ℕ) → ℕ → Type 0) : Type 0 where
-  pub requests : List Request
-  pub count_is : length requests ≡ count
-  pub rest : Option (List ℕ)
-  pub begins : BeginsWith input requests rest
-  pub end : ends rest (puts_for requests calls)
-
 -- The first requests of the input were answered, as the session tells of them, and `ends` tells of the rest of the input, of what was written by
 -- then, and of the calls that there were: those for these very requests.
 pub record OwnPutsBehind {S : Type 0} (last : Request → Bool) (may : Serves S) (start after : S) (input taken : Option (List ℕ)) (moments : List ℕ)
@@ -196,22 +188,6 @@ pub record IsBetween {S : Type 0} (last : Request → Bool) (may : Serves S) (st
   pub then : S
   pub replied : Replies may start (map request_of parts) earlier text then
   pub needs : NeedsMore rest
-
--- How many calls of the sink a session made, by what its loop answered: those for the requests that were answered, each at a moment of its own,
--- and those of what ended it. Where that is one request more, the last moment is that one's.
-abbrev pub PutsForSession : Option (List ℕ) → List ℕ → ℕ → ℕ → Result ⊤ SessionFault → Type 0
-PutsForSession input moments calls calls_now (Ok _) = PutsBehind input (length moments) calls (λ rest mid. calls_now ≡ mid)
-PutsForSession input moments calls calls_now (Err faults.ReadFault) = PutsBehind input (length moments) calls (λ rest mid. MayTell rest mid calls_now)
-PutsForSession input moments calls calls_now (Err faults.WriteFault) =
-    PutsBehind input (length moments) calls (λ rest mid. MayTellAndPuts rest mid calls_now)
-    ⊎ PutsBehind input (length moments - 1) calls (λ rest mid. MayTellAndPuts rest mid calls_now)
-PutsForSession input moments calls calls_now (Err faults.TooLong) = PutsBehind input (length moments) calls (λ rest mid. calls_now ≡ mid)
-PutsForSession input moments calls calls_now (Err faults.BadInput) = PutsBehind input (length moments) calls (λ rest mid. MayTellAndPuts rest mid calls_now)
-PutsForSession input moments calls calls_now (Err faults.ServerFault) =
-    PutsBehind input (length moments - 1) calls (λ rest mid. (behind : Option (List ℕ)) × TakesAndTells rest behind mid calls_now)
-PutsForSession input moments calls calls_now (Err faults.NoMemory) =
-    PutsBehind input (length moments) calls (λ rest mid. MayTell rest mid calls_now)
-    ⊎ PutsBehind input (length moments - 1) calls (λ rest mid. MayTell rest mid calls_now)
 
 -- How many calls of the sink a session made for its own requests, by what its loop answered: for those that were answered, each at its moment, and
 -- for what ended it.

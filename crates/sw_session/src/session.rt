@@ -5,7 +5,7 @@ ghost use Rattle.sw_session.specs.Passages.{passage};
 ghost use Rattle.sw_http.specs.Continue.{IsCutShort, NeedsMore};
 ghost use Rattle.sw_http.specs.Input.{IfSeen};
 ghost use Rattle.sw_http.specs.Reads.{ReadsWhile};
-ghost use Rattle.sw_session.specs.Session.{IsBetween, IsSession, OwnPuts, PutsForSession, WaitsForMore};
+ghost use Rattle.sw_session.specs.Session.{IsBetween, IsSession, OwnPuts, WaitsForMore};
 ghost use Rattle.sw_session.specs.declared.session.Turned.TheVariants as turns;
 ghost use Rattle.sw_session.specs.Turn.{IsCounted, IsReceived, IsRefusal, IsTurn, PutsForReading, PutsForRefusal, PutsForTurn};
 
@@ -189,9 +189,6 @@ pub fn serve<V: Server, R: Source, W: Sink, C: Clock>(
     // Each reply is one call of the sink, and so is what tells a client to go on, and a refusal. No other call is made.
     ensures own_puts { OwnPuts V.last V.serves V.halts server.old server.new (R.left source.old) (W.taken out.old) (W.taken out.new) moments.new.items
         (W.calls out.old) (W.calls out.new) result }
-
-    // The same, told by how many requests were answered.
-    ensures puts { PutsForSession (R.left source.old) moments.new.items (W.calls out.old) (W.calls out.new) result }
     ensures source_number { R.number source.new ≡ R.number source.old }
     ensures sink_number { W.number out.new ≡ W.number out.old }
 {

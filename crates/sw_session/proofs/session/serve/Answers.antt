@@ -3,8 +3,8 @@ use Rattle.std.specs.Io.KnownBytes.{prepend_known}
 use Rattle.std.proofs.lemmas.Result.{err_from_is_err_and}
 use Rattle.sw_session.specs.Passages.{Passage, passage}
 use Rattle.sw_http.proofs.ReadsLemmas.{reads_none}
-use Rattle.sw_session.proofs.Ends.{begun_with, ended_by, ended_well, fault_counted, fault_put, filled, full_counted, full_put, none_put}
-use Rattle.sw_session.proofs.Ends.{turn_made, turn_put, turn_reads, waits_behind, well_counted, well_put}
+use Rattle.sw_session.proofs.Ends.{begun_with, ended_by, ended_well, fault_put, filled, full_put, none_put}
+use Rattle.sw_session.proofs.Ends.{turn_made, turn_put, turn_reads, waits_behind, well_put}
 use Rattle.sw_session.specs.declared.session.SessionFault.TheVariants as faults
 use Rattle.sw_session.specs.declared.session.Turned.TheVariants as turns
 use Rattle.sw_session.proofs.session.serve.Goals as goal
@@ -45,14 +45,6 @@ returns-in_err-turn-clause-own_puts g c =
     c.in_err-turn.ensures.turn c.in_err-turn.ensures.puts
     )
 
-pub returns-in_err-turn-clause-puts : goal.returns-in_err-turn-clause-puts
-returns-in_err-turn-clause-puts g c =
-    let exit = err_from_is_err_and c.from_residual.result c.from_residual.ensures.1 in
-    rw (exit.1, exit.2) (
-    fault_counted g.V.Server.last g.V.Server.serves g.V.Server.halts _ _ _ _ _ _ _ _ _ _ _ _ _ _ c.loop.invariant.puts _
-    c.in_err-turn.ensures.turn c.in_err-turn.ensures.puts
-    )
-
 pub returns-in_err-turn-clause-waits : goal.returns-in_err-turn-clause-waits
 returns-in_err-turn-clause-waits g c e =
     let exit = err_from_is_err_and c.from_residual.result c.from_residual.ensures.1 in
@@ -72,11 +64,6 @@ returns-in-Closed-clause-session g c =
 pub returns-in-Closed-clause-own_puts : goal.returns-in-Closed-clause-own_puts
 returns-in-Closed-clause-own_puts g c =
     well_put g.V.Server.last g.V.Server.serves g.V.Server.halts _ _ _ _ _ _ _ _ _ _ _ _ _ _ c.in_ok-turn.field-0 c.in-Closed.is c.loop.invariant.puts
-    c.in_ok-turn.ensures.turn c.in_ok-turn.ensures.puts
-
-pub returns-in-Closed-clause-puts : goal.returns-in-Closed-clause-puts
-returns-in-Closed-clause-puts g c =
-    well_counted g.V.Server.last g.V.Server.serves g.V.Server.halts _ _ _ _ _ _ _ _ _ _ _ _ _ _ c.in_ok-turn.field-0 c.in-Closed.is c.loop.invariant.puts
     c.in_ok-turn.ensures.turn c.in_ok-turn.ensures.puts
 
 -- one request more
@@ -117,6 +104,3 @@ returns-in-Closed-clause-reads g c =
 
 pub returns-clause-own_puts : goal.returns-clause-own_puts
 returns-clause-own_puts g c = full_put g.V.Server.last g.V.Server.serves g.V.Server.halts _ _ _ _ _ _ _ _ _ c.loop.invariant.puts
-
-pub returns-clause-puts : goal.returns-clause-puts
-returns-clause-puts g c = full_counted g.V.Server.last g.V.Server.serves g.V.Server.halts _ _ _ _ _ _ _ _ _ c.loop.invariant.puts
