@@ -1,7 +1,8 @@
 ghost use Rattle.std.specs.Prelude.{◌≡◌, ◌≤◌, true, length, IfOk, OnErr};
 ghost use Rattle.sw_hashpath.specs.declared.place.Place.{Place as PlaceValue};
+ghost use Rattle.sw_container_server.specs.Asking.{IsPlaced};
 ghost use Rattle.sw_container_server.specs.Places.{IsHashed};
-ghost use Rattle.sw_container_server.specs.Serving.{IsAnswered, IsGivenUp};
+ghost use Rattle.sw_container_server.specs.Serving.{IsAnswered, IsGivenUp, IsLeft, IsServed};
 ghost use Rattle.sw_container_server.specs.Targets.{is_for_containers as is_for_containers_of};
 
 use crate::asked::ContAsked;
@@ -33,7 +34,24 @@ pub fn answer<D: ContainerDoor>(
     ensures ok { IfOk result (IsAnswered D.sight door.old door.new ring.now request.now) }
     ensures err { OnErr result (IsGivenUp D.sight door.old door.new ring.now request.now) }
 {
-    match read_container_request(alloc, ring, request)? {
+    let asked = read_container_request(alloc, ring, request)?;
+    serve(alloc, door, ring, asked)
+}
+
+/// Does what is asked for, and replies. A refusal takes no memory, and neither does the reply to a step that was made.
+fn serve<D: ContainerDoor>(
+    alloc: Global,
+    door: &mut D,
+    ring: &Ring,
+    asked: ContAsked,
+) -> Result<Response, NoMemory>
+    requires devices { length ring.now.devices ≤ (D.sight door.old).nodes.devices }
+    requires fits { (place : PlaceValue) → IsHashed ring.now place → (D.sight door.old).nodes.fits_place place ≡ true }
+    requires placed { IsPlaced ring.now asked }
+    ensures ok { IfOk result (IsServed D.sight ring.now door.old door.new asked) }
+    ensures err { OnErr result (IsLeft ring.now (D.sight door.old) (D.sight door.new) asked) }
+{
+    match asked {
         ContAsked::Refused(status) => Ok(bare(alloc, status)),
         ContAsked::Change {
             device,
